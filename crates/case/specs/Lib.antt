@@ -1,0 +1,5 @@
+-- The definitions of `case`.
+pub mod Fits
+pub mod Builder
+pub mod Answer
+pub mod Run

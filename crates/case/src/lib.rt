@@ -1,0 +1,1 @@
+// Evaluation of a rule over a table.

@@ -1,0 +1,4 @@
+-- The definitions of `layout`.
+pub mod Result
+pub mod Bytes
+pub mod Field

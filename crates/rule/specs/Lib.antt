@@ -1,0 +1,11 @@
+-- The definitions of `rule`.
+pub mod Tree
+pub mod TreeBytes
+pub mod Row
+pub mod Path
+pub mod Constant
+pub mod Typing
+pub mod Reading
+pub mod Strategy
+pub mod Projection
+pub mod Nullable

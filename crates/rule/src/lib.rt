@@ -1,0 +1,2 @@
+// Reading a rule, and its public answers: strategy, projection, nullability.
+pub mod strategy;

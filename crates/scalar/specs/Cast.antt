@@ -1,0 +1,85 @@
+-- Cast: a value that doesn't fit fails (01, Modules: cast.rs).
+use mathlib.Core.Bool.{Bool, true, false, cond, not, _||_}
+use Prim.Native.Nat.{ℕ}
+use lib.Dec.{eqb}
+use Rattle.scalar.specs.declared.types.DataType.{DataType}
+use Rattle.scalar.specs.declared.types.DataType.the-variants.{Boolean, Int32, Int64, Float64, Utf8}
+use Rattle.scalar.specs.Types.{sameType}
+use Rattle.scalar.specs.Integer.{signed, bitsOf, inRange}
+use Rattle.scalar.specs.Float.{floatBits}
+use Rattle.scalar.specs.Entry.{Entry, null, boolean, int32, int64, float64, utf8, Outcome, entry, unfit}
+
+-- one of the types 1, 2, 3
+abbrev pub whole : DataType → Bool
+whole Boolean = true
+whole Int32 = true
+whole Int64 = true
+whole Float64 = false
+whole Utf8 = false
+
+-- casts: each type to itself, any pair among 1, 2, 3, and 2 to 4 (01, Bytes of a rule: Types)
+abbrev pub listed : DataType → DataType → Bool
+listed Boolean to = whole to
+listed Int32 to = whole to || sameType to Float64
+listed Int64 to = whole to
+listed Float64 to = sameType to Float64
+listed Utf8 to = sameType to Utf8
+
+-- integer to Boolean is "not zero"
+abbrev pub toBoolean : Entry → Outcome
+toBoolean null = entry null
+toBoolean (boolean b) = entry (boolean b)
+toBoolean (int32 n) = entry (boolean (not (eqb n 0)))
+toBoolean (int64 n) = entry (boolean (not (eqb n 0)))
+toBoolean (float64 n) = unfit
+toBoolean (utf8 t) = unfit
+
+-- only Int64 to Int32 can fail to fit, at a value outside Int32's range (01, One row)
+abbrev pub narrowed : ℕ → Outcome
+narrowed n = cond (inRange 31 (signed 63 n)) (entry (int32 (bitsOf 31 (signed 63 n)))) unfit
+
+-- Boolean to integer is 1 or 0
+abbrev pub toInt32 : Entry → Outcome
+toInt32 null = entry null
+toInt32 (boolean b) = entry (int32 (cond b 1 0))
+toInt32 (int32 n) = entry (int32 n)
+toInt32 (int64 n) = narrowed n
+toInt32 (float64 n) = unfit
+toInt32 (utf8 t) = unfit
+
+abbrev pub toInt64 : Entry → Outcome
+toInt64 null = entry null
+toInt64 (boolean b) = entry (int64 (cond b 1 0))
+toInt64 (int32 n) = entry (int64 (bitsOf 63 (signed 31 n)))
+toInt64 (int64 n) = entry (int64 n)
+toInt64 (float64 n) = unfit
+toInt64 (utf8 t) = unfit
+
+abbrev pub toFloat64 : Entry → Outcome
+toFloat64 null = entry null
+toFloat64 (boolean b) = unfit
+toFloat64 (int32 n) = entry (float64 (floatBits (signed 31 n)))
+toFloat64 (int64 n) = unfit
+toFloat64 (float64 n) = entry (float64 n)
+toFloat64 (utf8 t) = unfit
+
+abbrev pub toUtf8 : Entry → Outcome
+toUtf8 null = entry null
+toUtf8 (boolean b) = unfit
+toUtf8 (int32 n) = unfit
+toUtf8 (int64 n) = unfit
+toUtf8 (float64 n) = unfit
+toUtf8 (utf8 t) = entry (utf8 t)
+
+-- a cast to a type; a pair that isn't listed never stands in an accepted rule, and fits no value
+unfoldable pub castEntry : DataType → Entry → Outcome
+castEntry Boolean e = toBoolean e
+castEntry Int32 e = toInt32 e
+castEntry Int64 e = toInt64 e
+castEntry Float64 e = toFloat64 e
+castEntry Utf8 e = toUtf8 e
+
+-- the value of the cast doesn't fit
+abbrev pub isUnfit : Outcome → Bool
+isUnfit (entry e) = false
+isUnfit unfit = true

@@ -1,0 +1,3 @@
+-- The definitions of `table`.
+pub mod Column
+pub mod Reading

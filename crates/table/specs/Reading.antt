@@ -1,0 +1,138 @@
+-- Reading a table. The order of the tests is document 01's order of numbers (01, Where a call stops: 9 to 12).
+use mathlib.Core.Bool.{Bool, true, false, cond, not, _&&_, _||_}
+use mathlib.Core.List.{List, [], _∷_}
+use Prim.Native.Nat.{ℕ, zero, suc, _+_, _*_}
+use lib.Dec.{eqb, leb, ltb}
+use lib.ListN.{length, drop}
+use Rattle.layout.specs.Result.{Result, refused, ok, _>>=_, require}
+use Rattle.layout.specs.Bytes.{byte, number, numberAt, bitmapLength}
+use Rattle.layout.specs.Field.{Field, header}
+use Rattle.scalar.specs.declared.types.DataType.{DataType}
+use Rattle.scalar.specs.declared.types.DataType.the-variants.{Boolean, Int32, Int64, Float64, Utf8}
+use Rattle.scalar.specs.Types.{typeNumbered, markNumbered}
+use Rattle.table.specs.Column.{TableColumn, validIn, offsetAt}
+
+-- a part of a column, and the bytes behind it
+pub record Part (A : Type 0) : Type 0 where
+  pub part : A
+  pub rest : List ℕ
+
+-- the field of a tag; cut, absent, or tag out of order: 9
+unfoldable pub tagged : ℕ → List ℕ → Result Field
+tagged tag bytes = do
+  f ← header 9 bytes
+  _ ← require (eqb (f .tag) tag) 9
+  ok f
+
+-- tag 1 or 2 of wrong length: 9; both take two bytes
+unfoldable pub taggedPair : ℕ → List ℕ → Result Field
+taggedPair tag bytes = do
+  f ← tagged tag bytes
+  _ ← require (eqb (length (f .content)) 2) 9
+  ok f
+
+-- tag 3: length 0 or rows / 8 rounded up, else 11
+unfoldable pub readValidity : ℕ → List ℕ → Result (Part (List ℕ))
+readValidity rows bytes = do
+  f ← tagged 3 bytes
+  _ ← require (eqb (length (f .content)) 0 || eqb (length (f .content)) (bitmapLength rows)) 11
+  ok (record { part = f .content; rest = f .rest })
+
+-- so many offsets never fall
+unfoldable pub neverFalls : ℕ → List ℕ → Bool
+neverFalls zero offsets = true
+neverFalls (suc n) offsets = leb (offsetAt offsets 0) (offsetAt offsets 1) && neverFalls n (drop 4 offsets)
+
+-- tag 5: rows + 1 offsets of four bytes, from 0, never falling, else 11
+unfoldable pub readTextOffsets : ℕ → List ℕ → Result (Part (List ℕ))
+readTextOffsets rows bytes = do
+  f ← tagged 5 bytes
+  _ ← require (eqb (length (f .content)) (4 * suc rows)) 11
+  _ ← require (eqb (offsetAt (f .content) 0) 0) 11
+  _ ← require (neverFalls rows (f .content)) 11
+  ok (record { part = f .content; rest = f .rest })
+
+-- tag 5 is for text only
+abbrev pub readOffsets : DataType → ℕ → List ℕ → Result (Part (List ℕ))
+readOffsets Boolean rows bytes = ok (record { part = []; rest = bytes })
+readOffsets Int32 rows bytes = ok (record { part = []; rest = bytes })
+readOffsets Int64 rows bytes = ok (record { part = []; rest = bytes })
+readOffsets Float64 rows bytes = ok (record { part = []; rest = bytes })
+readOffsets Utf8 rows bytes = readTextOffsets rows bytes
+
+-- how long tag 4 is; the last offset is the text's length
+abbrev pub valuesLength : DataType → ℕ → List ℕ → ℕ
+valuesLength Boolean rows offsets = bitmapLength rows
+valuesLength Int32 rows offsets = 4 * rows
+valuesLength Int64 rows offsets = 8 * rows
+valuesLength Float64 rows offsets = 8 * rows
+valuesLength Utf8 rows offsets = offsetAt offsets rows
+
+-- tag 4: of another length 11
+unfoldable pub readValues : DataType → ℕ → List ℕ → List ℕ → Result (Part (List ℕ))
+readValues type rows offsets bytes = do
+  f ← tagged 4 bytes
+  _ ← require (eqb (length (f .content)) (valuesLength type rows offsets)) 11
+  ok (record { part = f .content; rest = f .rest })
+
+-- the parts of a column behind its tag 2: type and nullable (11), tag 3, tag 5, tag 4
+unfoldable pub readBody : ℕ → Field → Result (Part TableColumn)
+readBody rows f = do
+  t ← typeNumbered 11 (byte (f .content) 0)
+  n ← markNumbered 11 (byte (f .content) 1)
+  validity ← readValidity rows (f .rest)
+  offsets ← readOffsets t rows (validity .rest)
+  values ← readValues t rows (offsets .part) (offsets .rest)
+  let c : TableColumn = record { type = t; nullable = n; validity = validity .part; offsets = offsets .part; values = values .part }
+  ok (record { part = c; rest = values .rest })
+
+-- a column, whatever its nulls
+unfoldable pub readParts : ℕ → List ℕ → Result (Part TableColumn)
+readParts rows bytes = do
+  f ← taggedPair 2 bytes
+  readBody rows f
+
+-- none of the first rows is null
+unfoldable pub noNull : List ℕ → ℕ → Bool
+noNull validity zero = true
+noNull validity (suc n) = validIn validity n && noNull validity n
+
+-- end of a column: null in a column that isn't nullable, 12
+unfoldable pub readColumn : ℕ → List ℕ → Result (Part TableColumn)
+readColumn rows bytes = do
+  c ← readParts rows bytes
+  _ ← require (c .part .nullable || noNull (c .part .validity) rows) 12
+  ok c
+
+-- columns to the end of the bytes, at most so many: at one more, 9 and then 10
+unfoldable pub readColumns : ℕ → ℕ → List ℕ → Result (List TableColumn)
+readColumns rows zero [] = ok []
+readColumns rows zero (b ∷ bytes) = taggedPair 2 (b ∷ bytes) >>= λ _. refused 10
+readColumns rows (suc left) [] = ok []
+readColumns rows (suc left) (b ∷ bytes) = do
+  c ← readColumn rows (b ∷ bytes)
+  cs ← readColumns rows left (c .rest)
+  ok (c .part ∷ cs)
+
+pub record Table : Type 0 where
+  pub rows : ℕ
+  pub columns : List TableColumn
+
+-- empty or above 65,536 bytes: 9; above 512 rows or 16 columns: 10
+abbrev pub bytesMost : ℕ
+bytesMost = 65536
+
+abbrev pub rowsMost : ℕ
+rowsMost = 512
+
+abbrev pub columnsMost : ℕ
+columnsMost = 16
+
+-- tag 1, the row count, then the columns
+unfoldable pub readTable : List ℕ → Result Table
+readTable bytes = do
+  _ ← require (ltb 0 (length bytes) && leb (length bytes) bytesMost) 9
+  f ← taggedPair 1 bytes
+  _ ← require (leb (number (f .content)) rowsMost) 10
+  cs ← readColumns (number (f .content)) columnsMost (f .rest)
+  ok (record { rows = number (f .content); columns = cs })

@@ -1,0 +1,1 @@
+// Reading a table: where each column's parts stand, and the entry of a column at a row.
