@@ -3,3 +3,5 @@ pub mod Fits
 pub mod Builder
 pub mod Answer
 pub mod Run
+pub mod Cases
+pub mod Demands

@@ -1,0 +1,28 @@
+-- P1 to P10 hold: each is computed from the definitions alone. Assumes nothing.
+use mathlib.Core.Path.{_≡_, refl}
+use mathlib.Core.List.{List, map}
+use Rattle.layout.specs.Bytes.{number, numberBytes, bitNumber}
+use Rattle.layout.specs.Field.{header, fieldBytes}
+use Rattle.scalar.specs.Cast.{castEntry}
+use Rattle.scalar.specs.Integer.{bitsOf}
+use Rattle.scalar.specs.Pair.{pairOf}
+use Rattle.scalar.specs.Text.{sameBytes}
+use Rattle.scalar.specs.Types.{typeNumbered, markNumbered}
+use Rattle.rule.specs.Tree.{branchCount}
+use Rattle.rule.specs.TreeBytes.{bytesOf}
+use Rattle.rule.specs.Typing.{typeOf, branchesTyped, nodeTyped}
+use Rattle.rule.specs.Row.{eval}
+use Rattle.rule.specs.Constant.{columnsOf, constantFails}
+use Rattle.rule.specs.Reading.{kindAmong, unlikeEarlier, readColumn, literalValue, markedValue, readLiteral, closeNode, readUnary, readCast, readBinary, readBranches, readOptional, readParts, readCase, readLimitedCase, readKind, readField, readRoot, readRule}
+use Rattle.rule.specs.Nullable.{stripped, replaced, reachable, nullable}
+use Rattle.table.specs.Column.{valueAt, entryAt}
+use Rattle.table.specs.Reading.{tagged, taggedPair, readValidity, readValues, readBody, readParts as readTableParts, noNull, readColumn as readTableColumn, readColumns, readTable}
+use Rattle.case.specs.Fits.{columnsFit}
+use Rattle.case.specs.Answer.{someNull, numbersOf, textsOf, columnBytes}
+use Rattle.case.specs.Run.{rowsFrom, entriesOf, written, runRead, run}
+use Rattle.case.specs.Cases.{Case, provedCases, given}
+
+-- every case gives what is expected
+pub cases-hold : map given provedCases ≡ map (λ c. c .expected) provedCases
+unfolding number numberBytes bitNumber header fieldBytes castEntry bitsOf pairOf sameBytes typeNumbered markNumbered branchCount bytesOf typeOf branchesTyped nodeTyped eval columnsOf constantFails kindAmong unlikeEarlier readColumn literalValue markedValue readLiteral closeNode readUnary readCast readBinary readBranches readOptional readParts readCase readLimitedCase readKind readField readRoot readRule stripped replaced reachable nullable valueAt entryAt tagged taggedPair readValidity readValues readBody readTableParts noNull readTableColumn readColumns readTable columnsFit someNull numbersOf textsOf columnBytes rowsFrom entriesOf written runRead run
+cases-hold = refl

@@ -1,0 +1,2 @@
+-- The theorems of `case`.
+pub mod CasesHold
