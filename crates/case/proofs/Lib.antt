@@ -1,2 +1,3 @@
 -- The theorems of `case`.
 pub mod CasesHold
+pub mod RunLaws
