@@ -3,5 +3,6 @@ pub mod Fits
 pub mod Builder
 pub mod Answer
 pub mod Run
+pub mod Promise
 pub mod Cases
 pub mod Demands

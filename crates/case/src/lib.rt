@@ -1,1 +1,2 @@
 // Evaluation of a rule over a table.
+pub mod answer;

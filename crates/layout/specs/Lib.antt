@@ -2,3 +2,4 @@
 pub mod Result
 pub mod Bytes
 pub mod Field
+pub mod Place

@@ -1,1 +1,2 @@
-// Definitions only, so far.
+// Byte layouts: tagged fields, little-endian numbers, bit positions.
+pub mod field;

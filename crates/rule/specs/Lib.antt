@@ -9,3 +9,4 @@ pub mod Reading
 pub mod Strategy
 pub mod Projection
 pub mod Nullable
+pub mod Answers

@@ -1,2 +1,3 @@
 // Reading a rule, and its public answers: strategy, projection, nullability.
+pub mod answer;
 pub mod strategy;

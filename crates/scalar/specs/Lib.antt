@@ -11,3 +11,4 @@ pub mod IsNotNull
 pub mod Cast
 pub mod TryCast
 pub mod Compare
+pub mod Value

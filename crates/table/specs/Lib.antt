@@ -1,3 +1,4 @@
 -- The definitions of `table`.
 pub mod Column
 pub mod Reading
+pub mod Answers

@@ -1,1 +1,2 @@
 // Reading a table: where each column's parts stand, and the entry of a column at a row.
+pub mod answer;

@@ -1,0 +1,24 @@
+-- What an evaluation promises, for every rule, table, work buffer and output (01, Where a call stops).
+use mathlib.Core.Path.{_≡_}
+use mathlib.Core.List.{List}
+use Prim.Native.Nat.{ℕ}
+use lib.ListN.{length}
+use Rattle.layout.specs.Result.{Result, refused, ok}
+use Rattle.case.specs.declared.answer.RunAnswer.{RunAnswer}
+use Rattle.case.specs.declared.answer.RunAnswer.the-variants.{Answered, Refused}
+use Rattle.case.specs.Run.{run, workAfter, outputAfter}
+
+-- the length of the answer, or the number
+abbrev pub runAnswer : Result (List ℕ) → RunAnswer
+runAnswer (refused n) = Refused n
+runAnswer (ok bytes) = Answered (length bytes)
+
+-- the run that a call is
+abbrev pub callRun : List ℕ → List ℕ → List ℕ → List ℕ → Result (List ℕ)
+callRun rule table work output = run rule table (length work) (length output)
+
+-- the answer and the final state of both buffers
+pub record Evaluated (rule table work output : List ℕ) (r : RunAnswer) (work′ output′ : List ℕ) : Type 0 where
+  pub says : r ≡ runAnswer (callRun rule table work output)
+  pub work-is : work′ ≡ workAfter (callRun rule table work output) work
+  pub output-is : output′ ≡ outputAfter (callRun rule table work output) output

@@ -1,0 +1,44 @@
+-- The public answers about a rule, from its reading: the refusal, or what was asked.
+use mathlib.Core.Bool.{Bool}
+use mathlib.Core.List.{List, [], _++_}
+use Prim.Native.Nat.{ℕ, _-_}
+use lib.ListN.{length, replicate}
+use Rattle.layout.specs.Result.{Result, refused, ok}
+use Rattle.scalar.specs.declared.types.DataType.{DataType}
+use Rattle.rule.specs.declared.strategy.Strategy.{Strategy}
+use Rattle.rule.specs.declared.answer.RuleAnswer.{RuleAnswer}
+use Rattle.rule.specs.declared.answer.StrategyAnswer.{StrategyAnswer}
+use Rattle.rule.specs.declared.answer.NullableAnswer.{NullableAnswer}
+use Rattle.rule.specs.declared.answer.ProjectionAnswer.{ProjectionAnswer}
+use Rattle.rule.specs.declared.answer.RuleAnswer.the-variants as OfRule
+use Rattle.rule.specs.declared.answer.StrategyAnswer.the-variants as OfStrategy
+use Rattle.rule.specs.declared.answer.NullableAnswer.the-variants as OfNullable
+use Rattle.rule.specs.Tree.{Expr}
+use Rattle.rule.specs.Typing.{typeOf}
+use Rattle.rule.specs.Reading.{readRule}
+use Rattle.rule.specs.Strategy.{strategy}
+use Rattle.rule.specs.Projection.{projection}
+use Rattle.rule.specs.Nullable.{nullable}
+
+-- accepted, with the result's type
+abbrev pub ruleAnswer : Result Expr → RuleAnswer
+ruleAnswer (refused n) = OfRule.Refused n
+ruleAnswer (ok e) = OfRule.Accepted (typeOf e)
+
+-- the root CASE's strategy number is a public answer
+abbrev pub strategyAnswer : Result Expr → StrategyAnswer
+strategyAnswer (refused n) = OfStrategy.Refused n
+strategyAnswer (ok e) = OfStrategy.By (strategy e)
+
+abbrev pub nullableAnswer : Result Expr → NullableAnswer
+nullableAnswer (refused n) = OfNullable.Refused n
+nullableAnswer (ok e) = OfNullable.Nullable (nullable e)
+
+-- a list of columns in 256 bytes, those behind it zero
+abbrev pub columnsIn256 : List ℕ → List ℕ
+columnsIn256 l = l ++ replicate (256 - length l) 0
+
+-- the projection is a public answer
+abbrev pub projectionAnswer : Result Expr → ProjectionAnswer
+projectionAnswer (refused n) = record { refused = n; count = 0; columns = replicate 256 0 }
+projectionAnswer (ok e) = record { refused = 0; count = length (projection e); columns = columnsIn256 (projection e) }
