@@ -1,1 +1,3 @@
+-- The laws of `scalar`.
+pub mod TestLaws
 pub mod TypeLaws
