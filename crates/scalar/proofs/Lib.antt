@@ -1,2 +1,4 @@
 -- The laws of `scalar`.
 pub mod TypesLaws
+pub mod TestLaws
+pub mod TypeLaws

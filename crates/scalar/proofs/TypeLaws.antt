@@ -1,0 +1,172 @@
+-- Each operation keeps types: what it gives is null or a value of its type, within its bits. Assumes nothing.
+use mathlib.Core.Bool.{Bool, true, false, false≢true, cond}
+use mathlib.Core.Path.{_≡_, refl, ap}
+use Prim.Native.Nat.{ℕ, suc, _+_, _-_, _^_, _<_}
+use native.Mathlib.Nat.{mod-lt, pow-suc}
+use native.Mathlib.Omega.{arith}
+use lib.Dec.{ltb}
+use lib.Pow.{pow-pos}
+use lib.IntN.{ℤ, pos, negsuc}
+use lib.Ieee.{binary64, ofInt}
+use lib.Ieee.Fits.{ofInt-fits}
+use lib.Ieee.Bits.{toBits-lt}
+use borrow.Author.Tests.{ltb-true, eqb-true, lt-ltb}
+use Rattle.layout.specs.Result.{ok}
+use Rattle.scalar.specs.declared.types.DataType.{DataType}
+use Rattle.scalar.specs.declared.types.DataType.the-variants.{Boolean, Int32, Int64, Float64, Utf8}
+use Rattle.scalar.specs.Types.{typeNumber, sameType, typeNumbered}
+use Rattle.scalar.specs.Integer.{signed, bitsOf, inRange}
+use Rattle.scalar.specs.Float.{signTurned, floatBits}
+use Rattle.scalar.specs.Entry.{Entry, null, boolean, int32, int64, float64, utf8, Outcome, entry, unfit, ofType, outcomeOfType}
+use Rattle.scalar.specs.Pair.{Pair, bothNull, oneNull, unlike, booleans, int32s, int64s, float64s, texts, pairOf}
+use Rattle.scalar.specs.Not.{notEntry}
+use Rattle.scalar.specs.Negative.{negativeEntry}
+use Rattle.scalar.specs.IsNotNull.{isNotNullEntry}
+use Rattle.scalar.specs.Cast.{castEntry, narrowed}
+use Rattle.scalar.specs.TryCast.{orNull, tryCastEntry}
+use Rattle.scalar.specs.Compare.{equalPair, equalEntry, lessPair, lessEntry}
+
+-- a type is told by its number
+type-numbered : (a : DataType) → typeNumbered 0 (typeNumber a) ≡ ok a
+unfolding typeNumbered
+type-numbered Boolean = refl
+type-numbered Int32 = refl
+type-numbered Int64 = refl
+type-numbered Float64 = refl
+type-numbered Utf8 = refl
+
+-- two types that are the same are one
+pub sameType-eq : (a b : DataType) → sameType a b ≡ true → a ≡ b
+sameType-eq a b p =
+    let e : typeNumbered 0 (typeNumber a) ≡ typeNumbered 0 (typeNumber b) = ap (typeNumbered 0) (eqb-true _ _ p) in
+    cc (type-numbered a, type-numbered b)
+
+-- the bits of an integer are of their width
+pub bitsOf-below : (h : ℕ) (z : ℤ) → bitsOf h z < 2 ^ suc h
+unfolding bitsOf
+bitsOf-below h (pos n) = mod-lt n (pow-pos (suc h))
+bitsOf-below h (negsuc n) = omega (arith, pow-pos (suc h))
+
+-- the bits of an integer's float are 64
+floatBits-below : (z : ℤ) → floatBits z < 2 ^ 64
+floatBits-below z = toBits-lt binary64 (ofInt binary64 z) (ofInt-fits binary64 z)
+
+-- a pattern whose sign is turned is of its width
+signTurned-below : (h n : ℕ) → n < 2 ^ suc h → signTurned h n < 2 ^ suc h
+signTurned-below h n b = go (ltb n (2 ^ h)) refl
+  where
+    go : (t : Bool) → ltb n (2 ^ h) ≡ t → cond t (n + 2 ^ h) (n - 2 ^ h) < 2 ^ suc h
+    go true p = let l : n < 2 ^ h = ltb-true _ _ p in omega (arith, pow-suc 2 h)
+    go false p = omega arith
+
+never : {A : Type 0} → false ≡ true → A
+never p = absurd (false≢true p)
+
+-- a number is of one type alone
+int32-type : (t : DataType) (n : ℕ) → ofType t (int32 n) ≡ true → t ≡ Int32
+unfolding ofType
+int32-type t n = elim t [ Boolean ↦ never | Int32 ↦ λ p. refl | Int64 ↦ never | Float64 ↦ never | Utf8 ↦ never ]
+
+int64-type : (t : DataType) (n : ℕ) → ofType t (int64 n) ≡ true → t ≡ Int64
+unfolding ofType
+int64-type t n = elim t [ Boolean ↦ never | Int32 ↦ never | Int64 ↦ λ p. refl | Float64 ↦ never | Utf8 ↦ never ]
+
+float64-type : (t : DataType) (n : ℕ) → ofType t (float64 n) ≡ true → t ≡ Float64
+unfolding ofType
+float64-type t n = elim t [ Boolean ↦ never | Int32 ↦ never | Int64 ↦ never | Float64 ↦ λ p. refl | Utf8 ↦ never ]
+
+-- not gives a Boolean
+pub not-typed : (v : Entry) → ofType Boolean (notEntry v) ≡ true
+unfolding ofType
+not-typed null = refl
+not-typed (boolean b) = refl
+not-typed (int32 n) = refl
+not-typed (int64 n) = refl
+not-typed (float64 n) = refl
+not-typed (utf8 t) = refl
+
+-- is not null gives a Boolean
+pub isNotNull-typed : (v : Entry) → ofType Boolean (isNotNullEntry v) ≡ true
+unfolding ofType
+isNotNull-typed v = refl
+
+-- negative keeps the type
+pub negative-typed : (t : DataType) (v : Entry) → ofType t v ≡ true → ofType t (negativeEntry v) ≡ true
+unfolding ofType
+negative-typed t null p = refl
+negative-typed t (boolean b) p = refl
+negative-typed t (int32 n) p = rw (int32-type t n p) (lt-ltb _ _ (bitsOf-below 31 _))
+negative-typed t (int64 n) p = rw (int64-type t n p) (lt-ltb _ _ (bitsOf-below 63 _))
+negative-typed t (float64 n) p = rw (float64-type t n p) (lt-ltb _ _ (signTurned-below 63 n (ltb-true _ _ (rw (float64-type t n p) at p))))
+negative-typed t (utf8 s) p = refl
+
+-- a value that is outside the narrower range gives none
+narrowed-typed : (n : ℕ) → outcomeOfType Int32 (narrowed n) ≡ true
+unfolding ofType
+narrowed-typed n = go (inRange 31 (signed 63 n))
+  where
+    go : (t : Bool) → outcomeOfType Int32 (cond t (entry (int32 (bitsOf 31 (signed 63 n)))) unfit) ≡ true
+    go true = lt-ltb _ _ (bitsOf-below 31 _)
+    go false = refl
+
+-- a cast gives its target type
+pub cast-typed : (t : DataType) (v : Entry) (s : DataType) → ofType s v ≡ true → outcomeOfType t (castEntry t v) ≡ true
+unfolding ofType castEntry
+cast-typed Boolean null s p = refl
+cast-typed Boolean (boolean b) s p = refl
+cast-typed Boolean (int32 n) s p = refl
+cast-typed Boolean (int64 n) s p = refl
+cast-typed Boolean (float64 n) s p = refl
+cast-typed Boolean (utf8 x) s p = refl
+cast-typed Int32 null s p = refl
+cast-typed Int32 (boolean true) s p = refl
+cast-typed Int32 (boolean false) s p = refl
+cast-typed Int32 (int32 n) s p = rw (int32-type s n p) at p
+cast-typed Int32 (int64 n) s p = narrowed-typed n
+cast-typed Int32 (float64 n) s p = refl
+cast-typed Int32 (utf8 x) s p = refl
+cast-typed Int64 null s p = refl
+cast-typed Int64 (boolean true) s p = refl
+cast-typed Int64 (boolean false) s p = refl
+cast-typed Int64 (int32 n) s p = lt-ltb _ _ (bitsOf-below 63 _)
+cast-typed Int64 (int64 n) s p = rw (int64-type s n p) at p
+cast-typed Int64 (float64 n) s p = refl
+cast-typed Int64 (utf8 x) s p = refl
+cast-typed Float64 null s p = refl
+cast-typed Float64 (boolean b) s p = refl
+cast-typed Float64 (int32 n) s p = lt-ltb _ _ (floatBits-below _)
+cast-typed Float64 (int64 n) s p = refl
+cast-typed Float64 (float64 n) s p = rw (float64-type s n p) at p
+cast-typed Float64 (utf8 x) s p = refl
+cast-typed Utf8 null s p = refl
+cast-typed Utf8 (boolean b) s p = refl
+cast-typed Utf8 (int32 n) s p = refl
+cast-typed Utf8 (int64 n) s p = refl
+cast-typed Utf8 (float64 n) s p = refl
+cast-typed Utf8 (utf8 x) s p = refl
+
+-- an outcome's entry, or null, is of the outcome's type
+orNull-typed : (t : DataType) (o : Outcome) → outcomeOfType t o ≡ true → ofType t (orNull o) ≡ true
+unfolding ofType
+orNull-typed t (entry v) p = p
+orNull-typed t unfit p = refl
+
+-- a try-cast gives its target type
+pub tryCast-typed : (t : DataType) (v : Entry) (s : DataType) → ofType s v ≡ true → ofType t (tryCastEntry t v) ≡ true
+tryCast-typed t v s p = orNull-typed t (castEntry t v) (cast-typed t v s p)
+
+-- equal gives a Boolean
+pub equal-typed : (a b : Entry) → ofType Boolean (equalEntry a b) ≡ true
+unfolding ofType
+equal-typed a b = go (pairOf a b)
+  where
+    go : (p : Pair) → ofType Boolean (equalPair p) ≡ true
+    go p = elim p [ bothNull ↦ refl | oneNull ↦ refl | unlike ↦ refl | booleans x y ↦ refl | int32s x y ↦ refl | int64s x y ↦ refl | float64s x y ↦ refl | texts x y ↦ refl ]
+
+-- less gives a Boolean
+pub less-typed : (a b : Entry) → ofType Boolean (lessEntry a b) ≡ true
+unfolding ofType
+less-typed a b = go (pairOf a b)
+  where
+    go : (p : Pair) → ofType Boolean (lessPair p) ≡ true
+    go p = elim p [ bothNull ↦ refl | oneNull ↦ refl | unlike ↦ refl | booleans x y ↦ refl | int32s x y ↦ refl | int64s x y ↦ refl | float64s x y ↦ refl | texts x y ↦ refl ]
