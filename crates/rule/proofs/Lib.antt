@@ -1,0 +1,2 @@
+-- The laws of `rule`.
+pub mod PathLaws
