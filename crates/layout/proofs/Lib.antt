@@ -1,0 +1,4 @@
+-- The laws of `layout`.
+pub mod ResultLaws
+pub mod BytesLaws
+pub mod FieldLaws
