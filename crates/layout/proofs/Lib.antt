@@ -2,3 +2,4 @@
 pub mod ResultLaws
 pub mod BytesLaws
 pub mod FieldLaws
+pub mod BitLaws
