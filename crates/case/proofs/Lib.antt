@@ -1,3 +1,4 @@
 -- The theorems of `case`.
 pub mod CasesHold
 pub mod RunLaws
+pub mod DemandsHold
