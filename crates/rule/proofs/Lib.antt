@@ -2,3 +2,4 @@
 pub mod ReadInversions
 pub mod Sound
 pub mod PathLaws
+pub mod ReadBytes

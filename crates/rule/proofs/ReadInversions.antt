@@ -8,7 +8,7 @@ use lib.Dec.{eqb, leb, ltb}
 use lib.ListN.{length, drop}
 use borrow.Author.Tests.{eqb-true, leb-true, ltb-true, not-true}
 use Rattle.layout.specs.Result.{refused, ok, _>>=_}
-use Rattle.layout.specs.Bytes.{byte}
+use Rattle.layout.specs.Bytes.{byte, number}
 use Rattle.layout.specs.Field.{Field, header}
 use Rattle.layout.proofs.ResultLaws.{refused-not-ok, ok-injective, bind-ok, require-then}
 use Rattle.scalar.specs.declared.types.DataType.{DataType}
@@ -18,7 +18,7 @@ use Rattle.scalar.proofs.TypesLaws.{typeNumbered-ok, markNumbered-ok}
 use Rattle.rule.specs.Tree.{Column, Expr, column, literal, caseWhen, Branches, branch, Optional, present}
 use Rattle.rule.specs.Typing.{nodeTyped}
 use Rattle.rule.specs.Constant.{isEmpty, constantFails}
-use Rattle.rule.specs.Reading.{Read, Reader, Kind, aCase, tagOf, kinds, kindAmong, kindOf, firstByte, unlikeEarlier, readColumn, markedValue, readLiteral, closeNode, readUnary, readCast, readBinary, readBranches, readOptional, hasBase, hasElse, readParts, readCase, readLimitedCase, readKind, readField, depthMost, casesMost, readRoot, readRule}
+use Rattle.rule.specs.Reading.{Read, Reader, Kind, aCase, tagOf, kinds, kindAmong, kindOf, firstByte, unlikeEarlier, readColumn, numberOf, markedValue, readLiteral, closeNode, readUnary, readCast, readBinary, readBranches, readOptional, hasBase, hasElse, readParts, readCase, readLimitedCase, readKind, readField, depthMost, casesMost, readRoot, readRule}
 
 -- nothing is left over
 pub isEmpty-true : {A : Type 0} (l : List A) → isEmpty l ≡ true → l ≡ []
@@ -69,6 +69,13 @@ column-inv f seen r p =
     let u = require-then _ _ _ r (n .2) in
     let is = ap₂ (λ (x y : ℕ). byte (f .content) 0 ∷ x ∷ y ∷ []) (typeNumbered-ok 3 (byte (f .content) 1) (t .0) (t .1)) (markNumbered-ok 3 (byte (f .content) 2) (n .0) (n .1)) in
     (record { index = byte (f .content) 0; type = t .0; nullable = n .0 }, three-bytes (f .content) (eqb-true _ _ (i .0)) ∙ is, not-true _ (u .0), sym (ok-injective (u .1)))
+
+-- a number has its bytes and no more
+pub numberOf-inv : (make : ℕ → Entry) (k : ℕ) (value : List ℕ) (v : Entry) → numberOf make k value ≡ ok v
+    → (length value ≡ k) × (v ≡ make (number value))
+numberOf-inv make k value v p =
+    let i = require-then (eqb (length value) k) 3 (λ _. ok (make (number value))) v p in
+    (eqb-true _ _ (i .0), sym (ok-injective (i .1)))
 
 -- a literal field is type, null mark, value
 pub literal-inv : (f : Field) (seen : List Column) (r : Read Expr) → readLiteral f seen ≡ ok r
