@@ -1,2 +1,3 @@
 -- The laws of `rule`.
+pub mod ReadInversions
 pub mod Sound

@@ -1,3 +1,3 @@
 -- The laws of `scalar`.
-pub mod TestLaws
+pub mod TypesLaws
 pub mod TypeLaws

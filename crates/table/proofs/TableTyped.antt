@@ -6,13 +6,12 @@ use mathlib.Core.Option.{Option, some, none}
 use Prim.Native.Nat.{ℕ, zero, suc, _*_, _^_, _<_, _≤_}
 use native.Mathlib.Nat.{pow-le-pow-right}
 use native.Mathlib.Omega.{arith}
-use lib.Dec.{eqb}
 use lib.ListN.{length, take, drop, getElem?, length-take}
 use borrow.Author.Tests.{lt-ltb}
-use Rattle.layout.specs.Result.{Result, refused, ok, require}
+use Rattle.layout.specs.Result.{ok}
 use Rattle.layout.specs.Bytes.{Bytes, number, numberAt}
 use Rattle.layout.specs.Field.{Field, header}
-use Rattle.layout.proofs.ResultLaws.{refused-not-ok, ok-injective, bind-ok}
+use Rattle.layout.proofs.ResultLaws.{refused-not-ok, ok-injective, bind-ok, require-then}
 use Rattle.layout.proofs.BytesLaws.{number-below, bytes-take, bytes-drop}
 use Rattle.layout.proofs.FieldLaws.{header-bytes-parts}
 use Rattle.scalar.specs.declared.types.DataType.{DataType}
@@ -54,23 +53,23 @@ tagged-bytes : (tag : ℕ) (bytes : List ℕ) (f : Field) → Bytes bytes → ta
 unfolding tagged
 tagged-bytes tag bytes f h p =
     let a = bind-ok _ _ f p in
-    let b = bind-ok (require (eqb (a .0 .tag) tag) 9) _ f (a .2) in
-    subst FieldBytes (ok-injective (b .2)) (header-bytes-parts 9 bytes (a .0) h (a .1))
+    let b = require-then _ _ _ f (a .2) in
+    subst FieldBytes (ok-injective (b .1)) (header-bytes-parts 9 bytes (a .0) h (a .1))
 
 pair-bytes : (tag : ℕ) (bytes : List ℕ) (f : Field) → Bytes bytes → taggedPair tag bytes ≡ ok f → FieldBytes f
 unfolding taggedPair
 pair-bytes tag bytes f h p =
     let a = bind-ok _ _ f p in
-    let b = bind-ok (require (eqb (length (a .0 .content)) 2) 9) _ f (a .2) in
-    subst FieldBytes (ok-injective (b .2)) (tagged-bytes tag bytes (a .0) h (a .1))
+    let b = require-then _ _ _ f (a .2) in
+    subst FieldBytes (ok-injective (b .1)) (tagged-bytes tag bytes (a .0) h (a .1))
 
 -- the bytes behind validity bits and offsets
 validity-rest : (rows : ℕ) (bytes : List ℕ) (r : Part (List ℕ)) → Bytes bytes → readValidity rows bytes ≡ ok r → Bytes (r .rest)
 unfolding readValidity
 validity-rest rows bytes r h p =
     let f = bind-ok _ _ r p in
-    let a = bind-ok _ _ r (f .2) in
-    subst (λ (x : Part (List ℕ)). Bytes (x .rest)) (ok-injective (a .2)) (tagged-bytes 3 bytes (f .0) h (f .1) .1)
+    let a = require-then _ _ _ r (f .2) in
+    subst (λ (x : Part (List ℕ)). Bytes (x .rest)) (ok-injective (a .1)) (tagged-bytes 3 bytes (f .0) h (f .1) .1)
 
 offsets-rest : (t : DataType) (rows : ℕ) (bytes : List ℕ) (r : Part (List ℕ)) → Bytes bytes → readOffsets t rows bytes ≡ ok r → Bytes (r .rest)
 unfolding readTextOffsets
@@ -80,18 +79,18 @@ offsets-rest Int64 rows bytes r h p = subst (λ (x : Part (List ℕ)). Bytes (x 
 offsets-rest Float64 rows bytes r h p = subst (λ (x : Part (List ℕ)). Bytes (x .rest)) (ok-injective p) h
 offsets-rest Utf8 rows bytes r h p =
     let f = bind-ok _ _ r p in
-    let a = bind-ok _ _ r (f .2) in
-    let b = bind-ok _ _ r (a .2) in
-    let c = bind-ok _ _ r (b .2) in
-    subst (λ (x : Part (List ℕ)). Bytes (x .rest)) (ok-injective (c .2)) (tagged-bytes 5 bytes (f .0) h (f .1) .1)
+    let a = require-then _ _ _ r (f .2) in
+    let b = require-then _ _ _ r (a .1) in
+    let c = require-then _ _ _ r (b .1) in
+    subst (λ (x : Part (List ℕ)). Bytes (x .rest)) (ok-injective (c .1)) (tagged-bytes 5 bytes (f .0) h (f .1) .1)
 
 values-bytes : (t : DataType) (rows : ℕ) (offsets bytes : List ℕ) (r : Part (List ℕ)) → Bytes bytes → readValues t rows offsets bytes ≡ ok r
     → Bytes (r .part) × Bytes (r .rest)
 unfolding readValues
 values-bytes t rows offsets bytes r h p =
     let f = bind-ok _ _ r p in
-    let a = bind-ok _ _ r (f .2) in
-    subst (λ (x : Part (List ℕ)). Bytes (x .part) × Bytes (x .rest)) (ok-injective (a .2)) (tagged-bytes 4 bytes (f .0) h (f .1))
+    let a = require-then _ _ _ r (f .2) in
+    subst (λ (x : Part (List ℕ)). Bytes (x .part) × Bytes (x .rest)) (ok-injective (a .1)) (tagged-bytes 4 bytes (f .0) h (f .1))
 
 -- a column's values are bytes, and so is what is behind it
 abbrev ColumnBytes : Part TableColumn → Type 0
@@ -112,9 +111,9 @@ column-bytes : (rows : ℕ) (bytes : List ℕ) (c : Part TableColumn) → Bytes 
 unfolding readColumn readParts
 column-bytes rows bytes c h p =
     let a = bind-ok _ _ c p in
-    let b = bind-ok _ _ c (a .2) in
+    let b = require-then _ _ _ c (a .2) in
     let f = bind-ok _ _ (a .0) (a .1) in
-    subst ColumnBytes (ok-injective (b .2)) (body-bytes rows (f .0) (a .0) (pair-bytes 2 bytes (f .0) h (f .1) .1) (f .2))
+    subst ColumnBytes (ok-injective (b .1)) (body-bytes rows (f .0) (a .0) (pair-bytes 2 bytes (f .0) h (f .1) .1) (f .2))
 
 -- the values of a column among those read are bytes
 columns-bytes : (rows left : ℕ) (bytes : List ℕ) (cs : List TableColumn) → Bytes bytes → readColumns rows left bytes ≡ ok cs
