@@ -2,3 +2,5 @@
 pub mod CasesHold
 pub mod RunLaws
 pub mod DemandsHold
+-- The laws of `case`.
+pub mod AnswerLaws

@@ -1,0 +1,301 @@
+-- The answer's column has the entries that it was made of, and its bytes are read as that column. Assumes nothing.
+use mathlib.Core.Path.{_≡_, refl, ap, ap₂, sym, subst, _∙_}
+use mathlib.Core.Bool.{Bool, true, false, cond, not, _||_, or-true, false≢true}
+use mathlib.Core.List.{List, [], _∷_, _++_, map, append-nil, append-assoc}
+use Prim.Native.Nat.{ℕ, zero, suc, _+_, _-_, _*_, _^_, _<_, _≤_}
+use native.Mathlib.Nat.{mul-zero, one-le-pow}
+use native.Mathlib.Omega.{arith}
+use borrow.Author.Tests.{ltb-true, le-leb, eq-eqb}
+use lib.Dec.{eqb}
+use lib.ListN.{length, getD, take, drop, length-append, length-map, List·getD-map}
+use lib.Seq.{take-length, take-at, drop-at, drop-drop, drop-append-add}
+use Rattle.layout.specs.Result.{ok}
+use Rattle.layout.specs.Bytes.{numberAt, numberBytes, bitAt, bitmapLength, bitmap}
+use Rattle.layout.specs.Field.{fieldBytes}
+use Rattle.layout.proofs.BytesLaws.{length-numberBytes, number-numberBytes}
+use Rattle.layout.proofs.BitLaws.{bit-of-bitmap, length-bitmap}
+use Rattle.layout.proofs.FieldLaws.{header-field}
+use Rattle.scalar.specs.declared.types.DataType.{DataType}
+use Rattle.scalar.specs.declared.types.DataType.the-variants.{Boolean, Int32, Int64, Float64, Utf8}
+use Rattle.scalar.specs.Types.{typeNumber, typeNumbered, markNumber, markNumbered}
+use Rattle.scalar.specs.Entry.{Entry, null, boolean, int32, int64, float64, utf8, isNull, isTrue, ofType}
+use Rattle.table.specs.Column.{TableColumn, validIn, offsetAt, textBetween, valueAt, entryAt}
+use Rattle.table.specs.Reading.{tagged, taggedPair, readValidity, neverFalls, readTextOffsets, readOffsets, valuesLength, readValues, readBody, readParts}
+use Rattle.case.specs.Answer.{someNull, validityOf, numberIn, textIn, numbersOf, textsOf, offsetsFrom, offsetsOf, valuesOf, columnOf, offsetsField, columnBytes, textLength}
+
+-- numbers of k bytes, one behind the other
+abbrev packed : ℕ → List ℕ → List ℕ
+packed k [] = []
+packed k (n ∷ ns) = numberBytes k n ++ packed k ns
+
+-- one number takes k bytes
+packed-drop : (k n : ℕ) (ns : List ℕ) → drop k (packed k (n ∷ ns)) ≡ packed k ns
+packed-drop k n ns = drop-at (numberBytes k n) (packed k ns) k (length-numberBytes k n)
+
+length-packed : (k : ℕ) (ns : List ℕ) → length (packed k ns) ≡ k * length ns
+length-packed k [] = sym (mul-zero k)
+length-packed k (n ∷ ns) = simp (length-append, length-numberBytes, length-packed k ns) (omega arith)
+
+-- the k bytes at k * i are the number i
+packed-at : (k : ℕ) (ns : List ℕ) (i : ℕ) → i < length ns → getD ns i 0 < 256 ^ k → numberAt k (packed k ns) (k * i) ≡ getD ns i 0
+packed-at k [] i h b = absurd (omega arith)
+packed-at k (n ∷ ns) zero h b = rw (mul-zero k, take-at (numberBytes k n) (packed k ns) k (length-numberBytes k n)) (number-numberBytes k n b)
+packed-at k (n ∷ ns) (suc i) h b =
+    let e : k * suc i ≡ k + k * i = omega arith in
+    rw (e, ← drop-drop (k * i) k (packed k (n ∷ ns)), packed-drop k n ns) (packed-at k ns i (omega arith) b)
+
+numbers-packed : (k : ℕ) (es : List Entry) → numbersOf k es ≡ packed k (map numberIn es)
+unfolding numbersOf
+numbers-packed k [] = refl
+numbers-packed k (e ∷ es) = ap (λ l. numberBytes k (numberIn e) ++ l) (numbers-packed k es)
+
+-- where each text begins, and where the last ends
+abbrev ends : ℕ → List Entry → List ℕ
+ends from [] = from ∷ []
+ends from (e ∷ es) = from ∷ ends (from + length (textIn e)) es
+
+offsets-packed : (from : ℕ) (es : List Entry) → offsetsFrom from es ≡ packed 4 (ends from es)
+unfolding offsetsFrom
+offsets-packed from [] = sym (append-nil (numberBytes 4 from))
+offsets-packed from (e ∷ es) = ap (λ l. numberBytes 4 from ++ l) (offsets-packed (from + length (textIn e)) es)
+
+length-ends : (from : ℕ) (es : List Entry) → length (ends from es) ≡ suc (length es)
+length-ends from [] = refl
+length-ends from (e ∷ es) = ap suc (length-ends (from + length (textIn e)) es)
+
+-- the length of the first texts
+abbrev before : List Entry → ℕ → ℕ
+before es i = length (textsOf (take i es))
+
+before-suc : (e : Entry) (es : List Entry) (i : ℕ) → before (e ∷ es) (suc i) ≡ length (textIn e) + before es i
+unfolding textsOf
+before-suc e es i = length-append (textIn e) (textsOf (take i es))
+
+before-le : (es : List Entry) (i : ℕ) → before es i ≤ textLength es
+unfolding textsOf
+before-le es zero = omega arith
+before-le [] (suc i) = omega arith
+before-le (e ∷ es) (suc i) = let h = before-le es i in simp length-append (omega arith)
+
+end-at : (from : ℕ) (es : List Entry) (i : ℕ) → i ≤ length es → getD (ends from es) i 0 ≡ from + before es i
+unfolding textsOf
+end-at from [] zero h = omega arith
+end-at from [] (suc i) h = absurd (omega arith)
+end-at from (e ∷ es) zero h = omega arith
+end-at from (e ∷ es) (suc i) h = let k = end-at (from + length (textIn e)) es i (omega arith) in let s = before-suc e es i in omega arith
+
+offset-at : (from : ℕ) (es : List Entry) (i : ℕ) → from + textLength es < 2 ^ 32 → i ≤ length es → offsetAt (offsetsFrom from es) i ≡ from + before es i
+offset-at from es i b h =
+    let l = length-ends from es in let e = end-at from es i h in let k = before-le es i in
+    rw (offsets-packed from es) (packed-at 4 (ends from es) i (omega arith) (omega arith) ∙ e)
+
+offset-from-start : (es : List Entry) (i : ℕ) → textLength es < 2 ^ 32 → i ≤ length es → offsetAt (offsetsFrom 0 es) i ≡ before es i
+offset-from-start es i b h = let e = offset-at 0 es i (omega arith) h in omega arith
+
+-- the text between two offsets is the entry's
+text-at : (es : List Entry) (i : ℕ) → i < length es → textBetween (before es i) (before es (suc i)) (textsOf es) ≡ textIn (getD es i null)
+unfolding textsOf
+text-at [] i h = absurd (omega arith)
+text-at (e ∷ es) zero h = let k : length (textIn e) ≡ length (textIn e ++ []) - 0 = simp append-nil (omega arith) in take-at (textIn e) (textsOf es) _ k
+text-at (e ∷ es) (suc i) h =
+    let k : length (textIn e) + before es (suc i) - (length (textIn e) + before es i) ≡ before es (suc i) - before es i = omega arith in
+    rw (before-suc e es i, before-suc e es (suc i), k, drop-append-add (textIn e) (textsOf es) (before es i)) (text-at es i (omega arith))
+
+-- validity bits say which entries are null
+valid-bits : (l : List ℕ) (i : ℕ) → 0 < length l → validIn l i ≡ bitAt l i
+valid-bits [] i h = absurd (omega arith)
+valid-bits (b ∷ l) i h = refl
+
+or-false-inv : (a b : Bool) → (a || b) ≡ false → (a ≡ false) × (b ≡ false)
+or-false-inv true b h = absurd (false≢true (sym h))
+or-false-inv false b h = (refl, h)
+
+none-null : (es : List Entry) (i : ℕ) → someNull es ≡ false → i < length es → isNull (getD es i null) ≡ false
+unfolding someNull
+none-null [] i h k = absurd (omega arith)
+none-null (e ∷ es) zero h k = or-false-inv (isNull e) (someNull es) h .0
+none-null (e ∷ es) (suc i) h k = none-null es i (or-false-inv (isNull e) (someNull es) h .1) (omega arith)
+
+valid-at : (es : List Entry) (i : ℕ) → i < length es → validIn (validityOf es) i ≡ not (isNull (getD es i null))
+valid-at es i h = go (someNull es) refl
+  where
+    bits : List Bool
+    bits = map (λ e. not (isNull e)) es
+
+    go : (b : Bool) → someNull es ≡ b → validIn (cond b (bitmap bits) []) i ≡ not (isNull (getD es i null))
+    go false e = rw (none-null es i e h)
+    go true e =
+        let l = length-map es (λ e. not (isNull e)) in
+        let k : 0 < length (bitmap bits) = rw (length-bitmap bits, l) (omega arith) in
+        valid-bits (bitmap bits) i k ∙ bit-of-bitmap bits i (rw l h) ∙ List·getD-map (λ e. not (isNull e)) es i null
+
+-- what a column of a type keeps of an entry
+abbrev kept : DataType → Entry → Entry
+kept Boolean e = boolean (isTrue e)
+kept Int32 e = int32 (numberIn e)
+kept Int64 e = int64 (numberIn e)
+kept Float64 e = float64 (numberIn e)
+kept Utf8 e = utf8 (textIn e)
+
+-- bytes of a number of a type
+abbrev width : DataType → ℕ
+width Boolean = 0
+width Int32 = 4
+width Int64 = 8
+width Float64 = 8
+width Utf8 = 0
+
+-- that is all of it
+kept-whole : (t : DataType) (e : Entry) → ofType t e ≡ true → (cond (not (isNull e)) (kept t e) null ≡ e) × (numberIn e < 256 ^ width t)
+unfolding ofType
+kept-whole t null h = (refl, one-le-pow (width t) 256 (omega arith))
+kept-whole Boolean (boolean b) h = (refl, omega arith)
+kept-whole Int32 (boolean b) h = absurd (false≢true h)
+kept-whole Int64 (boolean b) h = absurd (false≢true h)
+kept-whole Float64 (boolean b) h = absurd (false≢true h)
+kept-whole Utf8 (boolean b) h = absurd (false≢true h)
+kept-whole Boolean (int32 n) h = absurd (false≢true h)
+kept-whole Int32 (int32 n) h = (refl, ltb-true n (2 ^ 32) h)
+kept-whole Int64 (int32 n) h = absurd (false≢true h)
+kept-whole Float64 (int32 n) h = absurd (false≢true h)
+kept-whole Utf8 (int32 n) h = absurd (false≢true h)
+kept-whole Boolean (int64 n) h = absurd (false≢true h)
+kept-whole Int32 (int64 n) h = absurd (false≢true h)
+kept-whole Int64 (int64 n) h = (refl, ltb-true n (2 ^ 64) h)
+kept-whole Float64 (int64 n) h = absurd (false≢true h)
+kept-whole Utf8 (int64 n) h = absurd (false≢true h)
+kept-whole Boolean (float64 n) h = absurd (false≢true h)
+kept-whole Int32 (float64 n) h = absurd (false≢true h)
+kept-whole Int64 (float64 n) h = absurd (false≢true h)
+kept-whole Float64 (float64 n) h = (refl, ltb-true n (2 ^ 64) h)
+kept-whole Utf8 (float64 n) h = absurd (false≢true h)
+kept-whole Boolean (utf8 s) h = absurd (false≢true h)
+kept-whole Int32 (utf8 s) h = absurd (false≢true h)
+kept-whole Int64 (utf8 s) h = absurd (false≢true h)
+kept-whole Float64 (utf8 s) h = absurd (false≢true h)
+kept-whole Utf8 (utf8 s) h = (refl, omega arith)
+
+numbers-at : (k : ℕ) (es : List Entry) (i : ℕ) → i < length es → numberIn (getD es i null) < 256 ^ k → numberAt k (numbersOf k es) (k * i) ≡ numberIn (getD es i null)
+numbers-at k es i h b =
+    let e : getD (map numberIn es) i 0 ≡ numberIn (getD es i null) = List·getD-map numberIn es i null in
+    let l = length-map es numberIn in
+    rw (numbers-packed k es) (packed-at k (map numberIn es) i (omega arith) (omega arith) ∙ e)
+
+value-at : (t : DataType) (es : List Entry) (i : ℕ) → i < length es → textLength es < 2 ^ 32 → numberIn (getD es i null) < 256 ^ width t
+    → valueAt t (offsetsOf t es) (valuesOf t es) i ≡ kept t (getD es i null)
+unfolding valueAt
+value-at Boolean es i h k b = ap boolean (bit-of-bitmap (map isTrue es) i (rw (length-map es isTrue) h) ∙ List·getD-map isTrue es i null)
+value-at Int32 es i h k b = ap int32 (numbers-at 4 es i h b)
+value-at Int64 es i h k b = ap int64 (numbers-at 8 es i h b)
+value-at Float64 es i h k b = ap float64 (numbers-at 8 es i h b)
+value-at Utf8 es i h k b =
+    ap utf8 (rw (offset-from-start es i k (omega arith), offset-from-start es (suc i) k h) (text-at es i h))
+
+-- every entry is of the type
+abbrev pub AllOfType : DataType → List Entry → Type 0
+AllOfType t es = (i : ℕ) → ofType t (getD es i null) ≡ true
+
+-- a column has the entries that it was made of
+pub entry-back : (t : DataType) (n : Bool) (es : List Entry) → AllOfType t es → textLength es < 2 ^ 32 → (i : ℕ) → i < length es
+    → entryAt (columnOf t n es) i ≡ getD es i null
+unfolding entryAt
+entry-back t n es a k i h =
+    let w = kept-whole t (getD es i null) (a i) in
+    rw (valid-at es i h, value-at t es i h k (w .1)) (w .0)
+
+-- a field's bytes are read as that field
+tagged-back : (tag : ℕ) (content rest : List ℕ) → length content < 65536
+    → tagged tag (fieldBytes tag content ++ rest) ≡ ok (record { tag = tag; content = content; rest = rest })
+unfolding tagged
+tagged-back tag content rest h = rw (header-field 9 tag content rest h, eq-eqb tag tag refl)
+
+pair-back : (tag : ℕ) (content rest : List ℕ) → length content ≡ 2
+    → taggedPair tag (fieldBytes tag content ++ rest) ≡ ok (record { tag = tag; content = content; rest = rest })
+unfolding taggedPair
+pair-back tag content rest h = rw (tagged-back tag content rest (omega arith), h)
+
+validity-back : (es : List Entry) (rest : List ℕ) → length es ≤ 512
+    → readValidity (length es) (fieldBytes 3 (validityOf es) ++ rest) ≡ ok (record { part = validityOf es; rest = rest })
+unfolding readValidity
+validity-back es rest h = go (someNull es)
+  where
+    bits : List Bool
+    bits = map (λ e. not (isNull e)) es
+
+    go : (b : Bool) → readValidity (length es) (fieldBytes 3 (cond b (bitmap bits) []) ++ rest) ≡ ok (record { part = cond b (bitmap bits) []; rest = rest })
+    go false = rw (tagged-back 3 [] rest (omega arith))
+    go true =
+        let l : length (bitmap bits) ≡ bitmapLength (length es) = length-bitmap bits ∙ ap bitmapLength (length-map es (λ e. not (isNull e))) in
+        rw (tagged-back 3 (bitmap bits) rest (omega arith), eq-eqb _ _ l, or-true (eqb (length (bitmap bits)) 0))
+
+offsets-drop : (from : ℕ) (e : Entry) (es : List Entry) → drop 4 (offsetsFrom from (e ∷ es)) ≡ offsetsFrom (from + length (textIn e)) es
+unfolding offsetsFrom
+offsets-drop from e es = drop-at (numberBytes 4 from) (offsetsFrom (from + length (textIn e)) es) 4 (length-numberBytes 4 from)
+
+never-falls : (from : ℕ) (es : List Entry) → from + textLength es < 2 ^ 32 → neverFalls (length es) (offsetsFrom from es) ≡ true
+unfolding neverFalls textsOf
+never-falls from [] h = refl
+never-falls from (e ∷ es) h =
+    let l = length-append (textIn e) (textsOf es) in
+    let p = offset-at from (e ∷ es) 0 h (omega arith) in
+    let q = offset-at from (e ∷ es) 1 h (omega arith) in
+    rw (le-leb (offsetAt (offsetsFrom from (e ∷ es)) 0) (offsetAt (offsetsFrom from (e ∷ es)) 1) (omega arith), offsets-drop from e es) (never-falls (from + length (textIn e)) es (omega arith))
+
+length-offsets : (from : ℕ) (es : List Entry) → length (offsetsFrom from es) ≡ 4 * suc (length es)
+length-offsets from es = rw (offsets-packed from es, length-packed 4 (ends from es), length-ends from es)
+
+offsets-back : (t : DataType) (es : List Entry) (rest : List ℕ) → length es ≤ 512 → textLength es ≤ 65535
+    → readOffsets t (length es) (offsetsField t (offsetsOf t es) ++ rest) ≡ ok (record { part = offsetsOf t es; rest = rest })
+unfolding readTextOffsets textsOf
+offsets-back Boolean es rest h k = refl
+offsets-back Int32 es rest h k = refl
+offsets-back Int64 es rest h k = refl
+offsets-back Float64 es rest h k = refl
+offsets-back Utf8 es rest h k =
+    let l = length-offsets 0 es in
+    let z = offset-from-start es 0 (omega arith) (omega arith) in
+    rw (tagged-back 5 (offsetsFrom 0 es) rest (omega arith), eq-eqb _ _ l, eq-eqb (offsetAt (offsetsFrom 0 es) 0) 0 z, never-falls 0 es (omega arith))
+
+length-numbers : (k : ℕ) (es : List Entry) → length (numbersOf k es) ≡ k * length es
+length-numbers k es = rw (numbers-packed k es, length-packed k (map numberIn es), length-map es numberIn)
+
+length-values : (t : DataType) (es : List Entry) → textLength es ≤ 65535 → length (valuesOf t es) ≡ valuesLength t (length es) (offsetsOf t es)
+length-values Boolean es k = length-bitmap (map isTrue es) ∙ ap bitmapLength (length-map es isTrue)
+length-values Int32 es k = length-numbers 4 es
+length-values Int64 es k = length-numbers 8 es
+length-values Float64 es k = length-numbers 8 es
+length-values Utf8 es k = sym (offset-from-start es (length es) (omega arith) (omega arith) ∙ ap textLength (take-length es))
+
+values-short : (t : DataType) (es : List Entry) → length es ≤ 512 → textLength es ≤ 65535 → length (valuesOf t es) < 65536
+values-short Boolean es h k = let l = length-values Boolean es k in omega arith
+values-short Int32 es h k = let l = length-values Int32 es k in omega arith
+values-short Int64 es h k = let l = length-values Int64 es k in omega arith
+values-short Float64 es h k = let l = length-values Float64 es k in omega arith
+values-short Utf8 es h k = omega arith
+
+values-back : (t : DataType) (es : List Entry) (rest : List ℕ) → length es ≤ 512 → textLength es ≤ 65535
+    → readValues t (length es) (offsetsOf t es) (fieldBytes 4 (valuesOf t es) ++ rest) ≡ ok (record { part = valuesOf t es; rest = rest })
+unfolding readValues
+values-back t es rest h k = rw (tagged-back 4 (valuesOf t es) rest (values-short t es h k), eq-eqb _ _ (length-values t es k))
+
+type-back : (t : DataType) → typeNumbered 11 (typeNumber t) ≡ ok t
+unfolding typeNumbered
+type-back Boolean = refl
+type-back Int32 = refl
+type-back Int64 = refl
+type-back Float64 = refl
+type-back Utf8 = refl
+
+mark-back : (n : Bool) → markNumbered 11 (markNumber n) ≡ ok n
+unfolding markNumbered
+mark-back true = refl
+mark-back false = refl
+
+-- the answer's bytes are read as its column
+pub column-back : (t : DataType) (n : Bool) (es : List Entry) (rest : List ℕ) → length es ≤ 512 → textLength es ≤ 65535
+    → readParts (length es) (columnBytes (columnOf t n es) ++ rest) ≡ ok (record { part = columnOf t n es; rest = rest })
+unfolding readParts readBody columnBytes
+column-back t n es rest h k = simp append-assoc
+    (rw (pair-back 2 (typeNumber t ∷ markNumber n ∷ []) (fieldBytes 3 (validityOf es) ++ (offsetsField t (offsetsOf t es) ++ (fieldBytes 4 (valuesOf t es) ++ rest))) refl,
+      type-back t, mark-back n, validity-back es (offsetsField t (offsetsOf t es) ++ (fieldBytes 4 (valuesOf t es) ++ rest)) h, offsets-back t es (fieldBytes 4 (valuesOf t es) ++ rest) h k,
+      values-back t es rest h k))
