@@ -1,4 +1,3 @@
 -- The laws of `scalar`.
 pub mod TypesLaws
-pub mod TestLaws
 pub mod TypeLaws
