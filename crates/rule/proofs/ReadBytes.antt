@@ -32,6 +32,7 @@ Faithful child =
 abbrev Closed : ℕ → List ℕ → List ℕ → Read Expr → Type 0
 Closed tag content rest r = (fieldBytes tag content ≡ bytesOf (r .tree)) × (r .rest ≡ rest)
 
+-- a node that closed at its content
 closed : (tag : ℕ) (content rest : List ℕ) (seen : List Column) (e : Expr) (r : Read Expr) → fieldBytes tag content ≡ bytesOf e
     → r ≡ record { tree = e; seen = seen; rest = rest } → Closed tag content rest r
 closed tag content rest seen e r p q = (p ∙ ap (λ (x : Read Expr). bytesOf (x .tree)) (sym q), ap (λ (x : Read Expr). x .rest) q)
@@ -46,6 +47,7 @@ joined : (a b c rest : List ℕ) {bytes behindA behindB : List ℕ} → bytes �
 joined a b c rest p q r =
     p ∙ ap (λ (l : List ℕ). a ++ l) (q ∙ ap (λ (l : List ℕ). b ++ l) r ∙ sym (append-assoc b c rest)) ∙ sym (append-assoc a (b ++ c) rest)
 
+-- a column
 column-bytes : (f : Field) (seen : List Column) (r : Read Expr) → readColumn f seen ≡ ok r → Closed 16 (f .content) (f .rest) r
 unfolding bytesOf
 column-bytes f seen r p = let i = column-inv f seen r p in closed 16 (f .content) (f .rest) _ (column (i .0)) r (ap (fieldBytes 16) (i .1)) (i .3)
@@ -54,6 +56,7 @@ column-bytes f seen r p = let i = column-inv f seen r p in closed 16 (f .content
 abbrev IsValue : Bool → List ℕ → Entry → Type 0
 IsValue m value v = (m ≡ isNull v) × (value ≡ valueBytes v)
 
+-- a number
 number-bytes : (make : ℕ → Entry) (k : ℕ) (value : List ℕ) (v : Entry) → Bytes value → IsValue false (numberBytes k (number value)) (make (number value))
     → numberOf make k value ≡ ok v → IsValue false value v
 number-bytes make k value v b h p =
@@ -61,11 +64,13 @@ number-bytes make k value v b h p =
     let back = sym (numberBytes-number value b) ∙ ap (λ (n : ℕ). numberBytes n (number value)) (i .0) in
     subst (IsValue false value) (sym (i .1)) (h .0, back ∙ h .1)
 
+-- one byte is the one at 0
 one-byte : (l : List ℕ) → length l ≡ 1 → l ≡ byte l 0 ∷ []
 one-byte [] e = absurd (omega arith)
 one-byte (a ∷ []) e = refl
 one-byte (a ∷ b ∷ l) e = absurd (omega arith)
 
+-- a value that isn't null
 literalValue-bytes : (t : DataType) (value : List ℕ) (v : Entry) → Bytes value → literalValue t value ≡ ok v → IsValue false value v
 unfolding literalValue
 literalValue-bytes Boolean value v b p =
@@ -78,6 +83,7 @@ literalValue-bytes Int64 value v b p = number-bytes int64 8 value v b (refl, ref
 literalValue-bytes Float64 value v b p = number-bytes float64 8 value v b (refl, refl) p
 literalValue-bytes Utf8 value v b p = subst (IsValue false value) (ok-injective p) (refl, refl)
 
+-- a value behind its null mark
 markedValue-bytes : (m : Bool) (t : DataType) (value : List ℕ) (v : Entry) → Bytes value → markedValue m t value ≡ ok v → IsValue m value v
 unfolding markedValue
 markedValue-bytes true t value v b p =
@@ -85,6 +91,7 @@ markedValue-bytes true t value v b p =
     subst (IsValue true value) (ok-injective (i .1)) (refl, isEmpty-true value (i .0))
 markedValue-bytes false t value v b p = literalValue-bytes t value v b p
 
+-- a literal
 literal-bytes : (f : Field) (seen : List Column) (r : Read Expr) → Bytes (f .content) → readLiteral f seen ≡ ok r → Closed 17 (f .content) (f .rest) r
 unfolding bytesOf
 literal-bytes f seen r b p =
@@ -101,6 +108,14 @@ flags-are (suc (suc zero)) base els h p q = rw (p, q)
 flags-are (suc (suc (suc zero))) base els h p q = rw (p, q)
 flags-are (suc (suc (suc (suc n)))) base els h p q = absurd (omega arith)
 
+-- so many branches, and their bytes
+abbrev pub BranchesAre : ℕ → List ℕ → Read Branches → Type 0
+BranchesAre n bytes r = (bytes ≡ branchesBytes (r .tree) ++ r .rest) × Bytes (r .rest) × (branchCount (r .tree) ≡ n)
+
+-- a part that is there or not, and its bytes
+abbrev pub OptionalIs : Bool → List ℕ → Read Optional → Type 0
+OptionalIs flag bytes r = (bytes ≡ optionalBytes (r .tree) ++ r .rest) × Bytes (r .rest) × (isPresent (r .tree) ≡ flag)
+
 module _ (child : Reader Expr) (faithful : Faithful child) where
   -- a node of one child, whose bytes stand behind others
   unary-bytes : (node : Expr → Expr) (before : List ℕ) (tag : ℕ) → ((e : Expr) → bytesOf (node e) ≡ fieldBytes tag (before ++ bytesOf e))
@@ -111,6 +126,7 @@ module _ (child : Reader Expr) (faithful : Faithful child) where
       let h = alone content (bytesOf (a .tree)) (a .rest) (faithful content seen a b got .0) end in
       closed tag (before ++ content) rest (a .seen) (node (a .tree)) r (ap (λ (l : List ℕ). fieldBytes tag (before ++ l)) h ∙ sym (is (a .tree))) gives
 
+  -- a cast, of either kind
   cast-bytes : (node : DataType → Expr → Expr) (tag : ℕ) → ((t : DataType) (e : Expr) → bytesOf (node t e) ≡ fieldBytes tag (typeNumber t ∷ bytesOf e))
       → (content : List ℕ) (seen : List Column) (rest : List ℕ) (r : Read Expr) → Bytes content → readCast node child content seen rest ≡ ok r
       → Closed tag content rest r
@@ -119,6 +135,7 @@ module _ (child : Reader Expr) (faithful : Faithful child) where
       let h = unary-bytes (node t) (typeNumber t ∷ []) tag (is t) (drop 1 content) seen rest r (bytes-drop 1 content b) got in
       (ap (fieldBytes tag) same ∙ h .0, h .1)
 
+  -- a node of two children
   binary-bytes : (node : Expr → Expr → Expr) (tag : ℕ) → ((x y : Expr) → bytesOf (node x y) ≡ fieldBytes tag (bytesOf x ++ bytesOf y))
       → (content : List ℕ) (seen : List Column) (rest : List ℕ) (r : Read Expr) → Bytes content → readBinary node child content seen rest ≡ ok r
       → Closed tag content rest r
@@ -129,30 +146,27 @@ module _ (child : Reader Expr) (faithful : Faithful child) where
       let both = h .0 ∙ ap (λ (l : List ℕ). bytesOf (x .tree) ++ l) (alone (x .rest) (bytesOf (y .tree)) (y .rest) (k .0) end) in
       closed tag content rest (y .seen) (node (x .tree) (y .tree)) r (ap (fieldBytes tag) both ∙ sym (is (x .tree) (y .tree))) gives
 
-  -- so many branches, and their bytes
-  pub branches-bytes : (n : ℕ) (bytes : List ℕ) (seen : List Column) (r : Read Branches) → Bytes bytes → readBranches child n bytes seen ≡ ok r
-      → (bytes ≡ branchesBytes (r .tree) ++ r .rest) × Bytes (r .rest) × (branchCount (r .tree) ≡ n)
+  -- branches, as many as asked for
+  pub branches-bytes : (n : ℕ) (bytes : List ℕ) (seen : List Column) (r : Read Branches) → Bytes bytes → readBranches child n bytes seen ≡ ok r → BranchesAre n bytes r
   unfolding readBranches bytesOf branchCount
-  branches-bytes zero bytes seen r b p =
-      subst (λ (x : Read Branches). (bytes ≡ branchesBytes (x .tree) ++ x .rest) × Bytes (x .rest) × (branchCount (x .tree) ≡ zero)) (ok-injective p) (refl, b, refl)
+  branches-bytes zero bytes seen r b p = subst (BranchesAre zero bytes) (ok-injective p) (refl, b, refl)
   branches-bytes (suc n) bytes seen r b p =
       let (w, t, bs, gotW, gotT, later, gives) = branches-inv child n bytes seen r p in
       let h = faithful bytes seen w b gotW in
       let k = faithful (w .rest) (w .seen) t (h .1) gotT in
       let l = branches-bytes n (t .rest) (t .seen) bs (k .1) later in
       let all = joined (bytesOf (w .tree)) (bytesOf (t .tree)) (branchesBytes (bs .tree)) (bs .rest) (h .0) (k .0) (l .0) in
-      subst (λ (x : Read Branches). (bytes ≡ branchesBytes (x .tree) ++ x .rest) × Bytes (x .rest) × (branchCount (x .tree) ≡ suc n)) (sym gives) (all, l .1, ap suc (l .2))
+      subst (BranchesAre (suc n) bytes) (sym gives) (all, l .1, ap suc (l .2))
 
-  -- a part that is there or not, and its bytes
+  -- a part by its flag
   pub optional-bytes : (flag : Bool) (bytes : List ℕ) (seen : List Column) (r : Read Optional) → Bytes bytes → readOptional flag child bytes seen ≡ ok r
-      → (bytes ≡ optionalBytes (r .tree) ++ r .rest) × Bytes (r .rest) × (isPresent (r .tree) ≡ flag)
+      → OptionalIs flag bytes r
   unfolding readOptional bytesOf
-  optional-bytes false bytes seen r b p =
-      subst (λ (x : Read Optional). (bytes ≡ optionalBytes (x .tree) ++ x .rest) × Bytes (x .rest) × (isPresent (x .tree) ≡ false)) (ok-injective p) (refl, b, refl)
+  optional-bytes false bytes seen r b p = subst (OptionalIs false bytes) (ok-injective p) (refl, b, refl)
   optional-bytes true bytes seen r b p =
       let (e, got, gives) = optional-inv child bytes seen r p in
       let h = faithful bytes seen e b got in
-      subst (λ (x : Read Optional). (bytes ≡ optionalBytes (x .tree) ++ x .rest) × Bytes (x .rest) × (isPresent (x .tree) ≡ true)) (sym gives) (h .0, h .1, refl)
+      subst (OptionalIs true bytes) (sym gives) (h .0, h .1, refl)
 
   -- base, branches and ELSE, behind the flags and the branch count that they have
   parts-bytes : (flags count : ℕ) (bytes : List ℕ) (seen : List Column) (rest : List ℕ) (r : Read Expr) → flags ≤ 3 → Bytes bytes
@@ -170,6 +184,7 @@ module _ (child : Reader Expr) (faithful : Faithful child) where
       let same = head ∙ ap (λ (x : List ℕ). flagsOf (base .tree) (els .tree) ∷ branchCount (bs .tree) ∷ x) all in
       closed 25 (flags ∷ count ∷ bytes) rest (els .seen) (caseWhen (base .tree) (bs .tree) (els .tree)) r (ap (fieldBytes 25) same) gives
 
+  -- a CASE
   case-bytes : (content : List ℕ) (seen : List Column) (rest : List ℕ) (r : Read Expr) → Bytes content → readCase child content seen rest ≡ ok r
       → Closed 25 content rest r
   case-bytes content seen rest r b p =
@@ -178,6 +193,7 @@ module _ (child : Reader Expr) (faithful : Faithful child) where
       (ap (fieldBytes 25) same ∙ h .0, h .1)
 
 module _ (child : ℕ → Reader Expr) (faithful : (n : ℕ) → Faithful (child n)) where
+  -- a CASE that may still stand on the path
   limitedCase-bytes : (cases : ℕ) (content : List ℕ) (seen : List Column) (rest : List ℕ) (r : Read Expr) → Bytes content
       → readLimitedCase child cases content seen rest ≡ ok r → Closed 25 content rest r
   limitedCase-bytes cases content seen rest r b p =
