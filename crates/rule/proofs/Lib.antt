@@ -1,3 +1,4 @@
 -- The laws of `rule`.
 pub mod ReadInversions
 pub mod Sound
+pub mod ReadTyped
