@@ -1,4 +1,5 @@
 -- The laws of `rule`.
 pub mod ReadInversions
+pub mod ReadBytes
 pub mod Sound
 pub mod ReadTyped

@@ -8,7 +8,7 @@ use lib.Dec.{eqb, leb, ltb}
 use lib.ListN.{length, drop}
 use borrow.Author.Tests.{eqb-true, leb-true, ltb-true, not-true}
 use Rattle.layout.specs.Result.{refused, ok, _>>=_}
-use Rattle.layout.specs.Bytes.{byte}
+use Rattle.layout.specs.Bytes.{byte, number}
 use Rattle.layout.specs.Field.{Field, header}
 use Rattle.layout.proofs.ResultLaws.{refused-not-ok, ok-injective, bind-ok, require-then}
 use Rattle.scalar.specs.declared.types.DataType.{DataType}
@@ -18,13 +18,14 @@ use Rattle.scalar.proofs.TypesLaws.{typeNumbered-ok, markNumbered-ok}
 use Rattle.rule.specs.Tree.{Column, Expr, column, literal, caseWhen, Branches, branch, Optional, present}
 use Rattle.rule.specs.Typing.{nodeTyped}
 use Rattle.rule.specs.Constant.{isEmpty, constantFails}
-use Rattle.rule.specs.Reading.{Read, Reader, Kind, aCase, tagOf, kinds, kindAmong, kindOf, firstByte, unlikeEarlier, readColumn, markedValue, readLiteral, closeNode, readUnary, readCast, readBinary, readBranches, readOptional, hasBase, hasElse, readParts, readCase, readLimitedCase, readKind, readField, depthMost, casesMost, readRoot, readRule}
+use Rattle.rule.specs.Reading.{Read, Reader, Kind, aCase, tagOf, kinds, kindAmong, kindOf, firstByte, unlikeEarlier, readColumn, numberOf, markedValue, readLiteral, closeNode, readUnary, readCast, readBinary, readBranches, readOptional, hasBase, hasElse, readParts, readCase, readLimitedCase, readKind, readField, depthMost, casesMost, readRoot, readRule}
 
 -- nothing is left over
 pub isEmpty-true : {A : Type 0} (l : List A) → isEmpty l ≡ true → l ≡ []
 isEmpty-true [] e = refl
 isEmpty-true (a ∷ l) e = cc
 
+-- two tests that hold together hold each
 pub and-true : (a b : Bool) → a && b ≡ true → (a ≡ true) × (b ≡ true)
 and-true true b e = (refl, e)
 and-true false b e = (e, cc)
@@ -34,12 +35,12 @@ pub firstByte-inv : (l : List ℕ) (b : ℕ) → firstByte l ≡ ok b → l ≡ 
 firstByte-inv [] b e = absurd (refused-not-ok 3 b e)
 firstByte-inv (a ∷ l) b e = ap (λ (x : ℕ). x ∷ l) (ok-injective e)
 
--- the first two
+-- and so are the first two
 pub firstBytes-inv : (l : List ℕ) (a b : ℕ) → firstByte l ≡ ok a → firstByte (drop 1 l) ≡ ok b → l ≡ a ∷ b ∷ drop 2 l
 firstBytes-inv [] a b p q = absurd (refused-not-ok 3 a p)
 firstBytes-inv (c ∷ l) a b p q = ap₂ (λ (x : ℕ) (m : List ℕ). x ∷ m) (ok-injective p) (firstByte-inv l b q)
 
--- three bytes
+-- three bytes are those at 0, 1 and 2
 three-bytes : (l : List ℕ) → length l ≡ 3 → l ≡ byte l 0 ∷ byte l 1 ∷ byte l 2 ∷ []
 three-bytes [] e = absurd (omega arith)
 three-bytes (a ∷ []) e = absurd (omega arith)
@@ -67,8 +68,17 @@ column-inv f seen r p =
     let t = bind-ok (typeNumbered 3 (byte (f .content) 1)) _ r (i .1) in
     let n = bind-ok (markNumbered 3 (byte (f .content) 2)) _ r (t .2) in
     let u = require-then _ _ _ r (n .2) in
-    let is = ap₂ (λ (x y : ℕ). byte (f .content) 0 ∷ x ∷ y ∷ []) (typeNumbered-ok 3 (byte (f .content) 1) (t .0) (t .1)) (markNumbered-ok 3 (byte (f .content) 2) (n .0) (n .1)) in
-    (record { index = byte (f .content) 0; type = t .0; nullable = n .0 }, three-bytes (f .content) (eqb-true _ _ (i .0)) ∙ is, not-true _ (u .0), sym (ok-injective (u .1)))
+    let type = typeNumbered-ok 3 (byte (f .content) 1) (t .0) (t .1) in
+    let mark = markNumbered-ok 3 (byte (f .content) 2) (n .0) (n .1) in
+    let is = three-bytes (f .content) (eqb-true _ _ (i .0)) ∙ ap₂ (λ (x y : ℕ). byte (f .content) 0 ∷ x ∷ y ∷ []) type mark in
+    (record { index = byte (f .content) 0; type = t .0; nullable = n .0 }, is, not-true _ (u .0), sym (ok-injective (u .1)))
+
+-- a number has its bytes and no more
+pub numberOf-inv : (make : ℕ → Entry) (k : ℕ) (value : List ℕ) (v : Entry) → numberOf make k value ≡ ok v
+    → (length value ≡ k) × (v ≡ make (number value))
+numberOf-inv make k value v p =
+    let i = require-then (eqb (length value) k) 3 (λ _. ok (make (number value))) v p in
+    (eqb-true _ _ (i .0), sym (ok-injective (i .1)))
 
 -- a literal field is type, null mark, value
 pub literal-inv : (f : Field) (seen : List Column) (r : Read Expr) → readLiteral f seen ≡ ok r
@@ -93,7 +103,7 @@ close-inv e seen left rest r p =
     let j = require-then _ _ _ r (i .1) in
     (isEmpty-true left (i .0), j .0, sym (ok-injective (j .1)))
 
--- a node of one child
+-- a node of one child is that child, with nothing left over
 pub unary-inv : (node : Expr → Expr) (child : Reader Expr) (content : List ℕ) (seen : List Column) (rest : List ℕ) (r : Read Expr)
     → readUnary node child content seen rest ≡ ok r
     → (a : Read Expr) × (child content seen ≡ ok a) × (a .rest ≡ []) × (nodeTyped (node (a .tree)) ≡ true)
@@ -114,7 +124,7 @@ cast-inv node child content seen rest r p =
     let t = bind-ok _ _ r (b .2) in
     (t .0, firstByte-inv content (b .0) (b .1) ∙ ap (λ (x : ℕ). x ∷ drop 1 content) (typeNumbered-ok 3 (b .0) (t .0) (t .1)), t .2)
 
--- a node of two children
+-- a node of two children is the one behind the other, with nothing left over
 pub binary-inv : (node : Expr → Expr → Expr) (child : Reader Expr) (content : List ℕ) (seen : List Column) (rest : List ℕ) (r : Read Expr)
     → readBinary node child content seen rest ≡ ok r
     → (a : Read Expr) × (b : Read Expr) × (child content seen ≡ ok a) × (child (a .rest) (a .seen) ≡ ok b) × (b .rest ≡ [])
@@ -126,7 +136,7 @@ binary-inv node child content seen rest r p =
     let c = close-inv _ _ _ rest r (b .2) in
     (a .0, b .0, a .1, b .1, c .0, c .1, c .2)
 
--- one branch, and the later ones
+-- one more branch is WHEN, THEN and the later ones
 pub branches-inv : (child : Reader Expr) (n : ℕ) (bytes : List ℕ) (seen : List Column) (r : Read Branches)
     → readBranches child (suc n) bytes seen ≡ ok r
     → (w : Read Expr) × (t : Read Expr) × (bs : Read Branches) × (child bytes seen ≡ ok w) × (child (w .rest) (w .seen) ≡ ok t)
@@ -139,13 +149,13 @@ branches-inv child n bytes seen r p =
     let bs = bind-ok _ _ r (t .2) in
     (w .0, t .0, bs .0, w .1, t .1, bs .1, sym (ok-injective (bs .2)))
 
--- a part that is there
+-- a part that is there is a field
 pub optional-inv : (child : Reader Expr) (bytes : List ℕ) (seen : List Column) (r : Read Optional) → readOptional true child bytes seen ≡ ok r
     → (e : Read Expr) × (child bytes seen ≡ ok e) × (r ≡ record { tree = present (e .tree); seen = e .seen; rest = e .rest })
 unfolding readOptional
 optional-inv child bytes seen r p = let e = bind-ok _ _ r p in (e .0, e .1, sym (ok-injective (e .2)))
 
--- base, branches and ELSE
+-- a CASE's parts are base, branches and ELSE, with nothing left over
 pub parts-inv : (child : Reader Expr) (flags count : ℕ) (bytes : List ℕ) (seen : List Column) (rest : List ℕ) (r : Read Expr)
     → readParts child flags count bytes seen rest ≡ ok r
     → (b : Read Optional) × (bs : Read Branches) × (e : Read Optional) × (readOptional (hasBase flags) child bytes seen ≡ ok b)
@@ -160,7 +170,7 @@ parts-inv child flags count bytes seen rest r p =
     let c = close-inv _ _ _ rest r (e .2) in
     (b .0, bs .0, e .0, b .1, bs .1, e .1, c .0, c .1, c .2)
 
--- a CASE's flags and branch count
+-- a CASE is flags and branch count, each as it may be, and its parts
 pub case-inv : (child : Reader Expr) (content : List ℕ) (seen : List Column) (rest : List ℕ) (r : Read Expr) → readCase child content seen rest ≡ ok r
     → (flags : ℕ) × (count : ℕ) × (content ≡ flags ∷ count ∷ drop 2 content) × (flags ≤ 3) × (0 < count) × (count ≤ 32)
     × (readParts child flags count (drop 2 content) seen rest ≡ ok r)
