@@ -4,3 +4,5 @@ pub mod RunLaws
 pub mod DemandsHold
 -- The laws of `case`.
 pub mod AnswerLaws
+-- The laws of `case`.
+pub mod RowsTyped

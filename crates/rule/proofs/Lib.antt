@@ -3,3 +3,4 @@ pub mod ReadInversions
 pub mod Sound
 pub mod PathLaws
 pub mod ReadBytes
+pub mod ReadTyped

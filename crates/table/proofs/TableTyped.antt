@@ -1,24 +1,26 @@
 -- The entries of an accepted table are of their columns' types. Assumes nothing.
-use mathlib.Core.Bool.{Bool, true, false, cond}
-use mathlib.Core.Path.{_≡_, refl, sym, subst}
+use mathlib.Core.Bool.{Bool, true, false, cond, _&&_, _||_}
+use mathlib.Core.Path.{_≡_, refl, subst}
 use mathlib.Core.List.{List, [], _∷_}
-use mathlib.Core.Option.{Option, some, none}
+use mathlib.Core.Option.{some}
 use Prim.Native.Nat.{ℕ, zero, suc, _*_, _^_, _<_, _≤_}
 use native.Mathlib.Nat.{pow-le-pow-right}
 use native.Mathlib.Omega.{arith}
+use lib.Dec.{eqb, leb, ltb}
 use lib.ListN.{length, take, drop, getElem?, length-take}
 use borrow.Author.Tests.{lt-ltb}
 use Rattle.layout.specs.Result.{ok}
-use Rattle.layout.specs.Bytes.{Bytes, number, numberAt}
+use Rattle.layout.specs.Bytes.{Bytes, byte, number, numberAt, bitmapLength}
 use Rattle.layout.specs.Field.{Field, header}
 use Rattle.layout.proofs.ResultLaws.{refused-not-ok, ok-injective, bind-ok, require-then}
 use Rattle.layout.proofs.BytesLaws.{number-below, bytes-take, bytes-drop}
 use Rattle.layout.proofs.FieldLaws.{header-bytes-parts}
 use Rattle.scalar.specs.declared.types.DataType.{DataType}
 use Rattle.scalar.specs.declared.types.DataType.the-variants.{Boolean, Int32, Int64, Float64, Utf8}
-use Rattle.scalar.specs.Entry.{Entry, null, ofType}
-use Rattle.table.specs.Column.{TableColumn, validIn, valueAt, entryAt}
-use Rattle.table.specs.Reading.{Part, tagged, taggedPair, readValidity, readTextOffsets, readOffsets, readValues, readBody, readParts, readColumn, readColumns, Table, readTable}
+use Rattle.scalar.specs.Types.{typeNumbered, markNumbered}
+use Rattle.scalar.specs.Entry.{null, ofType}
+use Rattle.table.specs.Column.{TableColumn, validIn, offsetAt, valueAt, entryAt}
+use Rattle.table.specs.Reading.{Part, neverFalls, valuesLength, noNull, bytesMost, rowsMost, columnsMost, tagged, taggedPair, readValidity, readTextOffsets, readOffsets, readValues, readBody, readParts, readColumn, readColumns, Table, readTable}
 
 -- a number in k bytes is below 256 to the k
 numberAt-below : (k : ℕ) (l : List ℕ) (at : ℕ) → Bytes l → numberAt k l at < 256 ^ k
@@ -52,45 +54,51 @@ FieldBytes f = Bytes (f .content) × Bytes (f .rest)
 tagged-bytes : (tag : ℕ) (bytes : List ℕ) (f : Field) → Bytes bytes → tagged tag bytes ≡ ok f → FieldBytes f
 unfolding tagged
 tagged-bytes tag bytes f h p =
-    let a = bind-ok _ _ f p in
-    let b = require-then _ _ _ f (a .2) in
-    subst FieldBytes (ok-injective (b .1)) (header-bytes-parts 9 bytes (a .0) h (a .1))
+    let a = bind-ok (header 9 bytes) _ f p in
+    let b = require-then (eqb (a .0 .tag) tag) 9 _ f (a .2) .1 in
+    subst FieldBytes (ok-injective b) (header-bytes-parts 9 bytes (a .0) h (a .1))
 
 pair-bytes : (tag : ℕ) (bytes : List ℕ) (f : Field) → Bytes bytes → taggedPair tag bytes ≡ ok f → FieldBytes f
 unfolding taggedPair
 pair-bytes tag bytes f h p =
-    let a = bind-ok _ _ f p in
-    let b = require-then _ _ _ f (a .2) in
-    subst FieldBytes (ok-injective (b .1)) (tagged-bytes tag bytes (a .0) h (a .1))
+    let a = bind-ok (tagged tag bytes) _ f p in
+    let b = require-then (eqb (length (a .0 .content)) 2) 9 _ f (a .2) .1 in
+    subst FieldBytes (ok-injective b) (tagged-bytes tag bytes (a .0) h (a .1))
 
 -- the bytes behind validity bits and offsets
-validity-rest : (rows : ℕ) (bytes : List ℕ) (r : Part (List ℕ)) → Bytes bytes → readValidity rows bytes ≡ ok r → Bytes (r .rest)
+abbrev RestBytes : Part (List ℕ) → Type 0
+RestBytes r = Bytes (r .rest)
+
+validity-rest : (rows : ℕ) (bytes : List ℕ) (r : Part (List ℕ)) → Bytes bytes → readValidity rows bytes ≡ ok r → RestBytes r
 unfolding readValidity
 validity-rest rows bytes r h p =
-    let f = bind-ok _ _ r p in
-    let a = require-then _ _ _ r (f .2) in
-    subst (λ (x : Part (List ℕ)). Bytes (x .rest)) (ok-injective (a .1)) (tagged-bytes 3 bytes (f .0) h (f .1) .1)
+    let f = bind-ok (tagged 3 bytes) _ r p in
+    let a = require-then (eqb (length (f .0 .content)) 0 || eqb (length (f .0 .content)) (bitmapLength rows)) 11 _ r (f .2) .1 in
+    subst RestBytes (ok-injective a) (tagged-bytes 3 bytes (f .0) h (f .1) .1)
 
-offsets-rest : (t : DataType) (rows : ℕ) (bytes : List ℕ) (r : Part (List ℕ)) → Bytes bytes → readOffsets t rows bytes ≡ ok r → Bytes (r .rest)
+offsets-rest : (t : DataType) (rows : ℕ) (bytes : List ℕ) (r : Part (List ℕ)) → Bytes bytes → readOffsets t rows bytes ≡ ok r → RestBytes r
 unfolding readTextOffsets
-offsets-rest Boolean rows bytes r h p = subst (λ (x : Part (List ℕ)). Bytes (x .rest)) (ok-injective p) h
-offsets-rest Int32 rows bytes r h p = subst (λ (x : Part (List ℕ)). Bytes (x .rest)) (ok-injective p) h
-offsets-rest Int64 rows bytes r h p = subst (λ (x : Part (List ℕ)). Bytes (x .rest)) (ok-injective p) h
-offsets-rest Float64 rows bytes r h p = subst (λ (x : Part (List ℕ)). Bytes (x .rest)) (ok-injective p) h
+offsets-rest Boolean rows bytes r h p = subst RestBytes (ok-injective p) h
+offsets-rest Int32 rows bytes r h p = subst RestBytes (ok-injective p) h
+offsets-rest Int64 rows bytes r h p = subst RestBytes (ok-injective p) h
+offsets-rest Float64 rows bytes r h p = subst RestBytes (ok-injective p) h
 offsets-rest Utf8 rows bytes r h p =
-    let f = bind-ok _ _ r p in
-    let a = require-then _ _ _ r (f .2) in
-    let b = require-then _ _ _ r (a .1) in
-    let c = require-then _ _ _ r (b .1) in
-    subst (λ (x : Part (List ℕ)). Bytes (x .rest)) (ok-injective (c .1)) (tagged-bytes 5 bytes (f .0) h (f .1) .1)
+    let f = bind-ok (tagged 5 bytes) _ r p in
+    let a = require-then (eqb (length (f .0 .content)) (4 * suc rows)) 11 _ r (f .2) .1 in
+    let b = require-then (eqb (offsetAt (f .0 .content) 0) 0) 11 _ r a .1 in
+    let c = require-then (neverFalls rows (f .0 .content)) 11 _ r b .1 in
+    subst RestBytes (ok-injective c) (tagged-bytes 5 bytes (f .0) h (f .1) .1)
 
-values-bytes : (t : DataType) (rows : ℕ) (offsets bytes : List ℕ) (r : Part (List ℕ)) → Bytes bytes → readValues t rows offsets bytes ≡ ok r
-    → Bytes (r .part) × Bytes (r .rest)
+-- the values and the bytes behind them
+abbrev ValuesBytes : Part (List ℕ) → Type 0
+ValuesBytes r = Bytes (r .part) × Bytes (r .rest)
+
+values-bytes : (t : DataType) (rows : ℕ) (offsets bytes : List ℕ) (r : Part (List ℕ)) → Bytes bytes → readValues t rows offsets bytes ≡ ok r → ValuesBytes r
 unfolding readValues
 values-bytes t rows offsets bytes r h p =
-    let f = bind-ok _ _ r p in
-    let a = require-then _ _ _ r (f .2) in
-    subst (λ (x : Part (List ℕ)). Bytes (x .part) × Bytes (x .rest)) (ok-injective (a .1)) (tagged-bytes 4 bytes (f .0) h (f .1))
+    let f = bind-ok (tagged 4 bytes) _ r p in
+    let a = require-then (eqb (length (f .0 .content)) (valuesLength t rows offsets)) 11 _ r (f .2) .1 in
+    subst ValuesBytes (ok-injective a) (tagged-bytes 4 bytes (f .0) h (f .1))
 
 -- a column's values are bytes, and so is what is behind it
 abbrev ColumnBytes : Part TableColumn → Type 0
@@ -99,33 +107,55 @@ ColumnBytes c = Bytes (c .part .values) × Bytes (c .rest)
 body-bytes : (rows : ℕ) (f : Field) (c : Part TableColumn) → Bytes (f .rest) → readBody rows f ≡ ok c → ColumnBytes c
 unfolding readBody
 body-bytes rows f c h p =
-    let t = bind-ok _ _ c p in
-    let n = bind-ok _ _ c (t .2) in
-    let y = bind-ok _ _ c (n .2) in
-    let o = bind-ok _ _ c (y .2) in
-    let v = bind-ok _ _ c (o .2) in
+    let t = bind-ok (typeNumbered 11 (byte (f .content) 0)) _ c p in
+    let n = bind-ok (markNumbered 11 (byte (f .content) 1)) _ c (t .2) in
+    let y = bind-ok (readValidity rows (f .rest)) _ c (n .2) in
+    let o = bind-ok (readOffsets (t .0) rows (y .0 .rest)) _ c (y .2) in
+    let v = bind-ok (readValues (t .0) rows (o .0 .part) (o .0 .rest)) _ c (o .2) in
     let behind = offsets-rest (t .0) rows (y .0 .rest) (o .0) (validity-rest rows (f .rest) (y .0) h (y .1)) (o .1) in
     subst ColumnBytes (ok-injective (v .2)) (values-bytes (t .0) rows (o .0 .part) (o .0 .rest) (v .0) behind (v .1))
 
 column-bytes : (rows : ℕ) (bytes : List ℕ) (c : Part TableColumn) → Bytes bytes → readColumn rows bytes ≡ ok c → ColumnBytes c
 unfolding readColumn readParts
 column-bytes rows bytes c h p =
-    let a = bind-ok _ _ c p in
-    let b = require-then _ _ _ c (a .2) in
-    let f = bind-ok _ _ (a .0) (a .1) in
-    subst ColumnBytes (ok-injective (b .1)) (body-bytes rows (f .0) (a .0) (pair-bytes 2 bytes (f .0) h (f .1) .1) (f .2))
+    let a = bind-ok (readParts rows bytes) _ c p in
+    let b = require-then (a .0 .part .nullable || noNull (a .0 .part .validity) rows) 12 _ c (a .2) .1 in
+    let f = bind-ok (taggedPair 2 bytes) _ (a .0) (a .1) in
+    subst ColumnBytes (ok-injective b) (body-bytes rows (f .0) (a .0) (pair-bytes 2 bytes (f .0) h (f .1) .1) (f .2))
 
--- the values of a column among those read are bytes
-columns-bytes : (rows left : ℕ) (bytes : List ℕ) (cs : List TableColumn) → Bytes bytes → readColumns rows left bytes ≡ ok cs
-    → (c : ℕ) (d : TableColumn) → getElem? cs c ≡ some d → Bytes (d .values)
+-- every column's values are bytes
+abbrev AllBytes : List TableColumn → Type 0
+AllBytes cs = (c : ℕ) (d : TableColumn) → getElem? cs c ≡ some d → Bytes (d .values)
+
+none-bytes : AllBytes []
+none-bytes c d q = let z : _≡_ {A = ℕ} 0 1 = cc in absurd (omega arith)
+
+more-bytes : (a : TableColumn) (cs : List TableColumn) → Bytes (a .values) → AllBytes cs → AllBytes (a ∷ cs)
+more-bytes a cs h k zero d q = let e : a ≡ d = cc in subst (λ (x : TableColumn). Bytes (x .values)) e h
+more-bytes a cs h k (suc c) d q = k c d q
+
+columns-bytes : (rows left : ℕ) (bytes : List ℕ) (cs : List TableColumn) → Bytes bytes → readColumns rows left bytes ≡ ok cs → AllBytes cs
 unfolding readColumns
-columns-bytes rows zero [] cs h p c d q = ?
-columns-bytes rows zero (b ∷ bytes) cs h p c d q = ?
-columns-bytes rows (suc left) [] cs h p c d q = ?
-columns-bytes rows (suc left) (b ∷ bytes) cs h p c d q = ?
+columns-bytes rows zero [] cs h p = subst AllBytes (ok-injective p) none-bytes
+columns-bytes rows zero (b ∷ bytes) cs h p = absurd (refused-not-ok 10 cs (bind-ok (taggedPair 2 (b ∷ bytes)) _ cs p .2))
+columns-bytes rows (suc left) [] cs h p = subst AllBytes (ok-injective p) none-bytes
+columns-bytes rows (suc left) (b ∷ bytes) cs h p =
+    let a = bind-ok (readColumn rows (b ∷ bytes)) _ cs p in
+    let r = bind-ok (readColumns rows left (a .0 .rest)) _ cs (a .2) in
+    let i = column-bytes rows (b ∷ bytes) (a .0) h (a .1) in
+    subst AllBytes (ok-injective (r .2)) (more-bytes (a .0 .part) (r .0) (i .0) (columns-bytes rows left (a .0 .rest) (r .0) (i .1) (r .1)))
+
+table-bytes : (bytes : List ℕ) (t : Table) → Bytes bytes → readTable bytes ≡ ok t → AllBytes (t .columns)
+unfolding readTable
+table-bytes bytes t h p =
+    let a = require-then (ltb 0 (length bytes) && leb (length bytes) bytesMost) 9 _ t p .1 in
+    let f = bind-ok (taggedPair 1 bytes) _ t a in
+    let b = require-then (leb (number (f .0 .content)) rowsMost) 10 _ t (f .2) .1 in
+    let cs = bind-ok (readColumns (number (f .0 .content)) columnsMost (f .0 .rest)) _ t b in
+    let read = columns-bytes (number (f .0 .content)) columnsMost (f .0 .rest) (cs .0) (pair-bytes 1 bytes (f .0) h (f .1) .1) (cs .1) in
+    subst (λ (x : Table). AllBytes (x .columns)) (ok-injective (cs .2)) read
 
 -- an accepted table's entries are of their columns' types
 pub table-typed : (bytes : List ℕ) (t : Table) → Bytes bytes → readTable bytes ≡ ok t → (c : ℕ) (d : TableColumn) → getElem? (t .columns) c ≡ some d
     → (i : ℕ) → ofType (d .type) (entryAt d i) ≡ true
-unfolding readTable
-table-typed bytes t h p c d q i = ?
+table-typed bytes t h p c d q i = entry-typed d i (table-bytes bytes t h p c d q)
