@@ -25,12 +25,12 @@ header-ok n l f e = go (ltb (length l) 3) refl (ltb (length l) (3 + contentLengt
     go false p true q e = absurd (refused-not-ok n f e)
     go false p false q e = (ltb-false _ _ p, ltb-false _ _ q, sym (ok-injective e))
 
--- and where there is room, it is there
+-- where there is room, it is there
 pub header-fits : (n : ℕ) (l : List ℕ) → 3 ≤ length l → 3 + contentLength l ≤ length l → header n l ≡ ok (fieldAt l)
 unfolding header
 header-fits n l p q = simp (le-ltb _ _ p, le-ltb _ _ q)
 
--- bytes that hold a field are its own and what is behind it
+-- bytes that hold a field are its bytes, and what is behind it
 whole : (l : List ℕ) → Bytes l → 3 ≤ length l → 3 + contentLength l ≤ length l → l ≡ fieldBytes (fieldAt l .tag) (fieldAt l .content) ++ fieldAt l .rest
 unfolding fieldBytes
 whole [] h p q = absurd (omega arith)
@@ -43,6 +43,7 @@ whole (a ∷ b ∷ c ∷ l) h p q =
     let behind : drop k l ≡ drop (3 + k) (a ∷ b ∷ c ∷ l) = drop-drop k 3 (a ∷ b ∷ c ∷ l) in
     rw (len, two, ← behind, take-append-drop k l)
 
+-- a field that is read is its bytes, and what is behind it
 pub header-bytes : (n : ℕ) (l : List ℕ) (f : Field) → Bytes l → header n l ≡ ok f → l ≡ fieldBytes (f .tag) (f .content) ++ f .rest
 header-bytes n l f h e =
     let i = header-ok n l f e in

@@ -22,3 +22,7 @@ bind-ok (ok a) f b e = (a, refl, e)
 pub require-ok : (t : Bool) (n : ℕ) (u : Unit {0}) → require t n ≡ ok u → t ≡ true
 require-ok true n u e = refl
 require-ok false n u e = absurd (refused-not-ok n u e)
+
+-- behind a test, the test holds
+pub require-then : {B : Type 0} (t : Bool) (n : ℕ) (f : Unit {0} → Result B) (b : B) → (require t n >>= f) ≡ ok b → (t ≡ true) × (f tt ≡ ok b)
+require-then t n f b e = let i = bind-ok (require t n) f b e in (require-ok t n (i .0) (i .1), i .2)

@@ -1,2 +1,4 @@
 -- The laws of `rule`.
+pub mod ReadInversions
+pub mod ReadBytes
 pub mod PathLaws

@@ -1,0 +1,2 @@
+-- The laws of `scalar`.
+pub mod TypesLaws
