@@ -1,4 +1,4 @@
--- What a row's path says of its outcome (01, One row).
+-- What a row's path says of its outcome (01, One row). Assumes nothing.
 use mathlib.Core.Path.{_≡_, refl, ap, ap₂, sym, _∙_}
 use mathlib.Core.Bool.{Bool, true, false, cond, _||_, or-true, or-false, or-assoc}
 use mathlib.Core.List.{List, [], _∷_, _++_, List·Memᴰ, List·Memᴰ·head, Memᴰ·append-left, Memᴰ·append-right}
@@ -27,10 +27,12 @@ abbrev fails : Row → List Step → Bool
 fails row [] = false
 fails row (s ∷ p) = failing row s || fails row p
 
+-- a path fails where one of its parts does
 fails-append : (row : Row) (p q : List Step) → fails row (p ++ q) ≡ (fails row p || fails row q)
 fails-append row [] q = refl
 fails-append row (s ∷ p) q = ap (λ b. failing row s || b) (fails-append row p q) ∙ sym (or-assoc (failing row s) (fails row p) (fails row q))
 
+-- one of two, by the second
 or-mono : (a b c : Bool) → (b ≡ true → c ≡ true) → (a || b) ≡ true → (a || c) ≡ true
 or-mono true b c f h = refl
 or-mono false b c f h = f h
@@ -141,13 +143,14 @@ path-fails e row h = expr-fails e row ∙ readable-fails row h (path e row)
 abbrev pub AgreeOn : List ℕ → Row → Row → Type 0
 AgreeOn columns r s = (c : ℕ) → List·Memᴰ c columns → r c ≡ s c
 
+-- what a path reads, part by part
 columns-append : (p q : List Step) → columnsRead (p ++ q) ≡ columnsRead p ++ columnsRead q
 unfolding columnsRead
 columns-append [] q = refl
 columns-append (reads c ∷ p) q = ap (λ l. c ∷ l) (columns-append p q)
 columns-append (casts t v ∷ p) q = columns-append p q
 
--- the outcome of a first part
+-- a pair goes by its first part, and by its second where the first has an entry
 pair-decided : (f : Entry → Entry → Entry) (a a′ b b′ : Outcome) → a ≡ a′ → ((v : Entry) → a ≡ entry v → b ≡ b′) → onEntries f a b ≡ onEntries f a′ b′
 pair-decided f (entry v) a′ b b′ p q = ap₂ (onEntries f) p (q v refl)
 pair-decided f unfit a′ b b′ p q = ended b ∙ sym (ended b′) ∙ ap (λ x. onEntries f x b′) p
@@ -161,6 +164,7 @@ module _ (r s : Row) where
   abbrev Agree : List Step → Type 0
   Agree p = AgreeOn (columnsRead p) r s
 
+  -- what a first part reads is read
   agree-first : (p q : List Step) → Agree (followedBy p q) → Agree p
   unfolding followedBy
   agree-first p q = go (holdsMisfit p)
@@ -169,6 +173,7 @@ module _ (r s : Row) where
       go true h = h
       go false h = λ c m. h c (rw (columns-append p q) (Memᴰ·append-left (columnsRead q) m))
 
+  -- and what follows it, where it doesn't fail
   agree-second : (p q : List Step) → fails r p ≡ false → Agree (followedBy p q) → Agree q
   unfolding followedBy
   agree-second p q n = go (holdsMisfit p) refl
@@ -181,15 +186,18 @@ module _ (r s : Row) where
   agree-behind : (e : Expr) (q : List Step) → Agree (followedBy (path e r) q) → (v : Entry) → eval e r ≡ entry v → Agree q
   agree-behind e q h v p = agree-second (path e r) q (sym (expr-fails e r) ∙ ap isUnfit p) h
 
+  -- the same for the path that a test chooses
   either-decided : (b : Bool) (x x′ y y′ : Outcome) (p q : List Step) → Agree (cond b p q) → (Agree p → x ≡ x′) → (Agree q → y ≡ y′) → cond b x y ≡ cond b x′ y′
   either-decided true x x′ y y′ p q h k l = k h
   either-decided false x x′ y y′ p q h k l = l h
 
+  -- behind a WHEN
   chosen-decided : (test : Test) (o o′ x x′ y y′ : Outcome) (p q : List Step) → o ≡ o′ → ((v : Entry) → o ≡ entry v → Agree (chosenPath test o p q))
       → (Agree p → x ≡ x′) → (Agree q → y ≡ y′) → chosen test o x y ≡ chosen test o′ x′ y′
   chosen-decided test (entry v) o′ x x′ y y′ p q e h k l = either-decided (passes test v) x x′ y y′ p q (h v refl) k l ∙ ap (λ z. chosen test z x′ y′) e
   chosen-decided test unfit o′ x x′ y y′ p q e h k l = ap (λ z. chosen test z x′ y′) e
 
+  -- behind a base
   base-decided : (o o′ : Outcome) (x x′ : Test → Outcome) (y y′ : Outcome) (p : Test → List Step) (q : List Step) → o ≡ o′ → ((v : Entry) → o ≡ entry v → Agree (basePath o p q))
       → ((test : Test) → Agree (p test) → x test ≡ x′ test) → (Agree q → y ≡ y′) → withBase o x y ≡ withBase o′ x′ y′
   base-decided (entry v) o′ x x′ y y′ p q e h k l =
