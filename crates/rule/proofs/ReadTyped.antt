@@ -25,6 +25,7 @@ use Rattle.rule.specs.Reading.{Read, Reader, Kind, aColumn, aLiteral, aN
 use Rattle.rule.proofs.ReadInversions.{column-inv, literal-inv, unary-inv, cast-inv, binary-inv, branches-inv, optional-inv, parts-inv, case-inv, limitedCase-inv, field-inv, root-inv, rule-inv}
 use Rattle.rule.proofs.Sound.{wellTyped, wellTypedBranches, wellTypedOptional, RowTyped, tree-sound}
 
+-- two tests that hold, hold together
 both : (a b : Bool) → a ≡ true → b ≡ true → (a && b) ≡ true
 both a b p q = rw (p, q) refl
 
@@ -48,6 +49,7 @@ value-typed Int64 value v h p = number-typed int64 8 Int64 (λ n l. lt-ltb _ _ l
 value-typed Float64 value v h p = number-typed float64 8 Float64 (λ n l. lt-ltb _ _ l) value v h p
 value-typed Utf8 value v h p = subst (λ (x : Entry). ofType Utf8 x ≡ true) (ok-injective p) refl
 
+-- and so it is under a null mark
 marked-typed : (m : Bool) (t : DataType) (value : List ℕ) (v : Entry) → Bytes value → markedValue m t value ≡ ok v → ofType t v ≡ true
 unfolding markedValue ofType
 marked-typed true t value v h p = subst (λ (x : Entry). ofType t x ≡ true) (ok-injective (require-then (isEmpty value) 3 _ v p .1)) refl

@@ -49,6 +49,7 @@ ColumnsTyped cs row = (c : Column) → List·Memᴰ c cs → outcomeOfType (c .t
 abbrev pub RowTyped : Expr → Row → Type 0
 RowTyped e row = ColumnsTyped (columnsOf e) row
 
+-- columns of a list are typed if those of a longer one are
 first : (row : Row) (a b : List Column) → ColumnsTyped (a ++ b) row → ColumnsTyped a row
 first row a b h c m = h c (Memᴰ·append-left b m)
 
@@ -61,6 +62,7 @@ onEntry-typed : (s t : DataType) (f : Entry → Outcome) → ((v : Entry) → of
 onEntry-typed s t f h (entry v) p = h v p
 onEntry-typed s t f h unfit p = refl
 
+-- and so does one of two entries
 onEntries-typed : (t : DataType) (f : Entry → Entry → Entry) → ((a b : Entry) → ofType t (f a b) ≡ true)
     → (a b : Outcome) → outcomeOfType t (onEntries f a b) ≡ true
 onEntries-typed t f h (entry a) (entry b) = h a b
@@ -73,11 +75,13 @@ cond-typed : (t : DataType) (b : Bool) (x y : Outcome) → outcomeOfType t x ≡
 cond-typed t true x y p q = p
 cond-typed t false x y p q = q
 
+-- a THEN or what the later branches give
 chosen-typed : (t : DataType) (test : Test) (o then next : Outcome) → outcomeOfType t then ≡ true → outcomeOfType t next ≡ true
     → outcomeOfType t (chosen test o then next) ≡ true
 chosen-typed t test (entry v) then next p q = cond-typed t (passes test v) then next p q
 chosen-typed t test unfit then next p q = refl
 
+-- branches or ELSE, whatever the base
 base-typed : (t : DataType) (b : Optional) (row : Row) (branches : Test → Outcome) (els : Outcome)
     → ((test : Test) → outcomeOfType t (branches test) ≡ true) → outcomeOfType t els ≡ true → outcomeOfType t (evalBase b row branches els) ≡ true
 unfolding eval
@@ -91,6 +95,7 @@ base-typed t (present b) row branches els p q = go (eval b row)
 -- a tree has its type; branches and ELSE have the result's
 mutual
   unfolding eval typeOf columnsOf wellTyped nodeTyped branchesTyped ofType
+
   pub tree-sound : (e : Expr) (row : Row) → wellTyped e ≡ true → RowTyped e row → outcomeOfType (typeOf e) (eval e row) ≡ true
   tree-sound (column c) row w h = h c (List·Memᴰ·head refl)
   tree-sound (literal t v) row w h = w

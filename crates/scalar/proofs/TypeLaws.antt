@@ -59,6 +59,7 @@ signTurned-below h n b = go (ltb n (2 ^ h)) refl
     go true p = let l : n < 2 ^ h = ltb-true _ _ p in omega (arith, pow-suc 2 h)
     go false p = omega arith
 
+-- a test does not both hold and fail
 never : {A : Type 0} → false ≡ true → A
 never p = absurd (false≢true p)
 

@@ -39,6 +39,7 @@ value-typed Int64 offsets values i h = lt-ltb _ _ (numberAt-below 8 values (8 * 
 value-typed Float64 offsets values i h = lt-ltb _ _ (numberAt-below 8 values (8 * i) h)
 value-typed Utf8 offsets values i h = refl
 
+-- and so is an entry, null or not
 entry-typed : (d : TableColumn) (i : ℕ) → Bytes (d .values) → ofType (d .type) (entryAt d i) ≡ true
 unfolding ofType entryAt
 entry-typed d i h = go (validIn (d .validity) i)
@@ -51,6 +52,7 @@ entry-typed d i h = go (validIn (d .validity) i)
 abbrev FieldBytes : Field → Type 0
 FieldBytes f = Bytes (f .content) × Bytes (f .rest)
 
+-- a field of a tag has such parts
 tagged-bytes : (tag : ℕ) (bytes : List ℕ) (f : Field) → Bytes bytes → tagged tag bytes ≡ ok f → FieldBytes f
 unfolding tagged
 tagged-bytes tag bytes f h p =
@@ -58,6 +60,7 @@ tagged-bytes tag bytes f h p =
     let b = require-then (eqb (a .0 .tag) tag) 9 _ f (a .2) .1 in
     subst FieldBytes (ok-injective b) (header-bytes-parts 9 bytes (a .0) h (a .1))
 
+-- and so has one of two bytes
 pair-bytes : (tag : ℕ) (bytes : List ℕ) (f : Field) → Bytes bytes → taggedPair tag bytes ≡ ok f → FieldBytes f
 unfolding taggedPair
 pair-bytes tag bytes f h p =
@@ -115,6 +118,7 @@ body-bytes rows f c h p =
     let behind = offsets-rest (t .0) rows (y .0 .rest) (o .0) (validity-rest rows (f .rest) (y .0) h (y .1)) (o .1) in
     subst ColumnBytes (ok-injective (v .2)) (values-bytes (t .0) rows (o .0 .part) (o .0 .rest) (v .0) behind (v .1))
 
+-- a column that is read, with its head
 column-bytes : (rows : ℕ) (bytes : List ℕ) (c : Part TableColumn) → Bytes bytes → readColumn rows bytes ≡ ok c → ColumnBytes c
 unfolding readColumn readParts
 column-bytes rows bytes c h p =
@@ -127,13 +131,16 @@ column-bytes rows bytes c h p =
 abbrev AllBytes : List TableColumn → Type 0
 AllBytes cs = (c : ℕ) (d : TableColumn) → getElem? cs c ≡ some d → Bytes (d .values)
 
+-- of no column
 none-bytes : AllBytes []
 none-bytes c d q = let z : _≡_ {A = ℕ} 0 1 = cc in absurd (omega arith)
 
+-- of one column more
 more-bytes : (a : TableColumn) (cs : List TableColumn) → Bytes (a .values) → AllBytes cs → AllBytes (a ∷ cs)
 more-bytes a cs h k zero d q = let e : a ≡ d = cc in subst (λ (x : TableColumn). Bytes (x .values)) e h
 more-bytes a cs h k (suc c) d q = k c d q
 
+-- of the columns that are read
 columns-bytes : (rows left : ℕ) (bytes : List ℕ) (cs : List TableColumn) → Bytes bytes → readColumns rows left bytes ≡ ok cs → AllBytes cs
 unfolding readColumns
 columns-bytes rows zero [] cs h p = subst AllBytes (ok-injective p) none-bytes
@@ -145,6 +152,7 @@ columns-bytes rows (suc left) (b ∷ bytes) cs h p =
     let i = column-bytes rows (b ∷ bytes) (a .0) h (a .1) in
     subst AllBytes (ok-injective (r .2)) (more-bytes (a .0 .part) (r .0) (i .0) (columns-bytes rows left (a .0 .rest) (r .0) (i .1) (r .1)))
 
+-- of an accepted table
 table-bytes : (bytes : List ℕ) (t : Table) → Bytes bytes → readTable bytes ≡ ok t → AllBytes (t .columns)
 unfolding readTable
 table-bytes bytes t h p =
