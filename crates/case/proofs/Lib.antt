@@ -1,8 +1,6 @@
--- The theorems of `case`.
+-- The laws and theorems of `case`.
 pub mod CasesHold
 pub mod RunLaws
-pub mod DemandsHold
--- The laws of `case`.
 pub mod AnswerLaws
--- The laws of `case`.
 pub mod RowsTyped
+pub mod DemandsHold

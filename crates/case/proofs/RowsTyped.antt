@@ -15,7 +15,7 @@ use Rattle.rule.specs.Typing.{typeOf}
 use Rattle.rule.specs.Row.{eval}
 use Rattle.rule.specs.Constant.{columnsOf}
 use Rattle.rule.specs.Reading.{readRule}
-use Rattle.rule.proofs.ReadInversions.{and-true}
+use Rattle.layout.proofs.TestLaws.{both-hold}
 use Rattle.rule.proofs.Sound.{RowTyped}
 use Rattle.rule.proofs.ReadTyped.{rule-sound}
 use Rattle.table.specs.Column.{TableColumn, entryAt}
@@ -28,15 +28,15 @@ named-fits : (c : Column) (cs : List Column) (columns : List TableColumn) → Li
     → columnFits c (getElem? columns (c .index)) ≡ true
 unfolding columnsFit
 named-fits c (d ∷ cs) columns (List·Memᴰ·head e) p =
-    subst (λ (x : Column). columnFits x (getElem? columns (x .index)) ≡ true) (sym e) (and-true (columnFits d (getElem? columns (d .index))) (columnsFit cs columns) p .0)
-named-fits c (d ∷ cs) columns (List·Memᴰ·tail m) p = named-fits c cs columns m (and-true (columnFits d (getElem? columns (d .index))) (columnsFit cs columns) p .1)
+    subst (λ (x : Column). columnFits x (getElem? columns (x .index)) ≡ true) (sym e) (both-hold (columnFits d (getElem? columns (d .index))) (columnsFit cs columns) p .0)
+named-fits c (d ∷ cs) columns (List·Memᴰ·tail m) p = named-fits c cs columns m (both-hold (columnFits d (getElem? columns (d .index))) (columnsFit cs columns) p .1)
 
 -- the entry of a column that fits is of the type that the rule says
 entry-typed : (c : Column) (o : Option TableColumn) (i : ℕ) → ((d : TableColumn) → o ≡ some d → ofType (d .type) (entryAt d i) ≡ true)
     → columnFits c o ≡ true → ofType (c .type) (entryIn o i) ≡ true
 entry-typed c none i h p = absurd (false≢true p)
 entry-typed c (some d) i h p =
-    let same = sameType-eq (c .type) (d .type) (and-true (sameType (c .type) (d .type)) (c .nullable || not (d .nullable)) p .0) in
+    let same = sameType-eq (c .type) (d .type) (both-hold (sameType (c .type) (d .type)) (c .nullable || not (d .nullable)) p .0) in
     rw same (h d refl)
 
 -- the rows of an accepted table that fits a rule

@@ -134,15 +134,17 @@ run-answered rule table work output answer e t p q r =
     let a = bind-ok (require (fits e t) 13) _ answer r′ in
     let b = bind-ok (require (leb workLeast work) 14) _ answer (a .2) in
     let c = bind-ok (entriesOf (outcomes e t)) _ answer (b .2) in
-    let w = written-answered e (c .0) output answer (c .2) in
-    (c .0, record {
-      fit = require-ok _ 13 (a .0) (a .1);
-      full = leb-true _ _ (require-ok _ 14 (b .0) (b .1));
-      entries = c .1;
-      text = w .0;
-      bytes = w .1;
-      room = w .2;
-    })
+    let w = written-answered e (c .0) output answer (c .2) in (
+      c .0,
+      record {
+        fit = require-ok _ 13 (a .0) (a .1);
+        full = leb-true _ _ (require-ok _ 14 (b .0) (b .1));
+        entries = c .1;
+        text = w .0;
+        bytes = w .1;
+        room = w .2;
+      },
+    )
 
 -- writing is not refused with 15
 written-not-15 : (e : Expr) (es : List Entry) (output : ℕ) → written e es output ≡ refused 15 → ⊥

@@ -10,6 +10,7 @@ use borrow.Author.Tests.{eqb-true, leb-true, ltb-true, not-true}
 use Rattle.layout.specs.Result.{refused, ok, _>>=_}
 use Rattle.layout.specs.Bytes.{byte, number}
 use Rattle.layout.specs.Field.{Field, header}
+use Rattle.layout.proofs.TestLaws.{both-hold}
 use Rattle.layout.proofs.ResultLaws.{refused-not-ok, ok-injective, bind-ok, require-then}
 use Rattle.scalar.specs.declared.types.DataType.{DataType}
 use Rattle.scalar.specs.Types.{typeNumber, typeNumbered, markNumber, markNumbered}
@@ -24,11 +25,6 @@ use Rattle.rule.specs.Reading.{Read, Reader, Kind, aCase, tagOf, kinds, 
 pub isEmpty-true : {A : Type 0} (l : List A) → isEmpty l ≡ true → l ≡ []
 isEmpty-true [] e = refl
 isEmpty-true (a ∷ l) e = cc
-
--- two tests that hold together hold each
-pub and-true : (a b : Bool) → a && b ≡ true → (a ≡ true) × (b ≡ true)
-and-true true b e = (refl, e)
-and-true false b e = (e, cc)
 
 -- the byte at the start of a content is its first
 pub firstByte-inv : (l : List ℕ) (b : ℕ) → firstByte l ≡ ok b → l ≡ b ∷ drop 1 l
@@ -220,7 +216,7 @@ pub rule-inv : (bytes : List ℕ) (e : Expr) → readRule bytes ≡ ok e
 unfolding readRule
 rule-inv bytes e p =
     let l = require-then _ _ _ e p in
-    let both = and-true (ltb 0 (length bytes)) (leb (length bytes) 4096) (l .0) in
+    let both = both-hold (ltb 0 (length bytes)) (leb (length bytes) 4096) (l .0) in
     let r = bind-ok _ _ e (l .1) in
     let s = require-then _ _ _ e (r .2) in
     let c = require-then _ _ _ e (s .1) in

@@ -17,7 +17,7 @@ use Rattle.rule.specs.Tree.{Column, Expr, column, literal, negation, neg
 use Rattle.rule.specs.Typing.{typeOf, resultType, whenType, branchesTyped, elseTyped, nodeTyped}
 use Rattle.rule.specs.Row.{Row, Test, equalsTest, isTrueTest, passes, chosen, withBase, eval, evalBase, evalBranches, evalElse}
 use Rattle.rule.specs.Constant.{columnsOf, branchesColumns, optionalColumns}
-use Rattle.rule.proofs.ReadInversions.{and-true}
+use Rattle.layout.proofs.TestLaws.{both-hold}
 
 -- every node's children have types that fit it, and every literal is of its type
 unfoldable mutual
@@ -100,21 +100,21 @@ mutual
   tree-sound (column c) row w h = h c (List·Memᴰ·head refl)
   tree-sound (literal t v) row w h = w
   tree-sound (negation e) row w h =
-      onEntry-typed (typeOf e) Boolean (λ v. entry (notEntry v)) (λ v p. not-typed v) (eval e row) (tree-sound e row (and-true (nodeTyped (negation e)) (wellTyped e) w .1) h)
+      onEntry-typed (typeOf e) Boolean (λ v. entry (notEntry v)) (λ v p. not-typed v) (eval e row) (tree-sound e row (both-hold (nodeTyped (negation e)) (wellTyped e) w .1) h)
   tree-sound (negative e) row w h =
-      onEntry-typed (typeOf e) (typeOf e) (λ v. entry (negativeEntry v)) (negative-typed (typeOf e)) (eval e row) (tree-sound e row (and-true (nodeTyped (negative e)) (wellTyped e) w .1) h)
+      onEntry-typed (typeOf e) (typeOf e) (λ v. entry (negativeEntry v)) (negative-typed (typeOf e)) (eval e row) (tree-sound e row (both-hold (nodeTyped (negative e)) (wellTyped e) w .1) h)
   tree-sound (isNotNull e) row w h =
       onEntry-typed (typeOf e) Boolean (λ v. entry (isNotNullEntry v)) (λ v p. isNotNull-typed v) (eval e row) (tree-sound e row w h)
   tree-sound (cast t e) row w h =
-      onEntry-typed (typeOf e) t (castEntry t) (λ v p. cast-typed t v (typeOf e) p) (eval e row) (tree-sound e row (and-true (nodeTyped (cast t e)) (wellTyped e) w .1) h)
+      onEntry-typed (typeOf e) t (castEntry t) (λ v p. cast-typed t v (typeOf e) p) (eval e row) (tree-sound e row (both-hold (nodeTyped (cast t e)) (wellTyped e) w .1) h)
   tree-sound (tryCast t e) row w h =
-      onEntry-typed (typeOf e) t (λ v. entry (tryCastEntry t v)) (λ v p. tryCast-typed t v (typeOf e) p) (eval e row) (tree-sound e row (and-true (nodeTyped (tryCast t e)) (wellTyped e) w .1) h)
+      onEntry-typed (typeOf e) t (λ v. entry (tryCastEntry t v)) (λ v p. tryCast-typed t v (typeOf e) p) (eval e row) (tree-sound e row (both-hold (nodeTyped (tryCast t e)) (wellTyped e) w .1) h)
   tree-sound (equal a b) row w h = onEntries-typed Boolean equalEntry equal-typed (eval a row) (eval b row)
   tree-sound (less a b) row w h = onEntries-typed Boolean lessEntry less-typed (eval a row) (eval b row)
   tree-sound (caseWhen b bs e) row w h =
-      let node = and-true (nodeTyped (caseWhen b bs e)) (wellTypedOptional b && (wellTypedBranches bs && wellTypedOptional e)) w in
-      let parts = and-true (wellTypedBranches bs) (wellTypedOptional e) (and-true (wellTypedOptional b) (wellTypedBranches bs && wellTypedOptional e) (node .1) .1) in
-      let typed = and-true (branchesTyped (whenType b) (resultType bs) bs) (elseTyped (resultType bs) e) (node .0) .0 in
+      let node = both-hold (nodeTyped (caseWhen b bs e)) (wellTypedOptional b && (wellTypedBranches bs && wellTypedOptional e)) w in
+      let parts = both-hold (wellTypedBranches bs) (wellTypedOptional e) (both-hold (wellTypedOptional b) (wellTypedBranches bs && wellTypedOptional e) (node .1) .1) in
+      let typed = both-hold (branchesTyped (whenType b) (resultType bs) bs) (elseTyped (resultType bs) e) (node .0) .0 in
       let behind = later row (optionalColumns b) (branchesColumns bs ++ optionalColumns e) h in
       let els = else-sound e row (resultType bs) (parts .1) (later row (branchesColumns bs) (optionalColumns e) behind) in
       base-typed (resultType bs) b row _ _
@@ -124,9 +124,9 @@ mutual
       → ColumnsTyped (branchesColumns bs) row → outcomeOfType result els ≡ true → outcomeOfType result (evalBranches bs row test els) ≡ true
   branches-sound noMore row test els when result w b h p = p
   branches-sound (branch v t bs) row test els when result w b h p =
-      let parts = and-true (wellTyped t) (wellTypedBranches bs) (and-true (wellTyped v) (wellTyped t && wellTypedBranches bs) w .1) in
-      let typed = and-true (sameType (typeOf v) when && sameType (typeOf t) result) (branchesTyped when result bs) b in
-      let same = sameType-eq (typeOf t) result (and-true (sameType (typeOf v) when) (sameType (typeOf t) result) (typed .0) .1) in
+      let parts = both-hold (wellTyped t) (wellTypedBranches bs) (both-hold (wellTyped v) (wellTyped t && wellTypedBranches bs) w .1) in
+      let typed = both-hold (sameType (typeOf v) when && sameType (typeOf t) result) (branchesTyped when result bs) b in
+      let same = sameType-eq (typeOf t) result (both-hold (sameType (typeOf v) when) (sameType (typeOf t) result) (typed .0) .1) in
       let behind = later row (columnsOf v) (columnsOf t ++ branchesColumns bs) h in
       let then = tree-sound t row (parts .0) (first row (columnsOf t) (branchesColumns bs) behind) in
       chosen-typed result test (eval v row) (eval t row) (evalBranches bs row test els) (rw same at then)

@@ -1,2 +1,3 @@
 -- The laws of `table`.
+pub mod TableInversions
 pub mod TableTyped

@@ -9,6 +9,7 @@ use native.Mathlib.Omega.{arith}
 use lib.Dec.{eqb, leb, ltb}
 use lib.ListN.{length, take, drop, getElem?, length-take}
 use borrow.Author.Tests.{lt-ltb}
+use Rattle.table.proofs.TableInversions.{table-inv}
 use Rattle.layout.specs.Result.{ok}
 use Rattle.layout.specs.Bytes.{Bytes, byte, number, numberAt, bitmapLength}
 use Rattle.layout.specs.Field.{Field, header}
@@ -154,14 +155,9 @@ columns-bytes rows (suc left) (b ∷ bytes) cs h p =
 
 -- of an accepted table
 table-bytes : (bytes : List ℕ) (t : Table) → Bytes bytes → readTable bytes ≡ ok t → AllBytes (t .columns)
-unfolding readTable
 table-bytes bytes t h p =
-    let a = require-then (ltb 0 (length bytes) && leb (length bytes) bytesMost) 9 _ t p .1 in
-    let f = bind-ok (taggedPair 1 bytes) _ t a in
-    let b = require-then (leb (number (f .0 .content)) rowsMost) 10 _ t (f .2) .1 in
-    let cs = bind-ok (readColumns (number (f .0 .content)) columnsMost (f .0 .rest)) _ t b in
-    let read = columns-bytes (number (f .0 .content)) columnsMost (f .0 .rest) (cs .0) (pair-bytes 1 bytes (f .0) h (f .1) .1) (cs .1) in
-    subst (λ (x : Table). AllBytes (x .columns)) (ok-injective (cs .2)) read
+    let i = table-inv bytes t p in
+    columns-bytes (number (i .first .content)) columnsMost (i .first .rest) (t .columns) (pair-bytes 1 bytes (i .first) h (i .first-reads) .1) (i .columns-read)
 
 -- an accepted table's entries are of their columns' types
 pub table-typed : (bytes : List ℕ) (t : Table) → Bytes bytes → readTable bytes ≡ ok t → (c : ℕ) (d : TableColumn) → getElem? (t .columns) c ≡ some d
