@@ -1,9 +1,11 @@
 -- Numbers and bits in bytes (01, Bytes of a rule; Bytes of a table).
+use mathlib.Core.Path.{_≡_}
 use mathlib.Core.Bool.{Bool, true, false, cond}
 use mathlib.Core.List.{List, [], _∷_, _++_}
 use Prim.Native.Nat.{ℕ, zero, suc, _+_, _-_, _*_, _/_, _%_, _^_, _<_}
-use lib.Dec.{eqb}
+use lib.Dec.{eqb, leb}
 use lib.ListN.{length, getD, take, drop}
+use lib.Seq.{sets}
 
 -- a slice of bytes has nothing else in it
 abbrev pub Bytes : List ℕ → Type 0
@@ -50,3 +52,12 @@ bitNumber (b ∷ l) = cond b 1 0 + 2 * bitNumber l
 -- bits as a bitmap; spare bits are zero on writing (01, Bytes of a table)
 abbrev pub bitmap : List Bool → List ℕ
 bitmap bits = numberBytes (bitmapLength (length bits)) (bitNumber bits)
+
+-- the part from one place to another
+abbrev pub part : List ℕ → ℕ → ℕ → List ℕ
+part l from to = take (to - from) (drop from l)
+
+-- a number written into k bytes at a place where they fit, and nothing changed where they don't
+pub record Written (k : ℕ) (l : List ℕ) (at n : ℕ) (done : Bool) (l′ : List ℕ) : Type 0 where
+  pub says : done ≡ leb (at + k) (length l)
+  pub holds : l′ ≡ cond done (sets l at (numberBytes k n)) l

@@ -20,7 +20,7 @@ use Rattle.scalar.proofs.TypesLaws.{markNumbered-ok}
 use Rattle.rule.specs.Tree.{Column, Expr, column, literal, negation, negative, isNotNull, cast, tryCast, equal, less, caseWhen, Branches, branch, Optional, branchCount}
 use Rattle.rule.specs.TreeBytes.{valueBytes, isPresent, flagsOf, bytesOf, branchesBytes, optionalBytes}
 use Rattle.rule.specs.Reading.{Read, Reader, Kind, aColumn, aLiteral, aNot, aNegative, anIsNotNull, aCast, aTryCast, anEqual, aLess, aCase, tagOf, readColumn, numberOf, literalValue, markedValue, readLiteral, readUnary, readCast, readBinary, readBranches, readOptional, hasBase, hasElse, readParts, readCase, readLimitedCase, readKind, readField, depthMost, casesMost, readRule}
-use Rattle.rule.proofs.ReadInversions.{isEmpty-true, column-inv, numberOf-inv, literal-inv, unary-inv, cast-inv, binary-inv, branches-inv, optional-inv, parts-inv, case-inv, limitedCase-inv, field-inv, root-inv, rule-inv}
+use Rattle.rule.proofs.ReadInversions.{isEmpty-true, column-inv, numberOf-inv, literal-inv, unary-inv, cast-inv, binary-inv, branches-inv, branches-count, optional-inv, parts-inv, case-inv, limitedCase-inv, field-inv, root-inv, rule-inv}
 
 -- what a reader takes from the front of bytes is the bytes of the tree that it gives
 abbrev pub Faithful : Reader Expr → Type 0
@@ -108,9 +108,9 @@ flags-are (suc (suc zero)) base els h p q = rw (p, q)
 flags-are (suc (suc (suc zero))) base els h p q = rw (p, q)
 flags-are (suc (suc (suc (suc n)))) base els h p q = absurd (omega arith)
 
--- so many branches, and their bytes
-abbrev pub BranchesAre : ℕ → List ℕ → Read Branches → Type 0
-BranchesAre n bytes r = (bytes ≡ branchesBytes (r .tree) ++ r .rest) × Bytes (r .rest) × (branchCount (r .tree) ≡ n)
+-- branches, and their bytes
+abbrev pub BranchesAre : List ℕ → Read Branches → Type 0
+BranchesAre bytes r = (bytes ≡ branchesBytes (r .tree) ++ r .rest) × Bytes (r .rest)
 
 -- a part that is there or not, and its bytes
 abbrev pub OptionalIs : Bool → List ℕ → Read Optional → Type 0
@@ -147,16 +147,16 @@ module _ (child : Reader Expr) (faithful : Faithful child) where
       closed tag content rest (y .seen) (node (x .tree) (y .tree)) r (ap (fieldBytes tag) both ∙ sym (is (x .tree) (y .tree))) gives
 
   -- branches, as many as asked for
-  pub branches-bytes : (n : ℕ) (bytes : List ℕ) (seen : List Column) (r : Read Branches) → Bytes bytes → readBranches child n bytes seen ≡ ok r → BranchesAre n bytes r
-  unfolding readBranches bytesOf branchCount
-  branches-bytes zero bytes seen r b p = subst (BranchesAre zero bytes) (ok-injective p) (refl, b, refl)
+  pub branches-bytes : (n : ℕ) (bytes : List ℕ) (seen : List Column) (r : Read Branches) → Bytes bytes → readBranches child n bytes seen ≡ ok r → BranchesAre bytes r
+  unfolding readBranches bytesOf
+  branches-bytes zero bytes seen r b p = subst (BranchesAre bytes) (ok-injective p) (refl, b)
   branches-bytes (suc n) bytes seen r b p =
       let (w, t, bs, gotW, gotT, later, gives) = branches-inv child n bytes seen r p in
       let h = faithful bytes seen w b gotW in
       let k = faithful (w .rest) (w .seen) t (h .1) gotT in
       let l = branches-bytes n (t .rest) (t .seen) bs (k .1) later in
       let all = joined (bytesOf (w .tree)) (bytesOf (t .tree)) (branchesBytes (bs .tree)) (bs .rest) (h .0) (k .0) (l .0) in
-      subst (BranchesAre (suc n) bytes) (sym gives) (all, l .1, ap suc (l .2))
+      subst (BranchesAre bytes) (sym gives) (all, l .1)
 
   -- a part by its flag
   pub optional-bytes : (flag : Bool) (bytes : List ℕ) (seen : List Column) (r : Read Optional) → Bytes bytes → readOptional flag child bytes seen ≡ ok r
@@ -180,7 +180,7 @@ module _ (child : Reader Expr) (faithful : Faithful child) where
       let parts = joined (optionalBytes (base .tree)) (branchesBytes (bs .tree)) (optionalBytes (els .tree)) (els .rest) (h .0) (k .0) (l .0) in
       let all = alone bytes (optionalBytes (base .tree) ++ (branchesBytes (bs .tree) ++ optionalBytes (els .tree))) (els .rest) parts end in
       let flag = flags-are flags (base .tree) (els .tree) most (h .2) (l .2) in
-      let head = ap₂ (λ (x y : ℕ). x ∷ y ∷ bytes) flag (sym (k .2)) in
+      let head = ap₂ (λ (x y : ℕ). x ∷ y ∷ bytes) flag (sym (branches-count child count (base .rest) (base .seen) bs gotBs)) in
       let same = head ∙ ap (λ (x : List ℕ). flagsOf (base .tree) (els .tree) ∷ branchCount (bs .tree) ∷ x) all in
       closed 25 (flags ∷ count ∷ bytes) rest (els .seen) (caseWhen (base .tree) (bs .tree) (els .tree)) r (ap (fieldBytes 25) same) gives
 

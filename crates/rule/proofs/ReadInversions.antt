@@ -16,7 +16,7 @@ use Rattle.scalar.specs.declared.types.DataType.{DataType}
 use Rattle.scalar.specs.Types.{typeNumber, typeNumbered, markNumber, markNumbered}
 use Rattle.scalar.specs.Entry.{Entry}
 use Rattle.scalar.proofs.TypesLaws.{typeNumbered-ok, markNumbered-ok}
-use Rattle.rule.specs.Tree.{Column, Expr, column, literal, caseWhen, Branches, branch, Optional, present}
+use Rattle.rule.specs.Tree.{Column, Expr, column, literal, caseWhen, Branches, branch, Optional, present, branchCount}
 use Rattle.rule.specs.Typing.{nodeTyped}
 use Rattle.rule.specs.Constant.{isEmpty, constantFails}
 use Rattle.rule.specs.Reading.{Read, Reader, Kind, aCase, tagOf, kinds, kindAmong, kindOf, firstByte, unlikeEarlier, readColumn, numberOf, markedValue, readLiteral, closeNode, readUnary, readCast, readBinary, readBranches, readOptional, hasBase, hasElse, readParts, readCase, readLimitedCase, readKind, readField, depthMost, casesMost, readRoot, readRule}
@@ -144,6 +144,15 @@ branches-inv child n bytes seen r p =
     let t = bind-ok _ _ r (w .2) in
     let bs = bind-ok _ _ r (t .2) in
     (w .0, t .0, bs .0, w .1, t .1, bs .1, sym (ok-injective (bs .2)))
+
+-- as many branches as were asked for
+pub branches-count : (child : Reader Expr) (n : ℕ) (bytes : List ℕ) (seen : List Column) (r : Read Branches) → readBranches child n bytes seen ≡ ok r
+    → branchCount (r .tree) ≡ n
+unfolding readBranches branchCount
+branches-count child zero bytes seen r p = ap (λ (x : Read Branches). branchCount (x .tree)) (sym (ok-injective p))
+branches-count child (suc n) bytes seen r p =
+    let i = branches-inv child n bytes seen r p in
+    ap (λ (x : Read Branches). branchCount (x .tree)) (i .6) ∙ ap suc (branches-count child n (i .1 .rest) (i .1 .seen) (i .2) (i .5))
 
 -- a part that is there is a field
 pub optional-inv : (child : Reader Expr) (bytes : List ℕ) (seen : List Column) (r : Read Optional) → readOptional true child bytes seen ≡ ok r

@@ -1,12 +1,12 @@
--- An accepted rule is well-typed, so it has its type at every row whose columns have theirs. Assumes nothing.
+-- An accepted rule is well-formed, so it has its type at every row whose columns have theirs. Assumes nothing.
 use mathlib.Core.Bool.{Bool, true, false, _&&_}
 use mathlib.Core.Path.{_≡_, refl, ap, sym, subst, _∙_}
 use mathlib.Core.List.{List, []}
-use Prim.Native.Nat.{ℕ, zero, suc, _^_, _<_}
+use Prim.Native.Nat.{ℕ, zero, suc, _^_, _<_, _≤_}
 use native.Mathlib.Omega.{arith}
 use lib.Dec.{eqb}
 use lib.ListN.{length, drop}
-use borrow.Author.Tests.{eqb-true, lt-ltb}
+use borrow.Author.Tests.{eqb-true, lt-ltb, le-leb}
 use Rattle.layout.specs.Result.{ok}
 use Rattle.layout.specs.Bytes.{Bytes, byte, number}
 use Rattle.layout.specs.Field.{Field}
@@ -17,13 +17,14 @@ use Rattle.scalar.specs.declared.types.DataType.{DataType}
 use Rattle.scalar.specs.declared.types.DataType.the-variants.{Boolean, Int32, Int64, Float64, Utf8}
 use Rattle.scalar.specs.Types.{markNumbered}
 use Rattle.scalar.specs.Entry.{Entry, int32, int64, float64, ofType, outcomeOfType}
-use Rattle.rule.specs.Tree.{Column, Expr, negation, negative, isNotNull, cast, tryCast, equal, less}
+use Rattle.rule.specs.Tree.{Column, Expr, negation, negative, isNotNull, cast, tryCast, equal, less, branchCount}
 use Rattle.rule.specs.Typing.{typeOf, nodeTyped}
 use Rattle.rule.specs.Row.{Row, eval}
 use Rattle.rule.specs.Constant.{isEmpty}
 use Rattle.rule.specs.Reading.{Read, Reader, Kind, aColumn, aLiteral, aNot, aNegative, anIsNotNull, aCast, aTryCast, anEqual, aLess, aCase, numberOf, literalValue, markedValue, readColumn, readLiteral, readUnary, readCast, readBinary, readCase, readBranches, readOptional, hasBase, hasElse, readParts, readKind, readField, depthMost, casesMost, readRule}
-use Rattle.rule.proofs.ReadInversions.{column-inv, literal-inv, unary-inv, cast-inv, binary-inv, branches-inv, optional-inv, parts-inv, case-inv, limitedCase-inv, field-inv, root-inv, rule-inv}
-use Rattle.rule.proofs.Sound.{wellTyped, wellTypedBranches, wellTypedOptional, RowTyped, tree-sound}
+use Rattle.rule.proofs.ReadInversions.{column-inv, literal-inv, unary-inv, cast-inv, binary-inv, branches-inv, branches-count, optional-inv, parts-inv, case-inv, limitedCase-inv, field-inv, root-inv, rule-inv}
+use Rattle.rule.specs.WellFormed.{wellFormed, wellFormedBranches, wellFormedOptional}
+use Rattle.rule.proofs.Sound.{RowTyped, tree-sound}
 
 -- two tests that hold, hold together
 both : (a b : Bool) → a ≡ true → b ≡ true → (a && b) ≡ true
@@ -64,80 +65,82 @@ abbrev Typed : {A : Type 0} → (A → Bool) → Reader A → Type 0
 Typed typed read = (bytes : List ℕ) (seen : List Column) (r : Read _) → Bytes bytes → read bytes seen ≡ ok r → Good typed r
 
 -- a column or a literal
-column-good : (f : Field) (seen : List Column) (r : Read Expr) → Bytes (f .rest) → readColumn f seen ≡ ok r → Good wellTyped r
-unfolding wellTyped
-column-good f seen r h p = let i = column-inv f seen r p in subst (Good wellTyped) (sym (i .3)) (refl, h)
+column-good : (f : Field) (seen : List Column) (r : Read Expr) → Bytes (f .rest) → readColumn f seen ≡ ok r → Good wellFormed r
+unfolding wellFormed
+column-good f seen r h p = let i = column-inv f seen r p in subst (Good wellFormed) (sym (i .3)) (refl, h)
 
-literal-good : (f : Field) (seen : List Column) (r : Read Expr) → Bytes (f .content) → Bytes (f .rest) → readLiteral f seen ≡ ok r → Good wellTyped r
-unfolding wellTyped
+literal-good : (f : Field) (seen : List Column) (r : Read Expr) → Bytes (f .content) → Bytes (f .rest) → readLiteral f seen ≡ ok r → Good wellFormed r
+unfolding wellFormed
 literal-good f seen r c h p =
     let i = literal-inv f seen r p in
-    subst (Good wellTyped) (sym (i .5)) (marked-typed (i .1) (i .0) (drop 2 (f .content)) (i .2) (bytes-drop 2 (f .content) c) (i .4), h)
+    subst (Good wellFormed) (sym (i .5)) (marked-typed (i .1) (i .0) (drop 2 (f .content)) (i .2) (bytes-drop 2 (f .content) c) (i .4), h)
 
 -- branches and parts that may be absent
-module _ (child : Reader Expr) (ih : Typed wellTyped child) where
-  branches-good : (n : ℕ) → Typed wellTypedBranches (readBranches child n)
-  unfolding readBranches wellTyped
-  branches-good zero bytes seen r h p = subst (Good wellTypedBranches) (ok-injective p) (refl, h)
+module _ (child : Reader Expr) (ih : Typed wellFormed child) where
+  branches-good : (n : ℕ) → Typed wellFormedBranches (readBranches child n)
+  unfolding readBranches wellFormed
+  branches-good zero bytes seen r h p = subst (Good wellFormedBranches) (ok-injective p) (refl, h)
   branches-good (suc n) bytes seen r h p =
       let i = branches-inv child n bytes seen r p in
       let w = ih bytes seen (i .0) h (i .3) in
       let t = ih (i .0 .rest) (i .0 .seen) (i .1) (w .1) (i .4) in
       let bs = branches-good n (i .1 .rest) (i .1 .seen) (i .2) (t .1) (i .5) in
-      subst (Good wellTypedBranches) (sym (i .6)) (both _ _ (w .0) (both _ _ (t .0) (bs .0)), bs .1)
+      subst (Good wellFormedBranches) (sym (i .6)) (both _ _ (w .0) (both _ _ (t .0) (bs .0)), bs .1)
 
-  optional-good : (there : Bool) → Typed wellTypedOptional (readOptional there child)
-  unfolding readOptional wellTyped
-  optional-good false bytes seen r h p = subst (Good wellTypedOptional) (ok-injective p) (refl, h)
+  optional-good : (there : Bool) → Typed wellFormedOptional (readOptional there child)
+  unfolding readOptional wellFormed
+  optional-good false bytes seen r h p = subst (Good wellFormedOptional) (ok-injective p) (refl, h)
   optional-good true bytes seen r h p =
       let i = optional-inv child bytes seen r p in
-      subst (Good wellTypedOptional) (sym (i .2)) (ih bytes seen (i .0) h (i .1))
+      subst (Good wellFormedOptional) (sym (i .2)) (ih bytes seen (i .0) h (i .1))
 
 -- a node that keeps its children well-typed, if their types fit it
 abbrev Keeps : (Expr → Expr) → Type 0
-Keeps node = (e : Expr) → nodeTyped (node e) ≡ true → wellTyped e ≡ true → wellTyped (node e) ≡ true
+Keeps node = (e : Expr) → nodeTyped (node e) ≡ true → wellFormed e ≡ true → wellFormed (node e) ≡ true
 
 abbrev KeepsBoth : (Expr → Expr → Expr) → Type 0
-KeepsBoth node = (a b : Expr) → nodeTyped (node a b) ≡ true → wellTyped a ≡ true → wellTyped b ≡ true → wellTyped (node a b) ≡ true
+KeepsBoth node = (a b : Expr) → nodeTyped (node a b) ≡ true → wellFormed a ≡ true → wellFormed b ≡ true → wellFormed (node a b) ≡ true
 
 -- nodes whose children are read so
-module _ (child : Reader Expr) (ih : Typed wellTyped child) (content : List ℕ) (inside : Bytes content) (seen : List Column) (rest : List ℕ) (behind : Bytes rest) (r : Read Expr) where
-  unary-good : (node : Expr → Expr) → Keeps node → readUnary node child content seen rest ≡ ok r → Good wellTyped r
+module _ (child : Reader Expr) (ih : Typed wellFormed child) (content : List ℕ) (inside : Bytes content) (seen : List Column) (rest : List ℕ) (behind : Bytes rest) (r : Read Expr) where
+  unary-good : (node : Expr → Expr) → Keeps node → readUnary node child content seen rest ≡ ok r → Good wellFormed r
   unary-good node keeps p =
       let i = unary-inv node child content seen rest r p in
-      subst (Good wellTyped) (sym (i .4)) (keeps (i .0 .tree) (i .3) (ih content seen (i .0) inside (i .1) .0), behind)
+      subst (Good wellFormed) (sym (i .4)) (keeps (i .0 .tree) (i .3) (ih content seen (i .0) inside (i .1) .0), behind)
 
-  binary-good : (node : Expr → Expr → Expr) → KeepsBoth node → readBinary node child content seen rest ≡ ok r → Good wellTyped r
+  binary-good : (node : Expr → Expr → Expr) → KeepsBoth node → readBinary node child content seen rest ≡ ok r → Good wellFormed r
   binary-good node keeps p =
       let i = binary-inv node child content seen rest r p in
       let a = ih content seen (i .0) inside (i .2) in
       let b = ih (i .0 .rest) (i .0 .seen) (i .1) (a .1) (i .3) in
-      subst (Good wellTyped) (sym (i .6)) (keeps (i .0 .tree) (i .1 .tree) (i .5) (a .0) (b .0), behind)
+      subst (Good wellFormed) (sym (i .6)) (keeps (i .0 .tree) (i .1 .tree) (i .5) (a .0) (b .0), behind)
 
-  parts-good : (flags count : ℕ) → readParts child flags count content seen rest ≡ ok r → Good wellTyped r
-  unfolding wellTyped
-  parts-good flags count p =
+  parts-good : (flags count : ℕ) → 0 < count → count ≤ 32 → readParts child flags count content seen rest ≡ ok r → Good wellFormed r
+  unfolding wellFormed
+  parts-good flags count some few p =
       let i = parts-inv child flags count content seen rest r p in
       let b = optional-good child ih (hasBase flags) content seen (i .0) inside (i .3) in
       let bs = branches-good child ih count (i .0 .rest) (i .0 .seen) (i .1) (b .1) (i .4) in
       let e = optional-good child ih (hasElse flags) (i .1 .rest) (i .1 .seen) (i .2) (bs .1) (i .5) in
-      subst (Good wellTyped) (sym (i .8)) (both _ _ (i .7) (both _ _ (b .0) (both _ _ (bs .0) (e .0))), behind)
+      let n : branchCount (i .1 .tree) ≡ count = branches-count child count (i .0 .rest) (i .0 .seen) (i .1) (i .4) in
+      let count-fits = both _ _ (lt-ltb 0 (branchCount (i .1 .tree)) (omega arith)) (le-leb (branchCount (i .1 .tree)) 32 (omega arith)) in
+      subst (Good wellFormed) (sym (i .8)) (both _ _ count-fits (both _ _ (i .7) (both _ _ (b .0) (both _ _ (bs .0) (e .0)))), behind)
 
-module _ (child : Reader Expr) (ih : Typed wellTyped child) (content : List ℕ) (inside : Bytes content) (seen : List Column) (rest : List ℕ) (behind : Bytes rest) (r : Read Expr) where
-  cast-good : (node : DataType → Expr → Expr) → ((t : DataType) → Keeps (node t)) → readCast node child content seen rest ≡ ok r → Good wellTyped r
+module _ (child : Reader Expr) (ih : Typed wellFormed child) (content : List ℕ) (inside : Bytes content) (seen : List Column) (rest : List ℕ) (behind : Bytes rest) (r : Read Expr) where
+  cast-good : (node : DataType → Expr → Expr) → ((t : DataType) → Keeps (node t)) → readCast node child content seen rest ≡ ok r → Good wellFormed r
   cast-good node keeps p =
       let i = cast-inv node child content seen rest r p in
       unary-good child ih (drop 1 content) (bytes-drop 1 content inside) seen rest behind r (node (i .0)) (keeps (i .0)) (i .2)
 
-  case-good : readCase child content seen rest ≡ ok r → Good wellTyped r
+  case-good : readCase child content seen rest ≡ ok r → Good wellFormed r
   case-good p =
       let i = case-inv child content seen rest r p in
-      parts-good child ih (drop 2 content) (bytes-drop 2 content inside) seen rest behind r (i .0) (i .1) (i .6)
+      parts-good child ih (drop 2 content) (bytes-drop 2 content inside) seen rest behind r (i .0) (i .1) (i .4) (i .5) (i .6)
 
 -- a field by its kind
-kind-good : (child : ℕ → Reader Expr) → ((n : ℕ) → Typed wellTyped (child n)) → (cases : ℕ) (k : Kind) (f : Field) (seen : List Column) (r : Read Expr)
-    → Bytes (f .content) → Bytes (f .rest) → readKind child cases k f seen ≡ ok r → Good wellTyped r
-unfolding readKind wellTyped
+kind-good : (child : ℕ → Reader Expr) → ((n : ℕ) → Typed wellFormed (child n)) → (cases : ℕ) (k : Kind) (f : Field) (seen : List Column) (r : Read Expr)
+    → Bytes (f .content) → Bytes (f .rest) → readKind child cases k f seen ≡ ok r → Good wellFormed r
+unfolding readKind wellFormed
 kind-good child ih cases aColumn f seen r c h p = column-good f seen r h p
 kind-good child ih cases aLiteral f seen r c h p = literal-good f seen r c h p
 kind-good child ih cases aNot f seen r c h p = unary-good (child cases) (ih cases) (f .content) c seen (f .rest) h r negation (λ e. both _ _) p
@@ -152,7 +155,7 @@ kind-good child ih cases aCase f seen r c h p =
     case-good (child (i .0)) (ih (i .0)) (f .content) c seen (f .rest) h r (i .2)
 
 -- a field
-field-good : (depth cases : ℕ) → Typed wellTyped (readField depth cases)
+field-good : (depth cases : ℕ) → Typed wellFormed (readField depth cases)
 field-good zero cases bytes seen r h p = let i = field-inv zero cases bytes seen r p in absurd (omega arith)
 field-good (suc depth) cases bytes seen r h p =
     let i = field-inv (suc depth) cases bytes seen r p in
@@ -162,11 +165,11 @@ field-good (suc depth) cases bytes seen r h p =
     (subst (λ (d : ℕ). readKind (readField d) cases (i .2) (i .1) seen ≡ ok r) e (i .6))
 
 -- every node of an accepted rule passed its test, and its literals are of their types
-pub read-typed : (rule : List ℕ) (e : Expr) → Bytes rule → readRule rule ≡ ok e → wellTyped e ≡ true
+pub read-typed : (rule : List ℕ) (e : Expr) → Bytes rule → readRule rule ≡ ok e → wellFormed e ≡ true
 read-typed rule e h p =
     let i = rule-inv rule e p in
     let j = root-inv rule (i .0) (i .3) in
-    ap wellTyped (i .6) ∙ field-good depthMost casesMost rule [] (i .0) h (j .3) .0
+    ap wellFormed (i .6) ∙ field-good depthMost casesMost rule [] (i .0) h (j .3) .0
 
 -- an accepted rule has its type at every row whose columns have theirs
 pub rule-sound : (rule : List ℕ) (e : Expr) (row : Row) → Bytes rule → readRule rule ≡ ok e → RowTyped e row → outcomeOfType (typeOf e) (eval e row) ≡ true

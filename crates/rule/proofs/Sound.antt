@@ -1,4 +1,4 @@
--- A well-typed tree has its type at every row whose columns have theirs. Assumes nothing.
+-- A well-formed tree has its type at every row whose columns have theirs. Assumes nothing.
 use mathlib.Core.Bool.{Bool, true, false, cond, _&&_}
 use mathlib.Core.Path.{_≡_, refl}
 use mathlib.Core.List.{List, _++_, List·Memᴰ, List·Memᴰ·head, Memᴰ·append-left, Memᴰ·append-right}
@@ -15,31 +15,10 @@ use Rattle.scalar.specs.Compare.{equalEntry, lessEntry}
 use Rattle.scalar.proofs.TypeLaws.{sameType-eq, not-typed, isNotNull-typed, negative-typed, cast-typed, tryCast-typed, equal-typed, less-typed}
 use Rattle.rule.specs.Tree.{Column, Expr, column, literal, negation, negative, isNotNull, cast, tryCast, equal, less, caseWhen, Branches, noMore, branch, Optional, absent, present}
 use Rattle.rule.specs.Typing.{typeOf, resultType, whenType, branchesTyped, elseTyped, nodeTyped}
+use Rattle.rule.specs.WellFormed.{countFits, wellFormed, wellFormedBranches, wellFormedOptional}
 use Rattle.rule.specs.Row.{Row, Test, equalsTest, isTrueTest, passes, chosen, withBase, eval, evalBase, evalBranches, evalElse}
 use Rattle.rule.specs.Constant.{columnsOf, branchesColumns, optionalColumns}
 use Rattle.layout.proofs.TestLaws.{both-hold}
-
--- every node's children have types that fit it, and every literal is of its type
-unfoldable mutual
-  pub wellTyped : Expr → Bool
-  wellTyped (column c) = true
-  wellTyped (literal t v) = ofType t v
-  wellTyped (negation e) = nodeTyped (negation e) && wellTyped e
-  wellTyped (negative e) = nodeTyped (negative e) && wellTyped e
-  wellTyped (isNotNull e) = nodeTyped (isNotNull e) && wellTyped e
-  wellTyped (cast t e) = nodeTyped (cast t e) && wellTyped e
-  wellTyped (tryCast t e) = nodeTyped (tryCast t e) && wellTyped e
-  wellTyped (equal a b) = nodeTyped (equal a b) && (wellTyped a && wellTyped b)
-  wellTyped (less a b) = nodeTyped (less a b) && (wellTyped a && wellTyped b)
-  wellTyped (caseWhen b bs e) = nodeTyped (caseWhen b bs e) && (wellTypedOptional b && (wellTypedBranches bs && wellTypedOptional e))
-
-  pub wellTypedBranches : Branches → Bool
-  wellTypedBranches noMore = true
-  wellTypedBranches (branch w t bs) = wellTyped w && (wellTyped t && wellTypedBranches bs)
-
-  pub wellTypedOptional : Optional → Bool
-  wellTypedOptional absent = true
-  wellTypedOptional (present e) = wellTyped e
 
 -- what a row has in each of these columns is of its type
 abbrev pub ColumnsTyped : List Column → Row → Type 0
@@ -94,37 +73,38 @@ base-typed t (present b) row branches els p q = go (eval b row)
 
 -- a tree has its type; branches and ELSE have the result's
 mutual
-  unfolding eval typeOf columnsOf wellTyped nodeTyped branchesTyped ofType
+  unfolding eval typeOf columnsOf wellFormed nodeTyped branchesTyped ofType
 
-  pub tree-sound : (e : Expr) (row : Row) → wellTyped e ≡ true → RowTyped e row → outcomeOfType (typeOf e) (eval e row) ≡ true
+  pub tree-sound : (e : Expr) (row : Row) → wellFormed e ≡ true → RowTyped e row → outcomeOfType (typeOf e) (eval e row) ≡ true
   tree-sound (column c) row w h = h c (List·Memᴰ·head refl)
   tree-sound (literal t v) row w h = w
   tree-sound (negation e) row w h =
-      onEntry-typed (typeOf e) Boolean (λ v. entry (notEntry v)) (λ v p. not-typed v) (eval e row) (tree-sound e row (both-hold (nodeTyped (negation e)) (wellTyped e) w .1) h)
+      onEntry-typed (typeOf e) Boolean (λ v. entry (notEntry v)) (λ v p. not-typed v) (eval e row) (tree-sound e row (both-hold (nodeTyped (negation e)) (wellFormed e) w .1) h)
   tree-sound (negative e) row w h =
-      onEntry-typed (typeOf e) (typeOf e) (λ v. entry (negativeEntry v)) (negative-typed (typeOf e)) (eval e row) (tree-sound e row (both-hold (nodeTyped (negative e)) (wellTyped e) w .1) h)
+      onEntry-typed (typeOf e) (typeOf e) (λ v. entry (negativeEntry v)) (negative-typed (typeOf e)) (eval e row) (tree-sound e row (both-hold (nodeTyped (negative e)) (wellFormed e) w .1) h)
   tree-sound (isNotNull e) row w h =
       onEntry-typed (typeOf e) Boolean (λ v. entry (isNotNullEntry v)) (λ v p. isNotNull-typed v) (eval e row) (tree-sound e row w h)
   tree-sound (cast t e) row w h =
-      onEntry-typed (typeOf e) t (castEntry t) (λ v p. cast-typed t v (typeOf e) p) (eval e row) (tree-sound e row (both-hold (nodeTyped (cast t e)) (wellTyped e) w .1) h)
+      onEntry-typed (typeOf e) t (castEntry t) (λ v p. cast-typed t v (typeOf e) p) (eval e row) (tree-sound e row (both-hold (nodeTyped (cast t e)) (wellFormed e) w .1) h)
   tree-sound (tryCast t e) row w h =
-      onEntry-typed (typeOf e) t (λ v. entry (tryCastEntry t v)) (λ v p. tryCast-typed t v (typeOf e) p) (eval e row) (tree-sound e row (both-hold (nodeTyped (tryCast t e)) (wellTyped e) w .1) h)
+      onEntry-typed (typeOf e) t (λ v. entry (tryCastEntry t v)) (λ v p. tryCast-typed t v (typeOf e) p) (eval e row) (tree-sound e row (both-hold (nodeTyped (tryCast t e)) (wellFormed e) w .1) h)
   tree-sound (equal a b) row w h = onEntries-typed Boolean equalEntry equal-typed (eval a row) (eval b row)
   tree-sound (less a b) row w h = onEntries-typed Boolean lessEntry less-typed (eval a row) (eval b row)
   tree-sound (caseWhen b bs e) row w h =
-      let node = both-hold (nodeTyped (caseWhen b bs e)) (wellTypedOptional b && (wellTypedBranches bs && wellTypedOptional e)) w in
-      let parts = both-hold (wellTypedBranches bs) (wellTypedOptional e) (both-hold (wellTypedOptional b) (wellTypedBranches bs && wellTypedOptional e) (node .1) .1) in
+      let counted = both-hold (countFits bs) (nodeTyped (caseWhen b bs e) && (wellFormedOptional b && (wellFormedBranches bs && wellFormedOptional e))) w in
+      let node = both-hold (nodeTyped (caseWhen b bs e)) (wellFormedOptional b && (wellFormedBranches bs && wellFormedOptional e)) (counted .1) in
+      let parts = both-hold (wellFormedBranches bs) (wellFormedOptional e) (both-hold (wellFormedOptional b) (wellFormedBranches bs && wellFormedOptional e) (node .1) .1) in
       let typed = both-hold (branchesTyped (whenType b) (resultType bs) bs) (elseTyped (resultType bs) e) (node .0) .0 in
       let behind = later row (optionalColumns b) (branchesColumns bs ++ optionalColumns e) h in
       let els = else-sound e row (resultType bs) (parts .1) (later row (branchesColumns bs) (optionalColumns e) behind) in
       base-typed (resultType bs) b row _ _
       (λ test. branches-sound bs row test (evalElse e row (resultType bs)) (whenType b) (resultType bs) (parts .0) typed (first row (branchesColumns bs) (optionalColumns e) behind) els) els
 
-  branches-sound : (bs : Branches) (row : Row) (test : Test) (els : Outcome) (when result : DataType) → wellTypedBranches bs ≡ true → branchesTyped when result bs ≡ true
+  branches-sound : (bs : Branches) (row : Row) (test : Test) (els : Outcome) (when result : DataType) → wellFormedBranches bs ≡ true → branchesTyped when result bs ≡ true
       → ColumnsTyped (branchesColumns bs) row → outcomeOfType result els ≡ true → outcomeOfType result (evalBranches bs row test els) ≡ true
   branches-sound noMore row test els when result w b h p = p
   branches-sound (branch v t bs) row test els when result w b h p =
-      let parts = both-hold (wellTyped t) (wellTypedBranches bs) (both-hold (wellTyped v) (wellTyped t && wellTypedBranches bs) w .1) in
+      let parts = both-hold (wellFormed t) (wellFormedBranches bs) (both-hold (wellFormed v) (wellFormed t && wellFormedBranches bs) w .1) in
       let typed = both-hold (sameType (typeOf v) when && sameType (typeOf t) result) (branchesTyped when result bs) b in
       let same = sameType-eq (typeOf t) result (both-hold (sameType (typeOf v) when) (sameType (typeOf t) result) (typed .0) .1) in
       let behind = later row (columnsOf v) (columnsOf t ++ branchesColumns bs) h in
@@ -132,7 +112,7 @@ mutual
       chosen-typed result test (eval v row) (eval t row) (evalBranches bs row test els) (rw same at then)
       (branches-sound bs row test els when result (parts .1) (typed .1) (later row (columnsOf t) (branchesColumns bs) behind) p)
 
-  else-sound : (e : Optional) (row : Row) (result : DataType) → wellTypedOptional e ≡ true → ColumnsTyped (optionalColumns e) row
+  else-sound : (e : Optional) (row : Row) (result : DataType) → wellFormedOptional e ≡ true → ColumnsTyped (optionalColumns e) row
       → outcomeOfType result (evalElse e row result) ≡ true
   else-sound absent row result w h = refl
   else-sound (present e) row result w h =

@@ -5,6 +5,8 @@ pub mod Row
 pub mod Path
 pub mod Constant
 pub mod Typing
+pub mod WellFormed
+pub mod Node
 pub mod Reading
 pub mod Strategy
 pub mod Projection
