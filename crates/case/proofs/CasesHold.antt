@@ -13,7 +13,7 @@ use Rattle.rule.specs.TreeBytes.{bytesOf}
 use Rattle.rule.specs.Typing.{typeOf, branchesTyped, nodeTyped}
 use Rattle.rule.specs.Row.{eval}
 use Rattle.rule.specs.Constant.{columnsOf, constantFails}
-use Rattle.rule.specs.Reading.{kindAmong, unlikeEarlier, readColumn, literalValue, markedValue, readLiteral, closeNode, readUnary, readCast, readBinary, readBranches, readOptional, readParts, readCase, readLimitedCase, readKind, readField, readRoot, readRule}
+use Rattle.rule.specs.Reading.{kindAmong, unlikeEarlier, readColumn, literalValue, markedValue, readLiteral, closeNode, readUnary, readCast, readBinary, readBranches, readOptional, readParts, readCase, readLimitedCase, readKind, readField, readRoot, readTree, readRule}
 use Rattle.rule.specs.Nullable.{stripped, replaced, reachable, nullable}
 use Rattle.table.specs.Column.{valueAt, entryAt}
 use Rattle.table.specs.Reading.{tagged, taggedPair, readValidity, readValues, readBody, readParts as readTableParts, noNull, readColumn as readTableColumn, readColumns, readTable}
@@ -24,5 +24,5 @@ use Rattle.case.specs.Cases.{Case, provedCases, given}
 
 -- every case gives what is expected
 pub cases-hold : map given provedCases ≡ map (λ c. c .expected) provedCases
-unfolding number numberBytes bitNumber header fieldBytes castEntry bitsOf pairOf sameBytes typeNumbered markNumbered branchCount bytesOf typeOf branchesTyped nodeTyped eval columnsOf constantFails kindAmong unlikeEarlier readColumn literalValue markedValue readLiteral closeNode readUnary readCast readBinary readBranches readOptional readParts readCase readLimitedCase readKind readField readRoot readRule stripped replaced reachable nullable valueAt entryAt tagged taggedPair readValidity readValues readBody readTableParts noNull readTableColumn readColumns readTable columnsFit someNull numbersOf textsOf columnBytes rowsFrom entriesOf written runRead run
+unfolding number numberBytes bitNumber header fieldBytes castEntry bitsOf pairOf sameBytes typeNumbered markNumbered branchCount bytesOf typeOf branchesTyped nodeTyped eval columnsOf constantFails kindAmong unlikeEarlier readColumn literalValue markedValue readLiteral closeNode readUnary readCast readBinary readBranches readOptional readParts readCase readLimitedCase readKind readField readRoot readTree readRule stripped replaced reachable nullable valueAt entryAt tagged taggedPair readValidity readValues readBody readTableParts noNull readTableColumn readColumns readTable columnsFit someNull numbersOf textsOf columnBytes rowsFrom entriesOf written runRead run
 cases-hold = refl

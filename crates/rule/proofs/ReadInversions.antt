@@ -19,7 +19,7 @@ use Rattle.scalar.proofs.TypesLaws.{typeNumbered-ok, markNumbered-ok}
 use Rattle.rule.specs.Tree.{Column, Expr, column, literal, caseWhen, Branches, branch, Optional, present, branchCount}
 use Rattle.rule.specs.Typing.{nodeTyped}
 use Rattle.rule.specs.Constant.{isEmpty, constantFails}
-use Rattle.rule.specs.Reading.{Read, Reader, Kind, aCase, tagOf, kinds, kindAmong, kindOf, firstByte, unlikeEarlier, readColumn, numberOf, markedValue, readLiteral, closeNode, readUnary, readCast, readBinary, readBranches, readOptional, hasBase, hasElse, readParts, readCase, readLimitedCase, readKind, readField, depthMost, casesMost, readRoot, readRule}
+use Rattle.rule.specs.Reading.{Read, Reader, Kind, aCase, tagOf, kinds, kindAmong, kindOf, firstByte, unlikeEarlier, readColumn, numberOf, markedValue, readLiteral, closeNode, readUnary, readCast, readBinary, readBranches, readOptional, hasBase, hasElse, readParts, readCase, readLimitedCase, readKind, readField, depthMost, casesMost, readRoot, readTree, readRule}
 
 -- nothing is left over
 pub isEmpty-true : {A : Type 0} (l : List A) → isEmpty l ≡ true → l ≡ []
@@ -218,15 +218,25 @@ root-inv bytes r p =
     let t = require-then _ _ _ r (f .2) in
     (f .0, f .1, eqb-true _ _ (t .0), t .1)
 
--- a rule is its root, and no cast without a column under it fails
+-- a rule that is read whole, but for its constant casts
+pub tree-inv : (bytes : List ℕ) (r : Read Expr) → readTree bytes ≡ ok r
+    → (0 < length bytes) × (length bytes ≤ 4096) × (readRoot bytes ≡ ok r) × (r .rest ≡ [])
+unfolding readTree
+tree-inv bytes r p =
+    let l = require-then _ _ _ r p in
+    let both = both-hold (ltb 0 (length bytes)) (leb (length bytes) 4096) (l .0) in
+    let s = bind-ok _ _ r (l .1) in
+    let q = require-then _ _ _ r (s .2) in
+    let same : s .0 ≡ r = ok-injective (q .1) in
+    (ltb-true _ _ (both .0), leb-true _ _ (both .1), s .1 ∙ ap ok same, sym (ap (λ (x : Read Expr). x .rest) same) ∙ isEmpty-true (s .0 .rest) (q .0))
+
+-- an accepted rule
 pub rule-inv : (bytes : List ℕ) (e : Expr) → readRule bytes ≡ ok e
     → (r : Read Expr) × (0 < length bytes) × (length bytes ≤ 4096) × (readRoot bytes ≡ ok r) × (r .rest ≡ []) × (constantFails (r .tree) ≡ false)
     × (e ≡ r .tree)
 unfolding readRule
 rule-inv bytes e p =
-    let l = require-then _ _ _ e p in
-    let both = both-hold (ltb 0 (length bytes)) (leb (length bytes) 4096) (l .0) in
-    let r = bind-ok _ _ e (l .1) in
-    let s = require-then _ _ _ e (r .2) in
-    let c = require-then _ _ _ e (s .1) in
-    (r .0, ltb-true _ _ (both .0), leb-true _ _ (both .1), r .1, isEmpty-true (r .0 .rest) (s .0), not-true _ (c .0), sym (ok-injective (c .1)))
+    let r = bind-ok _ _ e p in
+    let c = require-then _ _ _ e (r .2) in
+    let t = tree-inv bytes (r .0) (r .1) in
+    (r .0, t .0, t .1, t .2, t .3, not-true _ (c .0), sym (ok-injective (c .1)))

@@ -217,11 +217,17 @@ readRoot bytes = do
   _ ← require (eqb (f .tag) (tagOf aCase)) 3
   readField depthMost casesMost bytes []
 
--- a rule is one CASE field with no byte after it, of at most 4,096 bytes; no cast without a column under it fails
-unfoldable pub readRule : List ℕ → Result Expr
-readRule bytes = do
+-- a rule is one CASE field with no byte after it, of at most 4,096 bytes
+unfoldable pub readTree : List ℕ → Result (Read Expr)
+readTree bytes = do
   _ ← require (ltb 0 (length bytes) && leb (length bytes) 4096) 1
   r ← readRoot bytes
   _ ← require (isEmpty (r .rest)) 3
+  ok r
+
+-- after the whole rule: no cast without a column under it fails
+unfoldable pub readRule : List ℕ → Result Expr
+readRule bytes = do
+  r ← readTree bytes
   _ ← require (not (constantFails (r .tree))) 8
   ok (r .tree)
