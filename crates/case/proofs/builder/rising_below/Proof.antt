@@ -1,0 +1,72 @@
+use Rattle.case.proofs.builder.rising_below.Statement.{statement}
+use Rattle.case.proofs.builder.rising_below.Tie as tie
+use Rattle.case.proofs.builder.rising_below.Reads as reads
+use Rattle.case.proofs.builder.rising_below.Lts as lts
+
+abbrev Inv-loop : tie.InvT-loop
+Inv-loop rows count from₀ i₀ from i = ?
+
+abbrev μ-loop : tie.MeasureT-loop
+μ-loop rows count from₀ i₀ from i = ?
+
+-- src/builder.rt:40:5
+loop-holds : tie.Need-loop-holds Inv-loop μ-loop
+loop-holds c = ?
+
+-- src/builder.rt:41:19
+mul-row : tie.Need-mul-row Inv-loop μ-loop
+mul-row c = ?
+
+-- src/builder.rt:41:19
+shared-slice-read-row : tie.Need-shared-slice-read-row Inv-loop μ-loop
+shared-slice-read-row c = ?
+
+-- src/builder.rt:41:19
+cast-row : tie.Need-cast-row Inv-loop μ-loop
+cast-row c = ?
+
+-- src/builder.rt:43:13
+returns : tie.Need-returns Inv-loop μ-loop
+returns c = ?
+
+-- src/builder.rt:46:13
+returns-2 : tie.Need-returns-2 Inv-loop μ-loop
+returns-2 c = ?
+
+-- src/builder.rt:48:16
+add-from : tie.Need-add-from Inv-loop μ-loop
+add-from c = ?
+
+-- src/builder.rt:49:9
+add-i : tie.Need-add-i Inv-loop μ-loop
+add-i c = ?
+
+-- src/builder.rt:40:5
+loop-less : tie.Need-loop-less Inv-loop μ-loop
+loop-less c = ?
+
+-- src/builder.rt:40:5
+loop-again : tie.Need-loop-again Inv-loop μ-loop
+loop-again c = ?
+
+-- src/builder.rt:35:1
+returns-3 : tie.Need-returns-3 Inv-loop μ-loop
+returns-3 c = ?
+
+pub rising-below-spec : {M : Type 1} → statement M
+rising-below-spec =
+    tie.close
+    (tie.spec
+    Inv-loop
+    μ-loop
+    loop-holds
+    mul-row
+    shared-slice-read-row
+    cast-row
+    returns
+    returns-2
+    add-from
+    add-i
+    loop-less
+    loop-again
+    returns-3)
