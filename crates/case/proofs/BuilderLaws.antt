@@ -1,0 +1,145 @@
+-- The loops of `ResultBuilder` beside its definitions. Assumes nothing.
+use mathlib.Core.Path.{_≡_, refl, sym, ap, subst, _∙_}
+use mathlib.Core.Bool.{Bool, true, false, _&&_, _||_}
+use mathlib.Core.List.{List, [], _∷_, map}
+use mathlib.Core.Option.{Option, some, none}
+use Prim.Native.Nat.{ℕ, zero, suc, _+_, _-_, _<_, _≤_}
+use native.Mathlib.Omega.{arith}
+use native.Mathlib.Numerals.{add-one}
+use lib.Dec.{leb, ltb}
+use lib.ListN.{length, getD, take, drop, set, length-set, drop-of-length-le}
+use lib.Seq.{drop-cons, getD-take, take-set-lt}
+use borrow.Author.Tests.{le-leb, lt-leb, lt-ltb, le-ltb, leb-true, ltb-true}
+use Rattle.layout.proofs.TestLaws.{both-hold}
+use Rattle.case.specs.Builder.{risingBelow, holds, someHeld, holdAll}
+use Rattle.case.specs.BuilderStruct.{marked, heldAll, heldIn}
+
+-- ---- rows that rise below a count
+
+-- where the loop stands: what is left decides
+pub record RisesSoFar (rows : List ℕ) (count from i : ℕ) : Type 0 where
+  pub few : i ≤ length rows
+  pub small : from ≤ 65536
+  pub same : risingBelow 0 count rows ≡ risingBelow from count (drop i rows)
+
+pub rises-none : (rows : List ℕ) (count : ℕ) → RisesSoFar rows count 0 0
+rises-none rows count = record { few = omega arith; small = omega arith; same = refl }
+
+module _ (rows : List ℕ) (count from i : ℕ) (s : RisesSoFar rows count from i) (h : i < length rows) where
+  -- the tests of the next row
+  next-row : risingBelow from count (drop i rows) ≡ (leb from (getD rows i 0) && ltb (getD rows i 0) count && risingBelow (suc (getD rows i 0)) count (drop (suc i) rows))
+  unfolding risingBelow
+  next-row = rw (drop-cons rows i 0 h) refl
+
+  pub rises-more : from ≤ getD rows i 0 → getD rows i 0 < count → getD rows i 0 < 65536 → RisesSoFar rows count (getD rows i 0 + 1) (i + 1)
+  rises-more p q b = record {
+      few = omega arith;
+      small = omega arith;
+      same = s .same ∙ next-row ∙ simp (le-leb _ _ p, lt-ltb _ _ q, add-one);
+    }
+
+  pub rises-falls : getD rows i 0 < from → false ≡ risingBelow 0 count rows
+  rises-falls p = sym (s .same ∙ next-row ∙ simp (lt-leb _ _ p))
+
+  pub rises-above : from ≤ getD rows i 0 → count ≤ getD rows i 0 → false ≡ risingBelow 0 count rows
+  rises-above p q = sym (s .same ∙ next-row ∙ simp (le-leb _ _ p, le-ltb _ _ q))
+
+pub rises-all : (rows : List ℕ) (count from i : ℕ) → RisesSoFar rows count from i → length rows ≤ i → true ≡ risingBelow 0 count rows
+unfolding risingBelow
+rises-all rows count from i s h = sym (s .same ∙ rw (drop-of-length-le rows h) refl)
+
+-- each row of rising rows lies below the count
+pub rises-below : (rows : List ℕ) (from count i : ℕ) → risingBelow from count rows ≡ true → i < length rows → getD rows i 0 < count
+unfolding risingBelow
+rises-below [] from count i p h = absurd (omega arith)
+rises-below (r ∷ rows) from count zero p h =
+    ltb-true r count (both-hold (leb from r) (ltb r count) (both-hold (leb from r && ltb r count) (risingBelow (suc r) count rows) p .0) .1)
+rises-below (r ∷ rows) from count (suc i) p h =
+    rises-below rows (suc r) count i (both-hold (leb from r && ltb r count) (risingBelow (suc r) count rows) p .1) (omega arith)
+
+-- ---- marks and values
+
+-- the value of a row, by its mark
+pub held-at : (marks values : List ℕ) (r : ℕ) → r < length marks → r < length values → getD (heldAll marks values) r none ≡ marked (getD marks r 0) (getD values r 0)
+unfolding heldAll
+held-at [] values r p q = absurd (omega arith)
+held-at (m ∷ marks) [] r p q = absurd (omega arith)
+held-at (m ∷ marks) (v ∷ values) zero p q = refl
+held-at (m ∷ marks) (v ∷ values) (suc r) p q = held-at marks values r (omega arith) (omega arith)
+
+-- a row that is marked holds its value
+pub held-set : (marks values : List ℕ) (r v : ℕ) → r < length marks → r < length values
+    → heldAll (set marks r 1) (set values r v) ≡ set (heldAll marks values) r (some v)
+unfolding heldAll
+held-set [] values r v p q = absurd (omega arith)
+held-set (m ∷ marks) [] r v p q = absurd (omega arith)
+held-set (m ∷ marks) (w ∷ values) zero v p q = refl
+held-set (m ∷ marks) (w ∷ values) (suc r) v p q = ap (λ (l : List (Option ℕ)). marked m w ∷ l) (held-set marks values r v (omega arith) (omega arith))
+
+-- ---- a row that is held already
+
+pub record NoneSoFar (held : List (Option ℕ)) (rows : List ℕ) (i : ℕ) : Type 0 where
+  pub few : i ≤ length rows
+  pub same : someHeld held rows ≡ someHeld held (drop i rows)
+
+pub none-yet : (held : List (Option ℕ)) (rows : List ℕ) → NoneSoFar held rows 0
+none-yet held rows = record { few = omega arith; same = refl }
+
+module _ (count : ℕ) (marks values rows : List ℕ) (i : ℕ) (s : NoneSoFar (heldIn count marks values) rows i) (h : i < length rows)
+    (below : getD rows i 0 < count) (a : count ≤ length marks) (b : count ≤ length values) where
+  next-held : someHeld (heldIn count marks values) (drop i rows)
+      ≡ (holds (marked (getD marks (getD rows i 0) 0) (getD values (getD rows i 0) 0)) || someHeld (heldIn count marks values) (drop (suc i) rows))
+  unfolding someHeld
+  next-held =
+      rw (drop-cons rows i 0 h)
+      (ap (λ (o : Option ℕ). holds o || someHeld (heldIn count marks values) (drop (suc i) rows))
+      (getD-take count (heldAll marks values) (getD rows i 0) none below ∙ held-at marks values (getD rows i 0) (omega arith) (omega arith)))
+
+  pub held-found : (getD marks (getD rows i 0) 0 ≡ 0 → ⊥) → true ≡ someHeld (heldIn count marks values) rows
+  held-found n = sym (s .same ∙ next-held ∙ go (getD marks (getD rows i 0) 0) n)
+    where
+      go : (m : ℕ) → (m ≡ 0 → ⊥) → (holds (marked m (getD values (getD rows i 0) 0)) || someHeld (heldIn count marks values) (drop (suc i) rows)) ≡ true
+      go zero n = absurd (n refl)
+      go (suc m) n = refl
+
+  pub held-more : getD marks (getD rows i 0) 0 ≡ 0 → NoneSoFar (heldIn count marks values) rows (i + 1)
+  held-more z = record { few = omega arith; same = s .same ∙ next-held ∙ simp (z, add-one) }
+
+pub held-none : (held : List (Option ℕ)) (rows : List ℕ) (i : ℕ) → NoneSoFar held rows i → length rows ≤ i → false ≡ someHeld held rows
+unfolding someHeld
+held-none held rows i s h = sym (s .same ∙ rw (drop-of-length-le rows h) refl)
+
+-- ---- the values of rows, stored one after the other
+
+pub record HoldsSoFar (count : ℕ) (marks values rows given : List ℕ) (i : ℕ) (marks′ values′ : List ℕ) : Type 0 where
+  pub few : i ≤ length rows
+  pub long : length marks′ ≡ length marks
+  pub long-values : length values′ ≡ length values
+  pub same : holdAll (heldIn count marks values) rows given ≡ holdAll (heldIn count marks′ values′) (drop i rows) (drop i given)
+
+pub holds-none : (count : ℕ) (marks values rows given : List ℕ) → HoldsSoFar count marks values rows given 0 marks values
+holds-none count marks values rows given = record { few = omega arith; long = refl; long-values = refl; same = refl }
+
+pub holds-more : (count : ℕ) (marks values rows given : List ℕ) (i : ℕ) (marks′ values′ : List ℕ) → HoldsSoFar count marks values rows given i marks′ values′
+    → i < length rows → length rows ≡ length given → getD rows i 0 < count → count ≤ length marks → count ≤ length values
+    → HoldsSoFar count marks values rows given (i + 1) (set marks′ (getD rows i 0) 1) (set values′ (getD rows i 0) (getD given i 0))
+unfolding holdAll
+holds-more count marks values rows given i marks′ values′ s h e below a b =
+    let r = getD rows i 0 in
+    let v = getD given i 0 in
+    let stored : set (heldIn count marks′ values′) r (some v) ≡ heldIn count (set marks′ r 1) (set values′ r v) =
+      sym (ap (take count) (held-set marks′ values′ r v (omega (arith, s .long)) (omega (arith, s .long-values))) ∙ take-set-lt count (heldAll marks′ values′) r (some v) below) in
+    record {
+      few = omega arith;
+      long = length-set marks′ r 1 ∙ s .long;
+      long-values = length-set values′ r v ∙ s .long-values;
+      same = s .same
+        ∙ rw (drop-cons rows i 0 h, drop-cons given i 0 (omega arith)) refl
+        ∙ ap (λ (held : List (Option ℕ)). holdAll held (drop (suc i) rows) (drop (suc i) given)) stored
+        ∙ rw (← add-one i) refl;
+    }
+
+pub holds-all : (count : ℕ) (marks values rows given : List ℕ) (i : ℕ) (marks′ values′ : List ℕ) → HoldsSoFar count marks values rows given i marks′ values′ → length rows ≤ i
+    → heldIn count marks′ values′ ≡ holdAll (heldIn count marks values) rows given
+unfolding holdAll
+holds-all count marks values rows given i marks′ values′ s h = sym (s .same ∙ rw (drop-of-length-le rows h) refl)
