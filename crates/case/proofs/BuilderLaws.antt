@@ -1,18 +1,18 @@
 -- The loops of `ResultBuilder` beside its definitions. Assumes nothing.
-use mathlib.Core.Path.{_≡_, refl, sym, ap, subst, _∙_}
-use mathlib.Core.Bool.{Bool, true, false, _&&_, _||_}
+use mathlib.Core.Path.{_≡_, refl, sym, ap, ap₂, _∙_}
+use mathlib.Core.Bool.{Bool, true, false, not, _&&_, _||_}
 use mathlib.Core.List.{List, [], _∷_, map}
 use mathlib.Core.Option.{Option, some, none}
 use Prim.Native.Nat.{ℕ, zero, suc, _+_, _-_, _<_, _≤_}
 use native.Mathlib.Omega.{arith}
 use native.Mathlib.Numerals.{add-one}
-use lib.Dec.{leb, ltb}
+use lib.Dec.{leb, ltb, eqb, eqb·suc-zero}
 use lib.ListN.{length, getD, take, drop, set, length-set, drop-of-length-le}
 use lib.Seq.{drop-cons, getD-take, take-set-lt}
-use borrow.Author.Tests.{le-leb, lt-leb, lt-ltb, le-ltb, leb-true, ltb-true}
+use borrow.Author.Tests.{le-leb, lt-leb, lt-ltb, le-ltb, ltb-true, eq-eqb, ne-eqb}
 use Rattle.layout.proofs.TestLaws.{both-hold}
 use Rattle.case.specs.Builder.{risingBelow, holds, someHeld, holdAll}
-use Rattle.case.specs.BuilderStruct.{marked, heldAll, heldIn}
+use Rattle.case.specs.BuilderStruct.{marked, heldAll, heldIn, someMarked}
 
 -- ---- rows that rise below a count
 
@@ -78,36 +78,44 @@ held-set (m ∷ marks) (w ∷ values) (suc r) v p q = ap (λ (l : List (Option �
 
 -- ---- a row that is held already
 
-pub record NoneSoFar (held : List (Option ℕ)) (rows : List ℕ) (i : ℕ) : Type 0 where
+-- where the loop stands: what is left decides
+pub record NoneSoFar (marks rows : List ℕ) (i : ℕ) : Type 0 where
   pub few : i ≤ length rows
-  pub same : someHeld held rows ≡ someHeld held (drop i rows)
+  pub same : someMarked marks rows ≡ someMarked marks (drop i rows)
 
-pub none-yet : (held : List (Option ℕ)) (rows : List ℕ) → NoneSoFar held rows 0
-none-yet held rows = record { few = omega arith; same = refl }
+pub none-yet : (marks rows : List ℕ) → NoneSoFar marks rows 0
+none-yet marks rows = record { few = omega arith; same = refl }
 
-module _ (count : ℕ) (marks values rows : List ℕ) (i : ℕ) (s : NoneSoFar (heldIn count marks values) rows i) (h : i < length rows)
-    (below : getD rows i 0 < count) (a : count ≤ length marks) (b : count ≤ length values) where
-  next-held : someHeld (heldIn count marks values) (drop i rows)
-      ≡ (holds (marked (getD marks (getD rows i 0) 0) (getD values (getD rows i 0) 0)) || someHeld (heldIn count marks values) (drop (suc i) rows))
-  unfolding someHeld
-  next-held =
-      rw (drop-cons rows i 0 h)
-      (ap (λ (o : Option ℕ). holds o || someHeld (heldIn count marks values) (drop (suc i) rows))
-      (getD-take count (heldAll marks values) (getD rows i 0) none below ∙ held-at marks values (getD rows i 0) (omega arith) (omega arith)))
+module _ (marks rows : List ℕ) (i : ℕ) (s : NoneSoFar marks rows i) (h : i < length rows) where
+  next-mark : someMarked marks (drop i rows) ≡ (not (eqb (getD marks (getD rows i 0) 0) 0) || someMarked marks (drop (suc i) rows))
+  unfolding someMarked
+  next-mark = rw (drop-cons rows i 0 h) refl
 
-  pub held-found : (getD marks (getD rows i 0) 0 ≡ 0 → ⊥) → true ≡ someHeld (heldIn count marks values) rows
-  held-found n = sym (s .same ∙ next-held ∙ go (getD marks (getD rows i 0) 0) n)
-    where
-      go : (m : ℕ) → (m ≡ 0 → ⊥) → (holds (marked m (getD values (getD rows i 0) 0)) || someHeld (heldIn count marks values) (drop (suc i) rows)) ≡ true
-      go zero n = absurd (n refl)
-      go (suc m) n = refl
+  pub mark-found : (getD marks (getD rows i 0) 0 ≡ 0 → ⊥) → true ≡ someMarked marks rows
+  mark-found n = sym (s .same ∙ next-mark ∙ simp (ne-eqb _ _ n))
 
-  pub held-more : getD marks (getD rows i 0) 0 ≡ 0 → NoneSoFar (heldIn count marks values) rows (i + 1)
-  held-more z = record { few = omega arith; same = s .same ∙ next-held ∙ simp (z, add-one) }
+  pub mark-more : getD marks (getD rows i 0) 0 ≡ 0 → NoneSoFar marks rows (i + 1)
+  mark-more z = record { few = omega arith; same = s .same ∙ next-mark ∙ simp (eq-eqb _ _ z, add-one) }
 
-pub held-none : (held : List (Option ℕ)) (rows : List ℕ) (i : ℕ) → NoneSoFar held rows i → length rows ≤ i → false ≡ someHeld held rows
-unfolding someHeld
-held-none held rows i s h = sym (s .same ∙ rw (drop-of-length-le rows h) refl)
+pub mark-none : (marks rows : List ℕ) (i : ℕ) → NoneSoFar marks rows i → length rows ≤ i → false ≡ someMarked marks rows
+unfolding someMarked
+mark-none marks rows i s h = sym (s .same ∙ rw (drop-of-length-le rows h) refl)
+
+-- a row that is marked is held
+holds-marked : (m v : ℕ) → holds (marked m v) ≡ not (eqb m 0)
+holds-marked zero v = refl
+holds-marked (suc m) v = sym (ap not (eqb·suc-zero m))
+
+pub marked-held : (count : ℕ) (marks values : List ℕ) (from : ℕ) (rows : List ℕ) → count ≤ length marks → count ≤ length values → risingBelow from count rows ≡ true
+    → someMarked marks rows ≡ someHeld (heldIn count marks values) rows
+unfolding someMarked someHeld risingBelow
+marked-held count marks values from [] a b p = refl
+marked-held count marks values from (r ∷ rows) a b p =
+    let first = both-hold (leb from r && ltb r count) (risingBelow (suc r) count rows) p in
+    let below : r < count = ltb-true r count (both-hold (leb from r) (ltb r count) (first .0) .1) in
+    let here : getD (heldIn count marks values) r none ≡ marked (getD marks r 0) (getD values r 0) =
+      getD-take count (heldAll marks values) r none below ∙ held-at marks values r (omega arith) (omega arith) in
+    ap₂ _||_ (sym (ap holds here ∙ holds-marked (getD marks r 0) (getD values r 0))) (marked-held count marks values (suc r) rows a b (first .1))
 
 -- ---- the values of rows, stored one after the other
 

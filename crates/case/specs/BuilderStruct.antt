@@ -1,9 +1,11 @@
 -- What a `ResultBuilder` struct says, and what its functions promise.
 use mathlib.Core.Path.{_≡_}
+use mathlib.Core.Bool.{Bool, false, not, _||_}
 use mathlib.Core.List.{List, [], _∷_}
 use mathlib.Core.Option.{Option, some, none}
 use Prim.Native.Nat.{ℕ, zero, suc, min}
-use lib.ListN.{take}
+use lib.Dec.{eqb}
+use lib.ListN.{getD, take}
 use Rattle.layout.specs.Result.{Result, refused, ok}
 use Rattle.case.specs.declared.builder.ResultBuilder.{ResultBuilder}
 use Rattle.case.specs.declared.builder.BuilderAnswer.{BuilderAnswer}
@@ -24,6 +26,11 @@ heldAll (m ∷ marks) (v ∷ values) = marked m v ∷ heldAll marks values
 -- of the first so many rows
 abbrev pub heldIn : ℕ → List ℕ → List ℕ → List (Option ℕ)
 heldIn count marks values = take count (heldAll marks values)
+
+-- some row is marked
+unfoldable pub someMarked : List ℕ → List ℕ → Bool
+someMarked marks [] = false
+someMarked marks (r ∷ rows) = not (eqb (getD marks r 0) 0) || someMarked marks rows
 
 -- a struct has 512 rows at most
 abbrev pub countOf : ResultBuilder → ℕ

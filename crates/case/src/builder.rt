@@ -4,8 +4,8 @@ ghost use mathlib.Core.Path.{_≡_};
 ghost use mathlib.Core.Bool.{true};
 ghost use Prim.Native.Nat.{_≤_};
 ghost use lib.ListN.{length, take};
-ghost use Rattle.case.specs.Builder.{risingBelow, someHeld, finish};
-ghost use Rattle.case.specs.BuilderStruct.{builderOf, countOf, heldIn, NewGives, AddGives, FinishGives, Held};
+ghost use Rattle.case.specs.Builder.{risingBelow};
+ghost use Rattle.case.specs.BuilderStruct.{someMarked, countOf, NewGives, AddGives, FinishGives, Held};
 
 // Most rows of a result.
 const ROWS_MOST: usize = 512;
@@ -51,10 +51,10 @@ fn rising_below(rows: &[u16], count: usize) -> bool
     true
 }
 
-// Whether one of the rows holds a value already.
-fn some_held(held: [u8; 512], values: [u16; 512], rows: &[u16], count: usize) -> bool
+// Whether one of the rows is marked.
+fn some_marked(held: [u8; 512], rows: &[u16], count: usize) -> bool
     requires { ⌜ (count ≤ 512) × (risingBelow 0 count (now rows) ≡ true) ⌝ }
-    ensures { λ r. ⌜ r ≡ someHeld (heldIn count held values) (now (rows .entry)) ⌝ }
+    ensures { λ r. ⌜ r ≡ someMarked held (now (rows .entry)) ⌝ }
 {
     let mut i = 0;
     while i < rows.len() {
@@ -126,8 +126,7 @@ impl ResultBuilder {
             return BuilderAnswer { refused: 21, builder: self };
         }
         let held = self.held;
-        let old = self.values;
-        if some_held(held, old, rows, count) {
+        if some_marked(held, rows, count) {
             return BuilderAnswer { refused: 20, builder: self };
         }
         let mut out = hold(self, rows, values, count);

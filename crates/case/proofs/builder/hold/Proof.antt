@@ -4,10 +4,10 @@ use Rattle.case.proofs.builder.hold.Reads as reads
 use Rattle.case.proofs.builder.hold.Lts as lts
 
 abbrev Inv-loop : tie.InvT-loop
-Inv-loop rows values count out₀ i₀ out i = ?
+Inv-loop rows values count out₀ i₀ out i = (out .rows ≡ out₀ .rows) × HoldsSoFar (countOf out₀) (out₀ .held) (out₀ .values) rows values i (out .held) (out .values)
 
 abbrev μ-loop : tie.MeasureT-loop
-μ-loop rows values count out₀ i₀ out i = ?
+μ-loop rows values count out₀ i₀ out i = length rows - i
 
 -- src/builder.rt:77:5
 loop-holds : tie.Need-loop-holds Inv-loop μ-loop
