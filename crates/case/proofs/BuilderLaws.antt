@@ -12,7 +12,8 @@ use lib.Seq.{drop-cons, getD-take, take-set-lt}
 use borrow.Author.Tests.{le-leb, lt-leb, lt-ltb, le-ltb, ltb-true, eq-eqb, ne-eqb}
 use Rattle.layout.proofs.TestLaws.{both-hold}
 use Rattle.case.specs.Builder.{risingBelow, holds, someHeld, holdAll}
-use Rattle.case.specs.BuilderStruct.{marked, heldAll, heldIn, someMarked}
+use Rattle.case.specs.BuilderStruct.{marked, heldAll, heldIn, someMarked, countOf}
+use Rattle.case.specs.declared.builder.ResultBuilder.{ResultBuilder}
 
 -- ---- rows that rise below a count
 
@@ -151,3 +152,7 @@ pub holds-all : (count : ℕ) (marks values rows given : List ℕ) (i : ℕ) (ma
     → heldIn count marks′ values′ ≡ holdAll (heldIn count marks values) rows given
 unfolding holdAll
 holds-all count marks values rows given i marks′ values′ s h = sym (s .same ∙ rw (drop-of-length-le rows h) refl)
+
+-- a struct has at most 512 rows
+pub count-few : (b : ResultBuilder) (count : ℕ) → count ≡ countOf b → count ≤ 512
+count-few b count e = omega arith
