@@ -3,16 +3,18 @@ use mathlib.Core.Path.{_≡_, refl, sym, ap, ap₂, _∙_}
 use mathlib.Core.Bool.{Bool, true, false, not, _&&_, _||_}
 use mathlib.Core.List.{List, [], _∷_, map}
 use mathlib.Core.Option.{Option, some, none}
-use Prim.Native.Nat.{ℕ, zero, suc, _+_, _-_, _<_, _≤_}
+use Prim.Native.Nat.{ℕ, zero, suc, _+_, _-_, _<_, _≤_, min}
 use native.Mathlib.Omega.{arith}
 use native.Mathlib.Numerals.{add-one}
 use lib.Dec.{leb, ltb, eqb, eqb·suc-zero}
-use lib.ListN.{length, getD, take, drop, set, length-set, drop-of-length-le}
-use lib.Seq.{drop-cons, getD-take, take-set-lt}
+use lib.ListN.{length, getD, take, drop, set, length-set, drop-of-length-le, replicate, length-map, List·getD-map}
+use lib.Seq.{drop-cons, getD-take, take-set-lt, getD-set-same, getD-set-other, ext-getD, length-take-le}
+use native.Mathlib.Decide.{decLt}
 use borrow.Author.Tests.{le-leb, lt-leb, lt-ltb, le-ltb, ltb-true, eq-eqb, ne-eqb}
+use Rattle.layout.specs.Result.{ok}
 use Rattle.layout.proofs.TestLaws.{both-hold}
-use Rattle.case.specs.Builder.{risingBelow, holds, someHeld, holdAll}
-use Rattle.case.specs.BuilderStruct.{marked, heldAll, heldIn, someMarked, countOf}
+use Rattle.case.specs.Builder.{risingBelow, holds, someHeld, holdAll, orElse}
+use Rattle.case.specs.BuilderStruct.{marked, heldAll, heldIn, someMarked, countOf, NewGives}
 use Rattle.case.specs.declared.builder.ResultBuilder.{ResultBuilder}
 
 -- ---- rows that rise below a count
@@ -156,3 +158,66 @@ holds-all count marks values rows given i marks′ values′ s h = sym (s .same 
 -- a struct has at most 512 rows
 pub count-few : (b : ResultBuilder) (count : ℕ) → count ≡ countOf b → count ≤ 512
 count-few b count e = omega arith
+
+-- ---- the end and the beginning
+
+length-held : (marks values : List ℕ) → length marks ≡ length values → length (heldAll marks values) ≡ length marks
+unfolding heldAll
+length-held [] values e = refl
+length-held (m ∷ marks) [] e = absurd (omega arith)
+length-held (m ∷ marks) (v ∷ values) e = ap suc (length-held marks values (omega arith))
+
+-- where the loop stands: the first i rows have their values, 0 where none is held
+pub record FinishedSoFar (marks values : List ℕ) (i : ℕ) (out : List ℕ) : Type 0 where
+  pub long : length out ≡ 512
+  pub so-far : (j : ℕ) → j < i → getD out j 0 ≡ orElse 0 (marked (getD marks j 0) (getD values j 0))
+
+pub finished-none : (marks values out : List ℕ) → length out ≡ 512 → FinishedSoFar marks values 0 out
+finished-none marks values out l = record { long = l; so-far = λ j h. absurd (omega arith) }
+
+pub finished-more : (marks values : List ℕ) (i : ℕ) (out : List ℕ) (v : ℕ) → FinishedSoFar marks values i out → i < 512
+    → v ≡ orElse 0 (marked (getD marks i 0) (getD values i 0)) → FinishedSoFar marks values (i + 1) (set out i v)
+finished-more marks values i out v f b e = record { long = length-set out i v ∙ f .long; so-far = λ j h. go j h (decLt j i) }
+  where
+    go : (j : ℕ) → j < i + 1 → Dec (j < i) → getD (set out i v) j 0 ≡ orElse 0 (marked (getD marks j 0) (getD values j 0))
+    go j h (yes l) = getD-set-other out i j v 0 (omega arith) ∙ f .so-far j l
+    go j h (no n) =
+        let q : j ≡ i = omega arith in
+        rw q (getD-set-same out i v 0 (omega (arith, f .long)) ∙ e)
+
+pub finished-all : (count : ℕ) (marks values out : List ℕ) → FinishedSoFar marks values count out → count ≤ 512 → length marks ≡ 512 → length values ≡ 512
+    → take count out ≡ map (orElse 0) (heldIn count marks values)
+finished-all count marks values out f few a b =
+    ext-getD 0 (take count out) (map (orElse 0) (heldIn count marks values)) (left ∙ sym right) each
+  where
+    left : length (take count out) ≡ count
+    left = length-take-le count out (omega (arith, f .long))
+
+    right : length (map (orElse 0) (heldIn count marks values)) ≡ count
+    right = length-map (heldIn count marks values) (orElse 0) ∙ length-take-le count (heldAll marks values) (rw (length-held marks values (a ∙ sym b)) (omega arith))
+
+    each : (i : ℕ) → i < length (take count out) → getD (take count out) i 0 ≡ getD (map (orElse 0) (heldIn count marks values)) i 0
+    each i h =
+        let l : i < count = omega (arith, left) in
+        getD-take count out i 0 l ∙ f .so-far i l
+        ∙ sym (List·getD-map (orElse 0) (heldIn count marks values) i none
+        ∙ ap (orElse 0) (getD-take count (heldAll marks values) i none l ∙ held-at marks values i (omega arith) (omega arith)))
+
+-- no row is held
+pub held-replicate : (n m : ℕ) → n ≤ m → take n (heldAll (replicate m 0) (replicate m 0)) ≡ replicate n none
+unfolding heldAll
+held-replicate zero m h = refl
+held-replicate (suc n) zero h = absurd (omega arith)
+held-replicate (suc n) (suc m) h = ap (λ (l : List (Option ℕ)). none ∷ l) (held-replicate n m (omega arith))
+
+-- too many rows
+pub new-refused : (rows : ℕ) (b : ResultBuilder) → 512 < rows → NewGives rows (record { refused = 10; builder = b })
+new-refused rows b h = record { says = simp (lt-leb rows 512 h) }
+
+pub new-given : (rows : ℕ) → rows ≤ 512
+    → NewGives rows (record { refused = 0; builder = record { rows = rows; part = false; whole = false; held = replicate 512 0; values = replicate 512 0 } })
+new-given rows h =
+    let few : min rows 512 ≡ rows = omega arith in
+    let held : heldIn (min rows 512) (replicate 512 0) (replicate 512 0) ≡ replicate rows none =
+      ap (λ (n : ℕ). heldIn n (replicate 512 0) (replicate 512 0)) few ∙ held-replicate rows 512 h in
+    record { says = simp (le-leb rows 512 h) (λ i. ok (record { part = false; whole = false; held = held i })) }

@@ -2,10 +2,10 @@
 // is the whole result.
 ghost use mathlib.Core.Path.{_≡_};
 ghost use mathlib.Core.Bool.{true};
-ghost use Prim.Native.Nat.{_≤_};
+ghost use Prim.Native.Nat.{_≤_, min};
 ghost use lib.ListN.{length, take};
-ghost use Rattle.case.specs.Builder.{risingBelow};
-ghost use Rattle.case.specs.BuilderStruct.{someMarked, countOf, NewGives, AddGives, FinishGives, Held};
+ghost use Rattle.case.specs.Builder.{risingBelow, orElse};
+ghost use Rattle.case.specs.BuilderStruct.{marked, someMarked, countOf, NewGives, AddGives, FinishGives, Held};
 
 // Most rows of a result.
 const ROWS_MOST: usize = 512;
@@ -29,6 +29,20 @@ pub struct BuilderAnswer {
 pub struct Finished {
     pub count: usize,
     pub values: [u16; 512],
+}
+
+// How many rows a struct has: at most 512.
+fn count_of(rows: usize) -> usize
+    ensures { λ r. ⌜ r ≡ min rows 512 ⌝ }
+{
+    if rows < ROWS_MOST { rows } else { ROWS_MOST }
+}
+
+// The value of a row by its mark: 0 where it holds none.
+fn kept(mark: u8, value: u16) -> u16
+    ensures { λ r. ⌜ r ≡ orElse 0 (marked mark value) ⌝ }
+{
+    if mark == 0 { 0 } else { value }
 }
 
 // Whether the rows rise and lie below a count.
@@ -111,7 +125,7 @@ impl ResultBuilder {
     pub fn add_branch_result(self, rows: &[u16], values: &[u16]) -> BuilderAnswer
         ensures { λ r. ⌜ AddGives self (now (rows .entry)) (now (values .entry)) r ⌝ }
     {
-        let count = if self.rows < ROWS_MOST { self.rows } else { ROWS_MOST };
+        let count = count_of(self.rows);
         if rows.len() != values.len() {
             return BuilderAnswer { refused: 19, builder: self };
         }
@@ -139,13 +153,11 @@ impl ResultBuilder {
     pub fn finish(self) -> Finished
         ensures { λ r. ⌜ FinishGives self r ⌝ }
     {
-        let count = if self.rows < ROWS_MOST { self.rows } else { ROWS_MOST };
+        let count = count_of(self.rows);
         let mut out = [0u16; 512];
         let mut i = 0;
         while i < count {
-            if self.held[i] != 0 {
-                out[i] = self.values[i];
-            }
+            out[i] = kept(self.held[i], self.values[i]);
             i += 1;
         }
         Finished { count, values: out }
