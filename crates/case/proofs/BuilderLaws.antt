@@ -1,5 +1,5 @@
 -- The loops of `ResultBuilder` beside its definitions. Assumes nothing.
-use mathlib.Core.Path.{_≡_, refl, sym, ap, ap₂, _∙_}
+use mathlib.Core.Path.{_≡_, refl, sym, ap, ap₂, subst, _∙_}
 use mathlib.Core.Bool.{Bool, true, false, not, _&&_, _||_}
 use mathlib.Core.List.{List, [], _∷_, map}
 use mathlib.Core.Option.{Option, some, none}
@@ -11,10 +11,10 @@ use lib.ListN.{length, getD, take, drop, set, length-set, drop-of-length-le, rep
 use lib.Seq.{drop-cons, getD-take, take-set-lt, getD-set-same, getD-set-other, ext-getD, length-take-le}
 use native.Mathlib.Decide.{decLt}
 use borrow.Author.Tests.{le-leb, lt-leb, lt-ltb, le-ltb, ltb-true, eq-eqb, ne-eqb}
-use Rattle.layout.specs.Result.{ok}
+use Rattle.layout.specs.Result.{Result, refused, ok, _>>=_, require}
 use Rattle.layout.proofs.TestLaws.{both-hold}
-use Rattle.case.specs.Builder.{risingBelow, holds, someHeld, holdAll, orElse}
-use Rattle.case.specs.BuilderStruct.{marked, heldAll, heldIn, someMarked, countOf, NewGives}
+use Rattle.case.specs.Builder.{Builder, risingBelow, isWhole, holds, someHeld, holdAll, heldAfter, addBranchResult, orElse}
+use Rattle.case.specs.BuilderStruct.{marked, heldAll, heldIn, someMarked, countOf, builderOf, NewGives, AddGives, FinishGives, Held}
 use Rattle.case.specs.declared.builder.ResultBuilder.{ResultBuilder}
 
 -- ---- rows that rise below a count
@@ -221,3 +221,62 @@ new-given rows h =
     let held : heldIn (min rows 512) (replicate 512 0) (replicate 512 0) ≡ replicate rows none =
       ap (λ (n : ℕ). heldIn n (replicate 512 0) (replicate 512 0)) few ∙ held-replicate rows 512 h in
     record { says = simp (le-leb rows 512 h) (λ i. ok (record { part = false; whole = false; held = held i })) }
+
+pub kept-value : (m v : ℕ) → (m ≡ 0 → ⊥) → v ≡ orElse 0 (marked m v)
+kept-value zero v n = absurd (n refl)
+kept-value (suc m) v n = refl
+
+pub finish-gives : (b : ResultBuilder) (count i : ℕ) (out : List ℕ) → count ≡ countOf b → FinishedSoFar (b .held) (b .values) i out → i ≡ count
+    → length (b .held) ≡ 512 → length (b .values) ≡ 512 → FinishGives b (record { count = count; values = out })
+finish-gives b count i out e f q a v = record {
+    count-is = e;
+    says = ap (λ (n : ℕ). take n out) e ∙ finished-all (countOf b) (b .held) (b .values) out (subst (λ (n : ℕ). FinishedSoFar (b .held) (b .values) n out) (q ∙ e) f) (omega arith) a v;
+  }
+
+-- ---- adding a branch
+
+-- the tests in their order
+steps : (same rises whole part all held : Bool) → Builder ℕ → Result (Builder ℕ)
+steps same rises whole part all held out =
+    require same 19 >>= λ _. require rises 18 >>= λ _. require (not whole && not (part && all)) 21 >>= λ _. require (not held) 20 >>= λ _. ok out
+
+-- what a branch leaves in the builder
+abbrev withBranch : ResultBuilder → List ℕ → List ℕ → Builder ℕ
+withBranch b rows values = record {
+    part = b .part || not (isWhole (builderOf b) rows);
+    whole = isWhole (builderOf b) rows;
+    held = heldAfter (builderOf b) rows values;
+  }
+
+module _ (b : ResultBuilder) (rows values : List ℕ) (long : length (b .held) ≡ 512) (long-values : length (b .values) ≡ 512) where
+  count-is : length (heldIn (countOf b) (b .held) (b .values)) ≡ countOf b
+  count-is = length-take-le (countOf b) (heldAll (b .held) (b .values)) (rw (length-held (b .held) (b .values) (long ∙ sym long-values)) (omega arith))
+
+  add-is : addBranchResult (builderOf b) rows values
+      ≡ steps (eqb (length rows) (length values)) (risingBelow 0 (countOf b) rows) (b .whole) (b .part) (isWhole (builderOf b) rows) (someHeld (builderOf b .held) rows) (withBranch b rows values)
+  unfolding addBranchResult steps
+  add-is = ap (λ (n : ℕ). steps (eqb (length rows) (length values)) (risingBelow 0 n rows) (b .whole) (b .part) (isWhole (builderOf b) rows) (someHeld (builderOf b .held) rows) (withBranch b rows values)) count-is
+
+  -- a refusal returns the builder unchanged
+  refused-gives : (n : ℕ) → refused (suc n) ≡ addBranchResult (builderOf b) rows values → AddGives b rows values (record { refused = suc n; builder = b })
+  refused-gives n p = record { says = p; unchanged = λ _. refl }
+
+  pub add-19 : (length rows ≡ length values → ⊥) → AddGives b rows values (record { refused = 19; builder = b })
+  unfolding steps
+  add-19 n = refused-gives 18 (sym (add-is ∙ simp (ne-eqb _ _ n)))
+
+  module _ (same : length rows ≡ length values) where
+    pub add-18 : risingBelow 0 (countOf b) rows ≡ false → AddGives b rows values (record { refused = 18; builder = b })
+    unfolding steps
+    add-18 r = refused-gives 17 (sym (add-is ∙ simp (eq-eqb _ _ same, r)))
+
+    module _ (rises : risingBelow 0 (countOf b) rows ≡ true) where
+      pub add-21-whole : b .whole ≡ true → AddGives b rows values (record { refused = 21; builder = b })
+      unfolding steps
+      add-21-whole w = refused-gives 20 (sym (add-is ∙ simp (eq-eqb _ _ same, rises, w)))
+
+      module _ (not-whole : b .whole ≡ false) where
+        pub add-21-part : b .part ≡ true → length rows ≡ countOf b → AddGives b rows values (record { refused = 21; builder = b })
+        unfolding steps
+        add-21-part p all =
+            refused-gives 20 (sym (add-is ∙ simp (eq-eqb _ _ same, rises, not-whole, p, eq-eqb (length rows) (length (builderOf b .held)) (all ∙ sym count-is))))
