@@ -1,16 +1,16 @@
 -- The loops of `ResultBuilder` beside its definitions. Assumes nothing.
 use mathlib.Core.Path.{_≡_, refl, sym, ap, ap₂, subst, _∙_}
-use mathlib.Core.Bool.{Bool, true, false, not, _&&_, _||_}
-use mathlib.Core.List.{List, [], _∷_, map}
+use mathlib.Core.Bool.{Bool, true, false, cond, not, _&&_, _||_}
+use mathlib.Core.List.{List, [], _∷_, _++_, map, append-nil}
 use mathlib.Core.Option.{Option, some, none}
 use Prim.Native.Nat.{ℕ, zero, suc, _+_, _-_, _<_, _≤_, min}
 use native.Mathlib.Omega.{arith}
 use native.Mathlib.Numerals.{add-one}
 use lib.Dec.{leb, ltb, eqb, eqb·suc-zero}
 use lib.ListN.{length, getD, take, drop, set, length-set, drop-of-length-le, replicate, length-map, List·getD-map}
-use lib.Seq.{drop-cons, getD-take, take-set-lt, getD-set-same, getD-set-other, ext-getD, length-take-le}
+use lib.Seq.{drop-cons, getD-take, take-set-lt, getD-set-same, getD-set-other, ext-getD, length-take-le, take-all, take-suc-set, append-snoc}
 use native.Mathlib.Decide.{decLt}
-use borrow.Author.Tests.{le-leb, lt-leb, lt-ltb, le-ltb, ltb-true, eq-eqb, ne-eqb}
+use borrow.Author.Tests.{le-leb, lt-leb, lt-ltb, le-ltb, ltb-true, leb-true, eqb-true, not-true, not-false, eq-eqb, ne-eqb}
 use Rattle.layout.specs.Result.{Result, refused, ok, _>>=_, require}
 use Rattle.layout.proofs.TestLaws.{both-hold}
 use Rattle.case.specs.Builder.{Builder, risingBelow, isWhole, holds, someHeld, holdAll, heldAfter, addBranchResult, orElse}
@@ -233,6 +233,47 @@ finish-gives b count i out e f q a v = record {
     says = ap (λ (n : ℕ). take n out) e ∙ finished-all (countOf b) (b .held) (b .values) out (subst (λ (n : ℕ). FinishedSoFar (b .held) (b .values) n out) (q ∙ e) f) (omega arith) a v;
   }
 
+-- ---- a list of all rows
+
+-- rising rows are no more than fit below the count
+rising-length : (from count : ℕ) (rows : List ℕ) → from ≤ count → risingBelow from count rows ≡ true → from + length rows ≤ count
+unfolding risingBelow
+rising-length from count [] h p = omega arith
+rising-length from count (r ∷ rows) h p =
+    let first = both-hold (leb from r && ltb r count) (risingBelow (suc r) count rows) p in
+    let tests = both-hold (leb from r) (ltb r count) (first .0) in
+    let a : from ≤ r = leb-true from r (tests .0) in
+    let b : r < count = ltb-true r count (tests .1) in
+    let k : suc r + length rows ≤ count = rising-length (suc r) count rows b (first .1) in
+    omega arith
+
+-- so many rising rows as are left are all that are left, and each holds its value
+whole-from : (held : List (Option ℕ)) (from : ℕ) (rows values : List ℕ) → risingBelow from (length held) rows ≡ true → from + length rows ≡ length held
+    → length rows ≡ length values → holdAll held rows values ≡ take from held ++ map some values
+unfolding risingBelow holdAll
+whole-from held from [] [] p e q =
+    let all : length held ≤ from = omega arith in
+    sym (append-nil (take from held) ∙ take-all from held all)
+whole-from held from [] (v ∷ values) p e q = absurd (omega arith)
+whole-from held from (r ∷ rows) [] p e q = absurd (omega arith)
+whole-from held from (r ∷ rows) (v ∷ values) p e q =
+    let first = both-hold (leb from r && ltb r (length held)) (risingBelow (suc r) (length held) rows) p in
+    let tests = both-hold (leb from r) (ltb r (length held)) (first .0) in
+    let a : from ≤ r = leb-true from r (tests .0) in
+    let b : r < length held = ltb-true r (length held) (tests .1) in
+    let k : suc r + length rows ≤ length held = rising-length (suc r) (length held) rows b (first .1) in
+    let is : r ≡ from = omega arith in
+    let size : length (set held r (some v)) ≡ length held = length-set held r (some v) in
+    let later : risingBelow (suc r) (length (set held r (some v))) rows ≡ true = ap (λ (n : ℕ). risingBelow (suc r) n rows) size ∙ first .1 in
+    whole-from (set held r (some v)) (suc r) rows values later (omega arith) (omega arith)
+    ∙ ap (λ (l : List (Option ℕ)). l ++ map some values) (take-suc-set held r (some v) b)
+    ∙ append-snoc (take r held) (some v) (map some values)
+    ∙ ap (λ (n : ℕ). take n held ++ (some v ∷ map some values)) is
+
+pub whole-holds : (held : List (Option ℕ)) (rows values : List ℕ) → risingBelow 0 (length held) rows ≡ true → length rows ≡ length held
+    → length rows ≡ length values → holdAll held rows values ≡ map some values
+whole-holds held rows values p e q = whole-from held 0 rows values p (omega arith) q
+
 -- ---- adding a branch
 
 -- the tests in their order
@@ -271,12 +312,37 @@ module _ (b : ResultBuilder) (rows values : List ℕ) (long : length (b .held) �
     add-18 r = refused-gives 17 (sym (add-is ∙ simp (eq-eqb _ _ same, r)))
 
     module _ (rises : risingBelow 0 (countOf b) rows ≡ true) where
-      pub add-21-whole : b .whole ≡ true → AddGives b rows values (record { refused = 21; builder = b })
+      pub add-21 : not (not (b .whole) && not (b .part && eqb (length rows) (countOf b))) ≡ true → AddGives b rows values (record { refused = 21; builder = b })
       unfolding steps
-      add-21-whole w = refused-gives 20 (sym (add-is ∙ simp (eq-eqb _ _ same, rises, w)))
+      add-21 c = refused-gives 20 (sym (add-is ∙ simp (eq-eqb _ _ same, rises, count-is, not-true (not (b .whole) && not (b .part && eqb (length rows) (countOf b))) c)))
 
-      module _ (not-whole : b .whole ≡ false) where
-        pub add-21-part : b .part ≡ true → length rows ≡ countOf b → AddGives b rows values (record { refused = 21; builder = b })
+      -- what is known where neither a whole nor a part refuses
+      module _ (fits : not (not (b .whole) && not (b .part && eqb (length rows) (countOf b))) ≡ false) where
+        pub add-20 : someMarked (b .held) rows ≡ true → AddGives b rows values (record { refused = 20; builder = b })
         unfolding steps
-        add-21-part p all =
-            refused-gives 20 (sym (add-is ∙ simp (eq-eqb _ _ same, rises, not-whole, p, eq-eqb (length rows) (length (builderOf b .held)) (all ∙ sym count-is))))
+        add-20 m =
+            let held : someHeld (builderOf b .held) rows ≡ true = sym (marked-held (countOf b) (b .held) (b .values) 0 rows (omega arith) (omega arith) rises) ∙ m in
+            refused-gives 19 (sym (add-is ∙ simp (eq-eqb _ _ same, rises, count-is, not-false (not (b .whole) && not (b .part && eqb (length rows) (countOf b))) fits, held)))
+
+        -- whether the list is whole or a part, the rows hold their values
+        held-after : heldAfter (builderOf b) rows values ≡ holdAll (builderOf b .held) rows values
+        held-after = go (isWhole (builderOf b) rows) refl
+          where
+            go : (w : Bool) → isWhole (builderOf b) rows ≡ w → cond w (map some values) (holdAll (builderOf b .held) rows values) ≡ holdAll (builderOf b .held) rows values
+            go true e = sym (whole-holds (builderOf b .held) rows values (ap (λ (n : ℕ). risingBelow 0 n rows) count-is ∙ rises) (eqb-true _ _ e) same)
+            go false e = refl
+
+        pub add-given : someMarked (b .held) rows ≡ false → (r : ResultBuilder) → Held b rows values r → (part all : Bool) → part ≡ (b .part || not all) → all ≡ eqb (length rows) (countOf b)
+            → AddGives b rows values (record { refused = 0; builder = record { rows = r .rows; part = part; whole = all; held = r .held; values = r .values } })
+        unfolding steps
+        add-given m r h part all p w =
+            let held : someHeld (builderOf b .held) rows ≡ false = sym (marked-held (countOf b) (b .held) (b .values) 0 rows (omega arith) (omega arith) rises) ∙ m in
+            let whole-is : all ≡ isWhole (builderOf b) rows = w ∙ ap (eqb (length rows)) (sym count-is) in
+            let part-is : part ≡ (b .part || not (isWhole (builderOf b) rows)) = p ∙ ap (λ (x : Bool). b .part || not x) whole-is in
+            let rows-are : heldIn (min (r .rows) 512) (r .held) (r .values) ≡ heldAfter (builderOf b) rows values =
+              ap (λ (n : ℕ). heldIn (min n 512) (r .held) (r .values)) (h .same-rows) ∙ h .held-is ∙ sym held-after in
+            record {
+              says = (λ i. ok (record { part = part-is i; whole = whole-is i; held = rows-are i }))
+                ∙ sym (add-is ∙ simp (eq-eqb _ _ same, rises, count-is, not-false (not (b .whole) && not (b .part && eqb (length rows) (countOf b))) fits, held));
+              unchanged = λ n. absurd (n refl);
+            }

@@ -1,7 +1,7 @@
 // The rows of a result and the value that each holds: one index a row. Rows come in rising lists, the branches' parts; a list of all rows
 // is the whole result.
 ghost use mathlib.Core.Path.{_≡_};
-ghost use mathlib.Core.Bool.{true};
+ghost use mathlib.Core.Bool.{true, not, _&&_, _||_};
 ghost use Prim.Native.Nat.{_≤_, min};
 ghost use lib.ListN.{length, take};
 ghost use Rattle.case.specs.Builder.{risingBelow, orElse};
@@ -43,6 +43,29 @@ fn kept(mark: u8, value: u16) -> u16
     ensures { λ r. ⌜ r ≡ orElse 0 (marked mark value) ⌝ }
 {
     if mark == 0 { 0 } else { value }
+}
+
+// Whether a list, of all rows or of some, comes after a whole, or a whole after a part.
+fn clashes(whole: bool, part: bool, all: bool) -> bool
+    ensures { λ r. ⌜ r ≡ not (not whole && not (part && all)) ⌝ }
+{
+    if whole {
+        return true;
+    }
+    if part {
+        return all;
+    }
+    false
+}
+
+// Whether a part was added, after a list of all rows or of some.
+fn part_after(part: bool, all: bool) -> bool
+    ensures { λ r. ⌜ r ≡ (part || not all) ⌝ }
+{
+    if part {
+        return true;
+    }
+    !all
 }
 
 // Whether the rows rise and lie below a count.
@@ -132,11 +155,8 @@ impl ResultBuilder {
         if !rising_below(rows, count) {
             return BuilderAnswer { refused: 18, builder: self };
         }
-        let whole = rows.len() == count;
-        if self.whole {
-            return BuilderAnswer { refused: 21, builder: self };
-        }
-        if self.part && whole {
+        let all = rows.len() == count;
+        if clashes(self.whole, self.part, all) {
             return BuilderAnswer { refused: 21, builder: self };
         }
         let held = self.held;
@@ -144,8 +164,8 @@ impl ResultBuilder {
             return BuilderAnswer { refused: 20, builder: self };
         }
         let mut out = hold(self, rows, values, count);
-        out.part = !whole || self.part;
-        out.whole = whole;
+        out.part = part_after(self.part, all);
+        out.whole = all;
         BuilderAnswer { refused: 0, builder: out }
     }
 
