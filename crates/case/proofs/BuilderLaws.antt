@@ -36,10 +36,10 @@ module _ (rows : List ℕ) (count from i : ℕ) (s : RisesSoFar rows count from 
 
   pub rises-more : from ≤ getD rows i 0 → getD rows i 0 < count → getD rows i 0 < 65536 → RisesSoFar rows count (getD rows i 0 + 1) (i + 1)
   rises-more p q b = record {
-      few = omega arith;
-      small = omega arith;
-      same = s .same ∙ next-row ∙ simp (le-leb _ _ p, lt-ltb _ _ q, add-one);
-    }
+    few = omega arith;
+    small = omega arith;
+    same = s .same ∙ next-row ∙ simp (le-leb _ _ p, lt-ltb _ _ q, add-one);
+  }
 
   pub rises-falls : getD rows i 0 < from → false ≡ risingBelow 0 count rows
   rises-falls p = sym (s .same ∙ next-row ∙ simp (lt-leb _ _ p))
@@ -117,7 +117,7 @@ marked-held count marks values from (r ∷ rows) a b p =
     let first = both-hold (leb from r && ltb r count) (risingBelow (suc r) count rows) p in
     let below : r < count = ltb-true r count (both-hold (leb from r) (ltb r count) (first .0) .1) in
     let here : getD (heldIn count marks values) r none ≡ marked (getD marks r 0) (getD values r 0) =
-      getD-take count (heldAll marks values) r none below ∙ held-at marks values r (omega arith) (omega arith) in
+    getD-take count (heldAll marks values) r none below ∙ held-at marks values r (omega arith) (omega arith) in
     ap₂ _||_ (sym (ap holds here ∙ holds-marked (getD marks r 0) (getD values r 0))) (marked-held count marks values (suc r) rows a b (first .1))
 
 -- ---- the values of rows, stored one after the other
@@ -139,15 +139,15 @@ holds-more count marks values rows given i marks′ values′ s h e below a b =
     let r = getD rows i 0 in
     let v = getD given i 0 in
     let stored : set (heldIn count marks′ values′) r (some v) ≡ heldIn count (set marks′ r 1) (set values′ r v) =
-      sym (ap (take count) (held-set marks′ values′ r v (omega (arith, s .long)) (omega (arith, s .long-values))) ∙ take-set-lt count (heldAll marks′ values′) r (some v) below) in
+    sym (ap (take count) (held-set marks′ values′ r v (omega (arith, s .long)) (omega (arith, s .long-values))) ∙ take-set-lt count (heldAll marks′ values′) r (some v) below) in
     record {
       few = omega arith;
       long = length-set marks′ r 1 ∙ s .long;
       long-values = length-set values′ r v ∙ s .long-values;
       same = s .same
-        ∙ rw (drop-cons rows i 0 h, drop-cons given i 0 (omega arith)) refl
-        ∙ ap (λ (held : List (Option ℕ)). holdAll held (drop (suc i) rows) (drop (suc i) given)) stored
-        ∙ rw (← add-one i) refl;
+          ∙ rw (drop-cons rows i 0 h, drop-cons given i 0 (omega arith)) refl
+          ∙ ap (λ (held : List (Option ℕ)). holdAll held (drop (suc i) rows) (drop (suc i) given)) stored
+          ∙ rw (← add-one i) refl;
     }
 
 pub holds-all : (count : ℕ) (marks values rows given : List ℕ) (i : ℕ) (marks′ values′ : List ℕ) → HoldsSoFar count marks values rows given i marks′ values′ → length rows ≤ i
@@ -219,7 +219,7 @@ pub new-given : (rows : ℕ) → rows ≤ 512
 new-given rows h =
     let few : min rows 512 ≡ rows = omega arith in
     let held : heldIn (min rows 512) (replicate 512 0) (replicate 512 0) ≡ replicate rows none =
-      ap (λ (n : ℕ). heldIn n (replicate 512 0) (replicate 512 0)) few ∙ held-replicate rows 512 h in
+    ap (λ (n : ℕ). heldIn n (replicate 512 0) (replicate 512 0)) few ∙ held-replicate rows 512 h in
     record { says = simp (le-leb rows 512 h) (λ i. ok (record { part = false; whole = false; held = held i })) }
 
 pub kept-value : (m v : ℕ) → (m ≡ 0 → ⊥) → v ≡ orElse 0 (marked m v)
@@ -229,9 +229,9 @@ kept-value (suc m) v n = refl
 pub finish-gives : (b : ResultBuilder) (count i : ℕ) (out : List ℕ) → count ≡ countOf b → FinishedSoFar (b .held) (b .values) i out → i ≡ count
     → length (b .held) ≡ 512 → length (b .values) ≡ 512 → FinishGives b (record { count = count; values = out })
 finish-gives b count i out e f q a v = record {
-    count-is = e;
-    says = ap (λ (n : ℕ). take n out) e ∙ finished-all (countOf b) (b .held) (b .values) out (subst (λ (n : ℕ). FinishedSoFar (b .held) (b .values) n out) (q ∙ e) f) (omega arith) a v;
-  }
+  count-is = e;
+  says = ap (λ (n : ℕ). take n out) e ∙ finished-all (countOf b) (b .held) (b .values) out (subst (λ (n : ℕ). FinishedSoFar (b .held) (b .values) n out) (q ∙ e) f) (omega arith) a v;
+}
 
 -- ---- a list of all rows
 
@@ -284,10 +284,10 @@ steps same rises whole part all held out =
 -- what a branch leaves in the builder
 abbrev withBranch : ResultBuilder → List ℕ → List ℕ → Builder ℕ
 withBranch b rows values = record {
-    part = b .part || not (isWhole (builderOf b) rows);
-    whole = isWhole (builderOf b) rows;
-    held = heldAfter (builderOf b) rows values;
-  }
+  part = b .part || not (isWhole (builderOf b) rows);
+  whole = isWhole (builderOf b) rows;
+  held = heldAfter (builderOf b) rows values;
+}
 
 module _ (b : ResultBuilder) (rows values : List ℕ) (long : length (b .held) ≡ 512) (long-values : length (b .values) ≡ 512) where
   count-is : length (heldIn (countOf b) (b .held) (b .values)) ≡ countOf b
@@ -340,9 +340,9 @@ module _ (b : ResultBuilder) (rows values : List ℕ) (long : length (b .held) �
             let whole-is : all ≡ isWhole (builderOf b) rows = w ∙ ap (eqb (length rows)) (sym count-is) in
             let part-is : part ≡ (b .part || not (isWhole (builderOf b) rows)) = p ∙ ap (λ (x : Bool). b .part || not x) whole-is in
             let rows-are : heldIn (min (r .rows) 512) (r .held) (r .values) ≡ heldAfter (builderOf b) rows values =
-              ap (λ (n : ℕ). heldIn (min n 512) (r .held) (r .values)) (h .same-rows) ∙ h .held-is ∙ sym held-after in
+            ap (λ (n : ℕ). heldIn (min n 512) (r .held) (r .values)) (h .same-rows) ∙ h .held-is ∙ sym held-after in
             record {
               says = (λ i. ok (record { part = part-is i; whole = whole-is i; held = rows-are i }))
-                ∙ sym (add-is ∙ simp (eq-eqb _ _ same, rises, count-is, not-false (not (b .whole) && not (b .part && eqb (length rows) (countOf b))) fits, held));
+                  ∙ sym (add-is ∙ simp (eq-eqb _ _ same, rises, count-is, not-false (not (b .whole) && not (b .part && eqb (length rows) (countOf b))) fits, held));
               unchanged = λ n. absurd (n refl);
             }

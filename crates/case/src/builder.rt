@@ -150,23 +150,38 @@ impl ResultBuilder {
     {
         let count = count_of(self.rows);
         if rows.len() != values.len() {
-            return BuilderAnswer { refused: 19, builder: self };
+            return BuilderAnswer {
+                refused: 19,
+                builder: self,
+            };
         }
         if !rising_below(rows, count) {
-            return BuilderAnswer { refused: 18, builder: self };
+            return BuilderAnswer {
+                refused: 18,
+                builder: self,
+            };
         }
         let all = rows.len() == count;
         if clashes(self.whole, self.part, all) {
-            return BuilderAnswer { refused: 21, builder: self };
+            return BuilderAnswer {
+                refused: 21,
+                builder: self,
+            };
         }
         let held = self.held;
         if some_marked(held, rows, count) {
-            return BuilderAnswer { refused: 20, builder: self };
+            return BuilderAnswer {
+                refused: 20,
+                builder: self,
+            };
         }
         let mut out = hold(self, rows, values, count);
         out.part = part_after(self.part, all);
         out.whole = all;
-        BuilderAnswer { refused: 0, builder: out }
+        BuilderAnswer {
+            refused: 0,
+            builder: out,
+        }
     }
 
     // The value of each row; a row that no part holds is 0, null.
