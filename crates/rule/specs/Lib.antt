@@ -8,6 +8,7 @@ pub mod Typing
 pub mod WellFormed
 pub mod Node
 pub mod Reading
+pub mod Seen
 pub mod Strategy
 pub mod Projection
 pub mod Nullable

@@ -1,37 +1,19 @@
--- The columns met while a rule is read, as marks: what a mark says, and what the steps of the reading promise.
+-- The columns met while a rule is read, as marks, and what the steps of the reading promise beside their definitions.
 use mathlib.Core.Path.{_≡_}
-use mathlib.Core.Bool.{Bool, true, false}
-use mathlib.Core.List.{List, List·Memᴰ}
-use Prim.Native.Nat.{ℕ, zero, suc, _+_, _*_, _<_, _≤_}
+use mathlib.Core.Bool.{Bool, true, false, cond, not, _&&_, _||_}
+use mathlib.Core.List.{List, [], _∷_}
+use Prim.Native.Nat.{ℕ, _+_, _*_, _<_}
+use lib.Dec.{eqb, ltb}
 use lib.ListN.{length, getD, drop}
-use Rattle.layout.specs.Result.{Result, refused, ok}
-use Rattle.scalar.specs.Types.{typeNumber, markNumber}
-use Rattle.rule.specs.declared.seen.Seen.{Seen}
-use Rattle.rule.specs.declared.read.NodeRead.{NodeRead}
-use Rattle.rule.specs.Tree.{Column, Expr, isNullLiteral}
-use Rattle.rule.specs.Typing.{typeOf}
-use Rattle.rule.specs.Reading.{Read}
+use Rattle.layout.specs.Result.{Result, refused, ok, _>>=_, require}
+use Rattle.layout.specs.Field.{Field}
+use Rattle.scalar.specs.declared.types.DataType.{DataType}
+use Rattle.scalar.specs.declared.types.DataType.the-variants.{Boolean}
+use Rattle.scalar.specs.Types.{typeNumber, markNumber, markNumbered}
+use Rattle.rule.specs.declared.types.TypeAnswer.{TypeAnswer}
+use Rattle.rule.specs.declared.types.TypeAnswer.the-variants.{Known, Unknown}
 
--- the mark of a column: its type's number, and 8 more where it is nullable
-abbrev pub markOf : Column → ℕ
-markOf c = typeNumber (c .type) + 8 * markNumber (c .nullable)
-
--- the marks are those of the columns met so far: each has its mark at its index, and an index of none has 0
-pub record SeenIs (columns : List Column) (seen : Seen) : Type 0 where
-  pub byte-indexes : (c : Column) → List·Memᴰ c columns → c .index < 256
-  pub known : (c : Column) → List·Memᴰ c columns → getD (seen .marks) (c .index) 0 ≡ markOf c
-  pub unknown : (i : ℕ) → i < 256 → ((c : Column) → List·Memᴰ c columns → c .index ≡ i → ⊥) → getD (seen .marks) i 0 ≡ 0
-
--- a field that was read: its type, whether it is a null literal, where it ends, the columns met
-pub record FieldRead (bytes : List ℕ) (x : Read Expr) (r : NodeRead) : Type 0 where
-  pub accepted : r .refused ≡ 0
-  pub type-is : r .«data_type» ≡ typeOf (x .tree)
-  pub null-is : r .«null_literal» ≡ isNullLiteral (x .tree)
-  pub rest-is : x .rest ≡ drop (r .next) bytes
-  pub in-bytes : r .next ≤ length bytes
-  pub seen-are : SeenIs (x .seen) (r .seen)
-
--- what the reading of a field promises, beside its definition
-pub record ReadGives (bytes : List ℕ) (definition : Result (Read Expr)) (r : NodeRead) : Type 0 where
-  pub refuses : (n : ℕ) → definition ≡ refused n → (r .refused ≡ n) × (0 < n)
-  pub reads : (x : Read Expr) → definition ≡ ok x → FieldRead bytes x r
+-- the type of a number, or its refusal
+abbrev pub typeResult : TypeAnswer → Result DataType
+typeResult (Known t) = ok t
+typeResult Unknown = refused 3
