@@ -4,4 +4,6 @@ pub mod Sound
 pub mod PathLaws
 pub mod ReadBytes
 pub mod ReadTyped
-pub mod ReadLaws
+pub mod SeenLaws
+pub mod StepLaws
+pub mod LeafLaws

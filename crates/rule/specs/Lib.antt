@@ -9,6 +9,7 @@ pub mod WellFormed
 pub mod Node
 pub mod Reading
 pub mod Seen
+pub mod Steps
 pub mod Strategy
 pub mod Projection
 pub mod Nullable

@@ -1,4 +1,6 @@
 // Reading a rule, and its public answers: strategy, projection, nullability.
 pub mod answer;
 pub mod strategy;
+pub(crate) mod read;
+pub(crate) mod seen;
 pub(crate) mod types;

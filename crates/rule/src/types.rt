@@ -5,7 +5,7 @@ ghost use mathlib.Core.Path.{_≡_};
 ghost use Rattle.scalar.specs.Types.{typeNumber, sameType, typeNumbered};
 ghost use Rattle.scalar.specs.Cast.{whole, listed};
 ghost use Rattle.rule.specs.Typing.{isNumber};
-ghost use Rattle.rule.specs.Seen.{typeResult};
+ghost use Rattle.rule.specs.Steps.{typeResult, typeOr};
 
 // The type of a number, or that it has none.
 pub(crate) enum TypeAnswer {
@@ -83,5 +83,15 @@ pub(crate) fn is_listed(from: DataType, to: DataType) -> bool
         DataType::Int64 => is_whole(to),
         DataType::Float64 => same_type(to, DataType::Float64),
         DataType::Utf8 => same_type(to, DataType::Utf8),
+    }
+}
+
+// A type that is known, or else another.
+pub(crate) fn type_or(a: TypeAnswer, other: DataType) -> DataType
+    ensures { λ r. ⌜ r ≡ typeOr a other ⌝ }
+{
+    match a {
+        TypeAnswer::Known(t) => t,
+        TypeAnswer::Unknown => other,
     }
 }

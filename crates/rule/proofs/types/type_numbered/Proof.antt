@@ -1,7 +1,7 @@
 -- `type_numbered` gives the type of a number, arm by arm.
 use mathlib.Core.Path.{ap}
 use Rattle.scalar.specs.Types.{typeNumbered}
-use Rattle.rule.proofs.ReadLaws.{no-type}
+use Rattle.rule.proofs.StepLaws.{no-type}
 use Rattle.rule.proofs.types.type_numbered.Statement.{statement}
 use Rattle.rule.proofs.types.type_numbered.Tie as tie
 
