@@ -15,7 +15,7 @@ use Rattle.scalar.specs.declared.types.DataType.the-variants.{Boolean, Int32, I
 use Rattle.scalar.specs.Types.{typeNumber, typeNumbered, markNumber, markNumbered, sameType}
 use Rattle.scalar.specs.Entry.{Entry, null, boolean, int32, int64, float64, utf8, isNull}
 use Rattle.rule.specs.declared.seen.Seen.{Seen}
-use Rattle.rule.specs.declared.read.NodeRead.{NodeRead}
+use Rattle.rule.specs.declared.node.NodeRead.{NodeRead}
 use Rattle.rule.specs.Tree.{Column, Expr, column, literal, negation, isNotNull}
 use Rattle.rule.specs.Typing.{typeOf, isNumber, nodeTyped}
 use Rattle.rule.specs.Constant.{isEmpty}

@@ -7,3 +7,4 @@ pub mod ReadTyped
 pub mod SeenLaws
 pub mod StepLaws
 pub mod LeafLaws
+pub mod CycleLaws

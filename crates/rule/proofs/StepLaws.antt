@@ -11,7 +11,7 @@ use Rattle.layout.specs.Result.{Result, refused, ok, _>>=_, require}
 use Rattle.layout.proofs.ResultLaws.{refused-not-ok, ok-injective}
 use Rattle.scalar.specs.declared.types.DataType.{DataType}
 use Rattle.scalar.specs.Types.{typeNumbered}
-use Rattle.rule.specs.declared.read.NodeRead.{NodeRead}
+use Rattle.rule.specs.declared.node.NodeRead.{NodeRead}
 use Rattle.rule.specs.Tree.{Column, Expr, isNullLiteral}
 use Rattle.rule.specs.Typing.{typeOf, nodeTyped}
 use Rattle.rule.specs.Constant.{isEmpty}
@@ -62,6 +62,11 @@ module _ {A B : Type 0} {first : Read A → Type 0} {good : Read B → Type 0} {
   pub behind-refused : (m : Result (Read A)) (f : Read A → Result (Read B)) → Gives first m j → (j ≡ 0 → ⊥) → k ≡ j → Gives good (m >>= f) k
   behind-refused (refused n) f g z q = let i = g .refuses n refl in gives-refusal n refl (i .1) (q ∙ i .0)
   behind-refused (ok x) f g z q = absurd (z (g .reads x refl .0))
+
+  -- a part that makes up the whole
+  pub gives-map : (m : Result (Read A)) (h : Read A → Read B) → Gives first m j → k ≡ j → ((x : Read A) → first x → good (h x)) → Gives good (m >>= λ x. ok (h x)) k
+  gives-map (refused n) h g e f = let i = g .refuses n refl in gives-refusal n refl (i .1) (e ∙ i .0)
+  gives-map (ok x) h g e f = let i = g .reads x refl in gives-read (h x) refl (e ∙ i .0) (f x (i .1))
 
 -- bytes left over
 pub empty-drop : (n : ℕ) (l : List ℕ) → length l ≤ n → isEmpty (drop n l) ≡ true

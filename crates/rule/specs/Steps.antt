@@ -1,6 +1,6 @@
 -- What the steps of the reading promise beside their definitions.
 use mathlib.Core.Path.{_≡_}
-use mathlib.Core.Bool.{Bool, true, false, cond, not, _||_}
+use mathlib.Core.Bool.{Bool, true, false, cond, not, _&&_, _||_}
 use mathlib.Core.List.{List, [], _∷_}
 use Prim.Native.Nat.{ℕ, _<_}
 use lib.Dec.{eqb, ltb}
@@ -9,14 +9,14 @@ use Rattle.layout.specs.Result.{Result, refused, ok, _>>=_, require}
 use Rattle.layout.specs.Field.{Field}
 use Rattle.scalar.specs.declared.types.DataType.{DataType}
 use Rattle.scalar.specs.declared.types.DataType.the-variants.{Boolean}
-use Rattle.scalar.specs.Types.{markNumbered}
+use Rattle.scalar.specs.Types.{sameType, markNumbered}
 use Rattle.scalar.specs.Entry.{Entry, isNull}
 use Rattle.scalar.specs.Cast.{listed}
 use Rattle.rule.specs.declared.types.TypeAnswer.{TypeAnswer}
 use Rattle.rule.specs.declared.types.TypeAnswer.the-variants.{Known, Unknown}
 use Rattle.rule.specs.declared.seen.Seen.{Seen}
-use Rattle.rule.specs.declared.read.NodeRead.{NodeRead}
-use Rattle.rule.specs.declared.read.BranchesRead.{BranchesRead}
+use Rattle.rule.specs.declared.node.NodeRead.{NodeRead}
+use Rattle.rule.specs.declared.node.BranchesRead.{BranchesRead}
 use Rattle.rule.specs.Tree.{Column, Expr, column, negation, negative, isNotNull, cast, tryCast, equal, less, Branches, branch, Optional, isNullLiteral}
 use Rattle.rule.specs.Typing.{typeOf, resultType, whenType, branchesTyped, elseTyped}
 use Rattle.rule.specs.Reading.{Read, Reader, unlikeEarlier, markedValue, readColumn, readLiteral, readUnary, readCast, readBinary, readBranches, readLimitedCase}
@@ -45,6 +45,13 @@ closed last size fits t end =
     cond (eqb (last .refused) 0)
     (cond (ltb (last .next) size) (refusal 3 (last .seen)) (cond fits (accepted t false end (last .seen)) (refusal 7 (last .seen))))
     last
+
+-- no branch, and one before later ones
+abbrev pub unbranched : TypeAnswer → ℕ → Seen → BranchesRead
+unbranched earlier next seen = record { refused = 0; result = typeOr earlier Boolean; fits = true; next = next; seen = seen }
+
+abbrev pub branched : DataType → DataType → DataType → BranchesRead → BranchesRead
+branched w when t later = record { refused = later .refused; result = later .result; fits = sameType w when && sameType t (later .result) && later .fits; next = later .next; seen = later .seen }
 
 -- the number of a refusal, or 0 and what was read
 pub record Gives {A : Type 0} (good : Read A → Type 0) (definition : Result (Read A)) (number : ℕ) : Type 0 where

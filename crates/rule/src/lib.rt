@@ -1,6 +1,8 @@
 // Reading a rule, and its public answers: strategy, projection, nullability.
 pub mod answer;
-pub mod strategy;
+pub(crate) mod leaf;
+pub(crate) mod node;
 pub(crate) mod read;
 pub(crate) mod seen;
+pub mod strategy;
 pub(crate) mod types;

@@ -1,214 +1,204 @@
 // Reading a rule, front to back. Each function follows a definition of specs/Reading.antt and needs no buffer.
+use crate::leaf::read_column;
+use crate::leaf::read_literal;
+use crate::node::BranchesRead;
+use crate::node::NodeRead;
+use crate::node::accept;
+use crate::node::add_branch;
+use crate::node::case_fits;
+use crate::node::close;
+use crate::node::no_branches;
+use crate::node::refuse;
+use crate::node::refuse_branches;
+use crate::node::unary_fits;
+use crate::node::unary_type;
 use crate::seen::Seen;
 use crate::types::TypeAnswer;
 use crate::types::is_listed;
-use crate::types::is_number;
 use crate::types::same_type;
-use crate::types::type_number;
 use crate::types::type_numbered;
 use crate::types::type_or;
 use layout::field::Header;
 use layout::field::field_at;
-use layout::number::byte_at;
 use layout::part::part_of;
 use scalar::types::DataType;
 
-ghost use mathlib.Core.Path.{_≡_};
-ghost use mathlib.Core.Bool.{Bool, true, false, _&&_, _||_};
 ghost use mathlib.Core.List.{List};
 ghost use Prim.Native.Nat.{ℕ};
-ghost use lib.ListN.{length, drop};
-ghost use Rattle.layout.specs.Result.{refused};
-ghost use Rattle.scalar.specs.Types.{sameType};
-ghost use Rattle.scalar.specs.Cast.{listed};
+ghost use lib.ListN.{drop};
 ghost use Rattle.rule.specs.Tree.{Column, Expr};
-ghost use Rattle.rule.specs.Typing.{typeOf, nodeTyped};
-ghost use Rattle.rule.specs.Reading.{readColumn, readLiteral, readUnary, readCast, readBinary, readLimitedCase, readParts, readOptional, readBranches, readField};
+ghost use Rattle.rule.specs.Reading.{Read, readUnary, readCast, readBinary, readLimitedCase, readParts, readOptional, readBranches, readField};
 ghost use Rattle.rule.specs.Seen.{SeenIs};
-ghost use Rattle.rule.specs.Steps.{refusal, accepted, closed, Gives, ReadGives, OptionalRead, BranchesAre, meetColumn, valueOf, ValueGives, readThen, unaryOf, castOf, binaryOf, readTagged};
+ghost use Rattle.rule.specs.Steps.{Gives, FieldRead, ReadGives, OptionalRead, BranchesAre, readThen, unaryOf, castOf, binaryOf, readTagged};
 
-// What reading a field found: the number with which it is refused (0: none), its type, whether it is a null literal, where it ends in
-// the slice, and the columns met.
-pub(crate) struct NodeRead {
-    pub(crate) refused: u8,
-    pub(crate) result: DataType,
-    pub(crate) null: bool,
-    pub(crate) next: usize,
-    pub(crate) seen: Seen,
-}
-
-// What reading branches found: the number with which they are refused (0: none), the type of their THENs, whether all types fit, where
-// they end, and the columns met.
-pub(crate) struct BranchesRead {
-    pub(crate) refused: u8,
-    pub(crate) result: DataType,
-    pub(crate) fits: bool,
-    pub(crate) next: usize,
-    pub(crate) seen: Seen,
-}
-
-// A refusal.
-fn refuse(n: u8, seen: Seen) -> NodeRead
-    ensures { λ r. ⌜ r ≡ refusal n seen ⌝ }
+// The field at a place of a slice; so much depth and so many CASEs are left on the path.
+fn read_field(s: &[u8], at: usize, depth: usize, cases: usize, seen: Seen) -> NodeRead
+    ensures { λ r. ⌜ ((cols : List Column) → SeenIs cols seen → ReadGives (now (s .entry)) (readField depth cases (drop at (now (s .entry))) cols) r) ⌝ }
 {
-    NodeRead {
-        refused: n,
-        result: DataType::Boolean,
-        null: false,
-        next: 0,
-        seen,
-    }
-}
-
-// A field of a type that ends at a place.
-fn accept(result: DataType, null: bool, next: usize, seen: Seen) -> NodeRead
-    ensures { λ r. ⌜ r ≡ accepted result null next seen ⌝ }
-{
-    NodeRead {
-        refused: 0,
-        result,
-        null,
-        next,
-        seen,
-    }
-}
-
-// A node behind its last child, of so many bytes of content: bytes left over, then types that don't fit.
-fn close(last: NodeRead, size: usize, fits: bool, result: DataType, end: usize) -> NodeRead
-    ensures { λ r. ⌜ r ≡ closed last size fits result end ⌝ }
-{
-    if last.refused != 0 {
-        return last;
-    }
-    let seen = last.seen;
-    if last.next < size {
-        return refuse(3, seen);
-    }
-    if fits {
-        return accept(result, false, end, seen);
-    }
-    refuse(7, seen)
-}
-
-// A column behind its type: nullable, and that it is like the earlier ones of its index.
-fn meet_column(index: u8, result: DataType, mark: u8, end: usize, seen: Seen) -> NodeRead
-    ensures { λ r. ⌜ ((cols : List Column) (outer : List ℕ) → SeenIs cols seen → ReadGives outer (meetColumn index result mark cols (drop end outer)) r) ⌝ }
-{
-    if 1 < mark {
-        return refuse(3, seen);
-    }
-    let new = type_number(result) + 8 * mark;
-    let i = index as usize;
-    let old = seen.marks[i];
-    if old != 0 {
-        if old != new {
-            return refuse(7, seen);
-        }
-    }
-    let mut met = seen;
-    met.marks[i] = new;
-    accept(result, false, end, met)
-}
-
-// A column: index, type, nullable, a byte each.
-fn read_column(content: &[u8], end: usize, seen: Seen) -> NodeRead
-    ensures { λ r. ⌜ ((cols : List Column) (outer : List ℕ) → SeenIs cols seen → ReadGives outer (readColumn (record { tag = 16; content = now (content .entry); rest = drop end outer }) cols) r) ⌝ }
-{
-    if content.len() != 3 {
-        return refuse(3, seen);
-    }
-    match type_numbered(content[1]) {
-        TypeAnswer::Known(t) => meet_column(content[0], t, content[2], end, seen),
-        TypeAnswer::Unknown => refuse(3, seen),
-    }
-}
-
-// Whether the value of a literal is as its type and its null mark want it: none if null, a Boolean a byte 0 or 1, numbers 4 or 8 bytes, text any.
-fn value_fits(result: DataType, mark: u8, content: &[u8]) -> bool
-    ensures { λ r. ⌜ ValueGives mark (valueOf result mark (drop 2 (now (content .entry)))) r ⌝ }
-{
-    if 1 < mark {
-        return false;
-    }
-    let size = content.len();
-    if mark == 1 {
-        return size <= 2;
-    }
-    match result {
-        DataType::Boolean => {
-            if size != 3 {
-                return false;
+    match field_at(s, at) {
+        Header::Found(f) => {
+            let tag = f.tag;
+            if tag < 16 {
+                return refuse(3, seen);
             }
-            byte_at(content, 2) < 2
+            if 25 < tag {
+                return refuse(3, seen);
+            }
+            if depth == 0 {
+                return refuse(4, seen);
+            }
+            let content = part_of(s, f.start, f.end);
+            read_kind(content, tag, f.end, depth - 1, cases, seen)
         }
-        DataType::Int32 => size == 6,
-        DataType::Int64 => size == 10,
-        DataType::Float64 => size == 10,
-        DataType::Utf8 => true,
+        Header::Cut => refuse(2, seen),
     }
 }
 
-// A literal: type, null mark, value.
-fn read_literal(content: &[u8], end: usize, seen: Seen) -> NodeRead
-    ensures { λ r. ⌜ ((cols : List Column) (outer : List ℕ) → SeenIs cols seen → ReadGives outer (readLiteral (record { tag = 17; content = now (content .entry); rest = drop end outer }) cols) r) ⌝ }
+// A field of a tag from 16 to 25 by its content; it ends at a place of its parent.
+fn read_kind(content: &[u8], tag: u8, end: usize, depth: usize, cases: usize, seen: Seen) -> NodeRead
+    ensures { λ r. ⌜ ((cols : List Column) (outer : List ℕ) → SeenIs cols seen → ReadGives outer (readTagged (readField depth) cases (record { tag = tag; content = now (content .entry); rest = drop end outer }) cols) r) ⌝ }
 {
-    if content.len() < 2 {
+    if tag == 16 {
+        return read_column(content, end, seen);
+    }
+    if tag == 17 {
+        return read_literal(content, end, seen);
+    }
+    if tag < 21 {
+        return read_unary(content, tag, end, depth, cases, seen);
+    }
+    if tag < 23 {
+        return read_cast(content, tag, end, depth, cases, seen);
+    }
+    if tag < 25 {
+        return read_binary(content, tag, end, depth, cases, seen);
+    }
+    read_case(content, end, depth, cases, seen)
+}
+
+// NOT, negative or IS NOT NULL: one child.
+fn read_unary(content: &[u8], tag: u8, end: usize, depth: usize, cases: usize, seen: Seen) -> NodeRead
+    ensures { λ r. ⌜ ((cols : List Column) (outer : List ℕ) → SeenIs cols seen → ReadGives outer (readUnary (unaryOf tag) (readField depth cases) (now (content .entry)) cols (drop end outer)) r) ⌝ }
+{
+    let a = read_field(content, 0, depth, cases, seen);
+    let t = a.result;
+    close(a, content.len(), unary_fits(tag, t), unary_type(tag, t), end)
+}
+
+// Cast or try-cast: target type byte, one child.
+fn read_cast(content: &[u8], tag: u8, end: usize, depth: usize, cases: usize, seen: Seen) -> NodeRead
+    ensures { λ r. ⌜ ((cols : List Column) (outer : List ℕ) → SeenIs cols seen → ReadGives outer (readCast (castOf tag) (readField depth cases) (now (content .entry)) cols (drop end outer)) r) ⌝ }
+{
+    if content.len() == 0 {
         return refuse(3, seen);
     }
     match type_numbered(content[0]) {
         TypeAnswer::Known(t) => {
-            let mark = content[1];
-            if value_fits(t, mark, content) {
-                return accept(t, mark == 1, end, seen);
-            }
-            refuse(3, seen)
+            let a = read_field(content, 1, depth, cases, seen);
+            let from = a.result;
+            close(a, content.len(), is_listed(from, t), t, end)
         }
         TypeAnswer::Unknown => refuse(3, seen),
     }
 }
 
-// Whether NOT, negative or IS NOT NULL takes a type.
-fn unary_fits(tag: u8, child: DataType) -> bool
-    ensures { λ r. ⌜ ((e : Expr) → child ≡ typeOf e → r ≡ nodeTyped (unaryOf tag e)) ⌝ }
+// Equal or less: two children.
+fn read_binary(content: &[u8], tag: u8, end: usize, depth: usize, cases: usize, seen: Seen) -> NodeRead
+    ensures { λ r. ⌜ ((cols : List Column) (outer : List ℕ) → SeenIs cols seen → ReadGives outer (readBinary (binaryOf tag) (readField depth cases) (now (content .entry)) cols (drop end outer)) r) ⌝ }
 {
-    if tag == 18 {
-        return same_type(child, DataType::Boolean);
+    let a = read_field(content, 0, depth, cases, seen);
+    if a.refused != 0 {
+        return a;
     }
-    if tag == 19 {
-        return is_number(child);
-    }
-    true
+    let met = a.seen;
+    let b = read_field(content, a.next, depth, cases, met);
+    let first = a.result;
+    let second = b.result;
+    close(b, content.len(), same_type(first, second), DataType::Boolean, end)
 }
 
-// The type that it gives.
-fn unary_type(tag: u8, child: DataType) -> DataType
-    ensures { λ r. ⌜ ((e : Expr) → child ≡ typeOf e → r ≡ typeOf (unaryOf tag e)) ⌝ }
+// CASE: flags and branch count, then its parts.
+fn read_case(content: &[u8], end: usize, depth: usize, cases: usize, seen: Seen) -> NodeRead
+    ensures { λ r. ⌜ ((cols : List Column) (outer : List ℕ) → SeenIs cols seen → ReadGives outer (readLimitedCase (readField depth) cases (now (content .entry)) cols (drop end outer)) r) ⌝ }
 {
-    if tag == 19 { child } else { DataType::Boolean }
+    if cases == 0 {
+        return refuse(4, seen);
+    }
+    if content.len() < 2 {
+        return refuse(3, seen);
+    }
+    let flags = content[0];
+    let count = content[1];
+    if 3 < flags {
+        return refuse(3, seen);
+    }
+    if count == 0 {
+        return refuse(5, seen);
+    }
+    if 32 < count {
+        return refuse(6, seen);
+    }
+    read_parts(content, flags, count, end, depth, cases - 1, seen)
 }
 
-// Whether a CASE's branches and its ELSE fit: a null literal fits any type.
-fn case_fits(branches: bool, null: bool, from: DataType, to: DataType) -> bool
-    ensures { λ r. ⌜ r ≡ (branches && (null || listed from to)) ⌝ }
+// The parts of a CASE: base, WHEN and THEN in turn, ELSE.
+fn read_parts(content: &[u8], flags: u8, count: u8, end: usize, depth: usize, cases: usize, seen: Seen) -> NodeRead
+    ensures { λ r. ⌜ ((cols : List Column) (outer : List ℕ) → SeenIs cols seen → ReadGives outer (readParts (readField depth cases) flags count (drop 2 (now (content .entry))) cols (drop end outer)) r) ⌝ }
 {
-    if branches {
-        if null {
-            return true;
-        }
-        return is_listed(from, to);
+    let b = read_optional(content, 2, flags % 2 == 1, depth, cases, seen);
+    if b.refused != 0 {
+        return b;
     }
-    false
+    let when = b.result;
+    let before = b.seen;
+    let bs = read_branches(content, b.next, count, when, TypeAnswer::Unknown, depth, cases, before);
+    let met = bs.seen;
+    if bs.refused != 0 {
+        return refuse(bs.refused, met);
+    }
+    let e = read_optional(content, bs.next, 2 <= flags, depth, cases, met);
+    let from = e.result;
+    let result = bs.result;
+    close(e, content.len(), case_fits(bs.fits, e.null, from, result), result, end)
 }
 
-// Branches that are refused.
-fn refuse_branches(n: u8, seen: Seen) -> BranchesRead
-    ensures { λ r. ⌜ r .refused ≡ n ⌝ }
+// A part that may be absent: absent, it is as a null literal of type Boolean.
+fn read_optional(s: &[u8], at: usize, there: bool, depth: usize, cases: usize, seen: Seen) -> NodeRead
+    ensures { λ r. ⌜ ((cols : List Column) → SeenIs cols seen → Gives (OptionalRead (now (s .entry)) r) (readOptional there (readField depth cases) (drop at (now (s .entry))) cols) (r .refused)) ⌝ }
 {
-    BranchesRead {
-        refused: n,
-        result: DataType::Boolean,
-        fits: false,
-        next: 0,
-        seen,
+    if there {
+        return read_field(s, at, depth, cases, seen);
     }
+    accept(DataType::Boolean, true, at, seen)
+}
+
+// So many branches; the type of a THEN may be known from earlier ones.
+fn read_branches(s: &[u8], at: usize, count: u8, when: DataType, earlier: TypeAnswer, depth: usize, cases: usize, seen: Seen) -> BranchesRead
+    ensures { λ r. ⌜ ((cols : List Column) → SeenIs cols seen → Gives (BranchesAre (now (s .entry)) when earlier r) (readBranches (readField depth cases) count (drop at (now (s .entry))) cols) (r .refused)) ⌝ }
+{
+    if count == 0 {
+        return no_branches(earlier, at, seen);
+    }
+    let w = read_field(s, at, depth, cases, seen);
+    if w.refused != 0 {
+        return refuse_branches(w.refused, seen);
+    }
+    read_then(s, w, count - 1, when, earlier, depth, cases)
+}
+
+// A branch behind its WHEN, and so many later ones.
+fn read_then(s: &[u8], w: NodeRead, count: u8, when: DataType, earlier: TypeAnswer, depth: usize, cases: usize) -> BranchesRead
+    ensures { λ r. ⌜ ((x : Read Expr) → FieldRead (now (s .entry)) w x → Gives (BranchesAre (now (s .entry)) when earlier r) (readThen (readField depth cases) (x .tree) count (x .rest) (x .seen)) (r .refused)) ⌝ }
+{
+    let before = w.seen;
+    let t = read_field(s, w.next, depth, cases, before);
+    let met = t.seen;
+    if t.refused != 0 {
+        return refuse_branches(t.refused, met);
+    }
+    let own = t.result;
+    let result = type_or(earlier, own);
+    let later = read_branches(s, t.next, count, when, TypeAnswer::Known(result), depth, cases, met);
+    let tested = w.result;
+    add_branch(tested, when, own, later)
 }

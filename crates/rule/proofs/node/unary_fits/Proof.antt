@@ -1,8 +1,8 @@
 -- NOT takes Boolean, negative a number, and IS NOT NULL any type.
 use Rattle.rule.proofs.LeafLaws.{unary-not, unary-negative, unary-any}
 use borrow.Author.Needs.{needs}
-use Rattle.rule.proofs.read.unary_fits.Statement.{statement}
-use Rattle.rule.proofs.read.unary_fits.Tie as tie
+use Rattle.rule.proofs.node.unary_fits.Statement.{statement}
+use Rattle.rule.proofs.node.unary_fits.Tie as tie
 
 pub unary-fits-spec : {M : Type 1} → statement M
 unary-fits-spec =

@@ -1,7 +1,7 @@
 -- The branches fit, and ELSE is a null literal or of a listed type.
 use borrow.Author.Needs.{needs}
-use Rattle.rule.proofs.read.case_fits.Statement.{statement}
-use Rattle.rule.proofs.read.case_fits.Tie as tie
+use Rattle.rule.proofs.node.case_fits.Statement.{statement}
+use Rattle.rule.proofs.node.case_fits.Tie as tie
 
 pub case-fits-spec : {M : Type 1} → statement M
 case-fits-spec =

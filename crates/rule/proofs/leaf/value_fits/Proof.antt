@@ -6,8 +6,8 @@ use Rattle.scalar.specs.Entry.{int32, int64, float64}
 use Rattle.rule.specs.Reading.{literalValue}
 use Rattle.rule.proofs.LeafLaws.{value-unmarked, value-null, value-plain, boolean-sized, boolean-fits, number-fits, text-fits}
 use borrow.Author.Needs.{needs}
-use Rattle.rule.proofs.read.value_fits.Statement.{statement}
-use Rattle.rule.proofs.read.value_fits.Tie as tie
+use Rattle.rule.proofs.leaf.value_fits.Statement.{statement}
+use Rattle.rule.proofs.leaf.value_fits.Tie as tie
 
 pub value-fits-spec : {M : Type 1} → statement M
 unfolding literalValue

@@ -1,12 +1,12 @@
 -- A literal is a type, a null mark, and a value that fits them.
 use mathlib.Core.Path.{ap, _∙_}
 use denote.Ref.{now}
-use Rattle.rule.specs.declared.read.NodeRead.{NodeRead}
+use Rattle.rule.specs.declared.node.NodeRead.{NodeRead}
 use Rattle.rule.specs.Steps.{typeResult}
 use Rattle.rule.proofs.LeafLaws.{literal-sized, literal-typed, literal-unfit, literal-read}
 use borrow.Author.Needs.{needs}
-use Rattle.rule.proofs.read.read_literal.Statement.{statement}
-use Rattle.rule.proofs.read.read_literal.Tie as tie
+use Rattle.rule.proofs.leaf.read_literal.Statement.{statement}
+use Rattle.rule.proofs.leaf.read_literal.Tie as tie
 
 pub read-literal-spec : {M : Type 1} → statement M
 read-literal-spec =

@@ -2,8 +2,8 @@
 use mathlib.Core.Path.{refl}
 use borrow.Author.Tests.{lt-ltb, le-ltb, eq-eqb, ne-eqb}
 use borrow.Author.Needs.{needs}
-use Rattle.rule.proofs.read.close.Statement.{statement}
-use Rattle.rule.proofs.read.close.Tie as tie
+use Rattle.rule.proofs.node.close.Statement.{statement}
+use Rattle.rule.proofs.node.close.Tie as tie
 
 pub close-spec : {M : Type 1} → statement M
 close-spec =

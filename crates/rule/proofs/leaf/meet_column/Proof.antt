@@ -2,12 +2,12 @@
 use mathlib.Core.Path.{ap}
 use mathlib.Core.Logic.{⊎-elim}
 use native.Mathlib.Omega.{arith}
-use Rattle.rule.specs.declared.read.NodeRead.{NodeRead}
+use Rattle.rule.specs.declared.node.NodeRead.{NodeRead}
 use Rattle.rule.proofs.SeenLaws.{type-bounds}
 use Rattle.rule.proofs.LeafLaws.{meet-unmarked, meet-unlike, meet-like}
 use borrow.Author.Needs.{needs}
-use Rattle.rule.proofs.read.meet_column.Statement.{statement}
-use Rattle.rule.proofs.read.meet_column.Tie as tie
+use Rattle.rule.proofs.leaf.meet_column.Statement.{statement}
+use Rattle.rule.proofs.leaf.meet_column.Tie as tie
 
 pub meet-column-spec : {M : Type 1} → statement M
 meet-column-spec =

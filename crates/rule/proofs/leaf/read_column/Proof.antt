@@ -1,12 +1,12 @@
 -- A column is three bytes: its type is known, and it is met.
 use mathlib.Core.Path.{ap, _∙_}
 use denote.Ref.{now}
-use Rattle.rule.specs.declared.read.NodeRead.{NodeRead}
+use Rattle.rule.specs.declared.node.NodeRead.{NodeRead}
 use Rattle.rule.specs.Steps.{typeResult}
 use Rattle.rule.proofs.LeafLaws.{column-sized, column-typed, column-met}
 use borrow.Author.Needs.{needs}
-use Rattle.rule.proofs.read.read_column.Statement.{statement}
-use Rattle.rule.proofs.read.read_column.Tie as tie
+use Rattle.rule.proofs.leaf.read_column.Statement.{statement}
+use Rattle.rule.proofs.leaf.read_column.Tie as tie
 
 pub read-column-spec : {M : Type 1} → statement M
 read-column-spec =

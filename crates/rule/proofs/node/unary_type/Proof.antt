@@ -1,7 +1,7 @@
 -- Negative gives its child's type, and the others Boolean.
 use Rattle.rule.proofs.LeafLaws.{negative-type, boolean-type}
-use Rattle.rule.proofs.read.unary_type.Statement.{statement}
-use Rattle.rule.proofs.read.unary_type.Tie as tie
+use Rattle.rule.proofs.node.unary_type.Statement.{statement}
+use Rattle.rule.proofs.node.unary_type.Tie as tie
 
 pub unary-type-spec : {M : Type 1} → statement M
 unary-type-spec =
