@@ -27,10 +27,11 @@ use Rattle.rule.specs.declared.node.NodeRead.{NodeRead}
 use Rattle.rule.specs.declared.node.BranchesRead.{BranchesRead}
 use Rattle.rule.specs.Tree.{Column, Expr, negation, negative, isNotNull, cast, tryCast, equal, less, caseWhen, Branches, noMore, branch, Optional, absent, present, isNullLiteral}
 use Rattle.rule.specs.Typing.{typeOf, resultType, nodeTyped, whenType, branchesTyped, elseTyped}
-use Rattle.rule.specs.Reading.{Read, Reader, Kind, aColumn, aLiteral, aNot, aNegative, anIsNotNull, aCast, aTryCast, anEqual, aLess, aCase, tagOf, kinds, kindAmong, kindOf, firstByte, readColumn, readLiteral, readUnary, readCast, readBinary, readBranches, readOptional, hasBase, hasElse, readParts, readCase, readLimitedCase, readKind, readField}
+use Rattle.rule.specs.Constant.{isEmpty}
+use Rattle.rule.specs.Reading.{Read, Reader, Kind, aColumn, aLiteral, aNot, aNegative, anIsNotNull, aCast, aTryCast, anEqual, aLess, aCase, tagOf, kinds, kindAmong, kindOf, firstByte, readColumn, readLiteral, readUnary, readCast, readBinary, readBranches, readOptional, hasBase, hasElse, readParts, readCase, readLimitedCase, readKind, readField, readRoot, readTree}
 use Rattle.rule.specs.Seen.{SeenIs}
 use Rattle.rule.specs.Steps.{typeOr, accepted, closed, unbranched, branched, Gives, Behind, FieldRead, ReadGives, OptionalRead, BranchesAre, readThen, unaryOf, castOf, binaryOf, readTagged}
-use Rattle.rule.proofs.StepLaws.{gives-refusal, gives-read, on-ok, on-refused, behind-read, behind-refused, gives-map, close-gives}
+use Rattle.rule.proofs.StepLaws.{gives-refusal, gives-read, on-ok, on-refused, behind-read, behind-refused, gives-map, empty-drop, some-drop, close-gives}
 
 -- no node with children is a null literal
 unary-plain : (tag : ℕ) (e : Expr) → false ≡ isNullLiteral (unaryOf tag e)
@@ -466,3 +467,63 @@ tag-low tag h k e = let b = tag-range k in omega (arith, b .0)
 
 pub tag-high : (tag : ℕ) → 25 < tag → (k : Kind) → tag ≡ tagOf k → ⊥
 tag-high tag h k e = let b = tag-range k in omega (arith, b .1)
+
+-- the root
+module _ (rule : List ℕ) (r : NodeRead) where
+  pub root-cut : headerAt rule 0 ≡ Cut → r .refused ≡ 2 → ReadGives rule (readRoot rule) r
+  unfolding readRoot
+  root-cut h e = on-refused (header 2 rule) _ 2 (cut-is rule 0 h) (omega arith) e
+
+  module _ (p : FieldPlace) (h : headerAt rule 0 ≡ Found p) where
+    pub root-other : (p .tag ≡ 25 → ⊥) → r .refused ≡ 3 → ReadGives rule (readRoot rule) r
+    unfolding readRoot
+    root-other n e =
+        on-ok (header 2 rule) _ (placeField rule p) (found-is rule 0 p h)
+        (on-refused (require (eqb (p .tag) 25) 3) _ 3 (ap (λ (x : Bool). require x 3) (ne-eqb _ _ n)) (omega arith) e)
+
+    pub root-gives : p .tag ≡ 25 → ReadGives rule (readField 8 3 rule []) r → ReadGives rule (readRoot rule) r
+    unfolding readRoot
+    root-gives n g =
+        on-ok (header 2 rule) _ (placeField rule p) (found-is rule 0 p h)
+        (on-ok (require (eqb (p .tag) 25) 3) _ tt (ap (λ (x : Bool). require x 3) (eq-eqb _ _ n)) g)
+
+-- the whole rule
+module _ (rule : List ℕ) (r : NodeRead) where
+  abbrev TreeGives : Type 0
+  TreeGives = ReadGives rule (readTree rule) r
+
+  pub tree-empty : length rule ≡ 0 → r .refused ≡ 1 → TreeGives
+  unfolding readTree
+  tree-empty h e = on-refused (require (ltb 0 (length rule) && leb (length rule) 4096) 1) _ 1 (rw h refl) (omega arith) e
+
+  module _ (some : length rule ≡ 0 → ⊥) where
+    more : ltb 0 (length rule) ≡ true
+    more = lt-ltb 0 (length rule) (omega (arith, some))
+
+    pub tree-long : 4096 < length rule → r .refused ≡ 1 → TreeGives
+    unfolding readTree
+    tree-long h e = on-refused (require (ltb 0 (length rule) && leb (length rule) 4096) 1) _ 1 (rw (more, lt-leb _ _ h) refl) (omega arith) e
+
+    module _ (few : length rule ≤ 4096) where
+      sized : require (ltb 0 (length rule) && leb (length rule) 4096) 1 ≡ ok tt
+      sized = rw (more, le-leb _ _ few) refl
+
+      pub tree-refused : (a : NodeRead) → ReadGives rule (readRoot rule) a → (a .refused ≡ 0 → ⊥) → r .refused ≡ a .refused → TreeGives
+      unfolding readTree
+      tree-refused a g n e = on-ok (require (ltb 0 (length rule) && leb (length rule) 4096) 1) _ tt sized (behind-refused (readRoot rule) _ g n e)
+
+      pub tree-left : (a : NodeRead) → ReadGives rule (readRoot rule) a → a .refused ≡ 0 → a .next < length rule → r .refused ≡ 3 → TreeGives
+      unfolding readTree
+      tree-left a g z h e =
+          on-ok (require (ltb 0 (length rule) && leb (length rule) 4096) 1) _ tt sized
+          (behind-read (readRoot rule) _ g z
+          (λ x k. let left : isEmpty (x .rest) ≡ false = ap isEmpty (k .behind .rest-is) ∙ some-drop (a .next) rule h in
+              on-refused (require (isEmpty (x .rest)) 3) _ 3 (ap (λ (b : Bool). require b 3) left) (omega arith) e))
+
+      pub tree-gives : ReadGives rule (readRoot rule) r → r .refused ≡ 0 → length rule ≤ r .next → TreeGives
+      unfolding readTree
+      tree-gives g z h =
+          on-ok (require (ltb 0 (length rule) && leb (length rule) 4096) 1) _ tt sized
+          (behind-read (readRoot rule) _ g z
+          (λ x k. let none : isEmpty (x .rest) ≡ true = ap isEmpty (k .behind .rest-is) ∙ empty-drop (r .next) rule h in
+              on-ok (require (isEmpty (x .rest)) 3) _ tt (ap (λ (b : Bool). require b 3) none) (gives-read x refl z k)))

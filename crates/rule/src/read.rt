@@ -13,6 +13,7 @@ use crate::node::refuse_branches;
 use crate::node::unary_fits;
 use crate::node::unary_type;
 use crate::seen::Seen;
+use crate::seen::none_seen;
 use crate::types::TypeAnswer;
 use crate::types::is_listed;
 use crate::types::same_type;
@@ -27,7 +28,7 @@ ghost use mathlib.Core.List.{List};
 ghost use Prim.Native.Nat.{ℕ};
 ghost use lib.ListN.{drop};
 ghost use Rattle.rule.specs.Tree.{Column, Expr};
-ghost use Rattle.rule.specs.Reading.{Read, readUnary, readCast, readBinary, readLimitedCase, readParts, readOptional, readBranches, readField};
+ghost use Rattle.rule.specs.Reading.{Read, readUnary, readCast, readBinary, readLimitedCase, readParts, readOptional, readBranches, readField, readRoot, readTree};
 ghost use Rattle.rule.specs.Seen.{SeenIs};
 ghost use Rattle.rule.specs.Steps.{Gives, FieldRead, ReadGives, OptionalRead, BranchesAre, readThen, unaryOf, castOf, binaryOf, readTagged};
 
@@ -201,4 +202,40 @@ fn read_then(s: &[u8], w: NodeRead, count: u8, when: DataType, earlier: TypeAnsw
     let later = read_branches(s, t.next, count, when, TypeAnswer::Known(result), depth, cases, met);
     let tested = w.result;
     add_branch(tested, when, own, later)
+}
+
+// The root of a rule: a CASE.
+fn read_root(rule: &[u8]) -> NodeRead
+    ensures { λ r. ⌜ ReadGives (now (rule .entry)) (readRoot (now (rule .entry))) r ⌝ }
+{
+    let seen = none_seen();
+    match field_at(rule, 0) {
+        Header::Found(f) => {
+            if f.tag != 25 {
+                return refuse(3, seen);
+            }
+            read_field(rule, 0, 8, 3, seen)
+        }
+        Header::Cut => refuse(2, seen),
+    }
+}
+
+// A rule but for its constant casts: one CASE field of at most 4,096 bytes, with no byte after it.
+pub(crate) fn read_tree(rule: &[u8]) -> NodeRead
+    ensures { λ r. ⌜ ReadGives (now (rule .entry)) (readTree (now (rule .entry))) r ⌝ }
+{
+    if rule.len() == 0 {
+        return refuse(1, none_seen());
+    }
+    if 4096 < rule.len() {
+        return refuse(1, none_seen());
+    }
+    let r = read_root(rule);
+    if r.refused != 0 {
+        return r;
+    }
+    if r.next < rule.len() {
+        return refuse(3, none_seen());
+    }
+    r
 }
