@@ -8,3 +8,4 @@ pub mod SeenLaws
 pub mod StepLaws
 pub mod LeafLaws
 pub mod CycleLaws
+pub mod ProjectionLaws

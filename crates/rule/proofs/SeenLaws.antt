@@ -43,7 +43,7 @@ mark-parts c d e =
     let b = type-bounds (d .type) .1 in
     (omega arith, omega arith)
 
-mark-some : (c : Column) → eqb (markOf c) 0 ≡ false
+pub mark-some : (c : Column) → eqb (markOf c) 0 ≡ false
 mark-some c = let a = type-bounds (c .type) .0 in ne-eqb (markOf c) 0 (λ e. omega arith)
 
 like : Column → Column → Bool

@@ -2,6 +2,7 @@
 pub mod answer;
 pub(crate) mod leaf;
 pub(crate) mod node;
+pub(crate) mod projection;
 pub(crate) mod read;
 pub(crate) mod seen;
 pub mod strategy;
