@@ -9,3 +9,4 @@ pub mod StepLaws
 pub mod LeafLaws
 pub mod CycleLaws
 pub mod ProjectionLaws
+pub mod ReadColumns
