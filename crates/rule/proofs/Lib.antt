@@ -4,3 +4,4 @@ pub mod Sound
 pub mod PathLaws
 pub mod ReadBytes
 pub mod ReadTyped
+pub mod NodeLaws

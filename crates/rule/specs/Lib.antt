@@ -12,3 +12,4 @@ pub mod Strategy
 pub mod Projection
 pub mod Nullable
 pub mod Answers
+pub mod Walks
