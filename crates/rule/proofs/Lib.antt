@@ -5,3 +5,4 @@ pub mod PathLaws
 pub mod ReadBytes
 pub mod ReadTyped
 pub mod NodeLaws
+pub mod ReadNode

@@ -15,10 +15,10 @@ use Rattle.layout.specs.Place.{headerOf, headerAt}
 use Rattle.layout.proofs.TestLaws.{both-hold}
 use Rattle.layout.proofs.FieldLaws.{header-field}
 use Rattle.scalar.specs.declared.types.DataType.{DataType}
-use Rattle.scalar.specs.Types.{typeNumber}
-use Rattle.scalar.specs.Entry.{Entry}
+use Rattle.scalar.specs.Types.{typeNumber, markNumber}
+use Rattle.scalar.specs.Entry.{Entry, isNull}
 use Rattle.rule.specs.Tree.{Column, Expr, column, literal, negation, negative, isNotNull, cast, tryCast, equal, less, caseWhen, Branches, noMore, branch, Optional, absent, present, branchCount}
-use Rattle.rule.specs.TreeBytes.{flagsOf, bytesOf, branchesBytes, optionalBytes}
+use Rattle.rule.specs.TreeBytes.{valueBytes, flagsOf, bytesOf, branchesBytes, optionalBytes}
 use Rattle.rule.specs.Typing.{nodeTyped}
 use Rattle.rule.specs.WellFormed.{countFits, wellFormed, wellFormedBranches, wellFormedOptional}
 use Rattle.rule.specs.Node.{NodeAt, depthOf, branchesDepth, optionalDepth}
@@ -82,9 +82,10 @@ held-split {rule} a b {start} {end} m e h =
     let size = held-size h in
     let sum = length-append a b in
     let behind : drop start rule ≡ a ++ (b ++ drop end rule) = held-behind h ∙ append-assoc a b (drop end rule) in
-    let later : drop m rule ≡ b ++ drop end rule = ap (λ (n : ℕ). drop n rule) e ∙ sym (drop-drop (length a) start rule) ∙ ap (drop (length a)) behind ∙ drop-at a (b ++ drop end rule) (length a) refl in
-    (held-before (b ++ drop end rule) (h .all-bytes) (h .few) (sym e) (omega (arith, h .inside)) behind,
-     held-before (drop end rule) (h .all-bytes) (h .few) (omega arith) (h .inside) later)
+    let later : drop m rule ≡ b ++ drop end rule = ap (λ (n : ℕ). drop n rule) e ∙ sym (drop-drop (length a) start rule) ∙ ap (drop (length a)) behind ∙ drop-at a (b ++ drop end rule) (length a) refl in (
+      held-before (b ++ drop end rule) (h .all-bytes) (h .few) (sym e) (omega (arith, h .inside)) behind,
+      held-before (drop end rule) (h .all-bytes) (h .few) (omega arith) (h .inside) later,
+    )
 
 -- a byte of what is held
 pub held-byte : {rule bytes : List ℕ} {start end : ℕ} (i at : ℕ) → HeldAt rule start end bytes → i < length bytes → at ≡ start + i → byte rule at ≡ byte bytes i
@@ -264,15 +265,78 @@ trees-split {rule} {start} {end} {depth} {e} {es} t =
     let m = start + length (bytesOf e) in
     let h = held-split (bytesOf e) (treesBytes es) m refl (t .held) in
     let deep = t .deep in
-    let formed = both-hold (wellFormed e) (treesFormed es) (t .formed) in
-    (m,
-     record {
-       all-bytes = h .0 .all-bytes;
-       few = h .0 .few;
-       ordered = h .0 .ordered;
-       inside = h .0 .inside;
-       is = h .0 .is;
-       deep = omega arith;
-       formed = formed .0;
-     },
-     record { held = h .1; deep = omega arith; formed = formed .1 })
+    let formed = both-hold (wellFormed e) (treesFormed es) (t .formed) in (
+      m,
+      record {
+        all-bytes = h .0 .all-bytes;
+        few = h .0 .few;
+        ordered = h .0 .ordered;
+        inside = h .0 .inside;
+        is = h .0 .is;
+        deep = omega arith;
+        formed = formed .0;
+      },
+      record { held = h .1; deep = omega arith; formed = formed .1 },
+    )
+
+-- what the header at a node's start says
+pub node-found : {rule : List ℕ} {start end depth : ℕ} {e : Expr} {p : FieldPlace} → NodeAt rule start end e depth → headerAt rule start ≡ Found p
+    → (p .tag ≡ nodeTag e) × (p .start ≡ start + 3) × (p .end ≡ end)
+node-found {start = start} {end} {e = e} {p} n h =
+    let is : record { tag = nodeTag e; start = start + 3; end = end } ≡ p = let k = node-header n in cc in
+    (ap (λ (q : FieldPlace). q .tag) (sym is), ap (λ (q : FieldPlace). q .start) (sym is), ap (λ (q : FieldPlace). q .end) (sym is))
+
+-- it is there
+pub node-not-cut : {rule : List ℕ} {start end depth : ℕ} {e : Expr} → NodeAt rule start end e depth → headerAt rule start ≡ Cut → ⊥
+node-not-cut n h = let k = node-header n in let z : _≡_ {A = ℕ} 0 1 = cc in omega arith
+
+-- a node takes at least its header
+pub node-size : {rule : List ℕ} {start end depth : ℕ} {e : Expr} → NodeAt rule start end e depth → start + 3 ≤ end
+node-size {start = start} {e = e} n = let h = node-parts (start + 3 + length (headBytes e)) refl n in omega (arith, h .0 .ordered, h .1 .ordered)
+
+-- the field at the start of several trees is the first of them, and behind it stand the others
+pub record FirstAt (rule : List ℕ) (start end : ℕ) (e : Expr) (es : List Expr) (depth : ℕ) (p : FieldPlace) : Type 0 where
+  pub tag-is : p .tag ≡ nodeTag e
+  pub start-is : p .start ≡ start + 3
+  pub first : NodeAt rule start (p .end) e depth
+  pub later : TreesAt rule (p .end) end es depth
+
+pub trees-first : {rule : List ℕ} {start end depth : ℕ} {e : Expr} {es : List Expr} {p : FieldPlace} → TreesAt rule start end (e ∷ es) depth
+    → headerAt rule start ≡ Found p → FirstAt rule start end e es depth p
+trees-first {rule} {start} {end} {depth} {e} {es} {p} t h =
+    let (m, first, later) = trees-split t in
+    let (tag-is, start-is, end-is) = node-found first h in
+    record {
+      tag-is = tag-is;
+      start-is = start-is;
+      first = subst (λ (n : ℕ). NodeAt rule start n e depth) (sym end-is) first;
+      later = subst (λ (n : ℕ). TreesAt rule n end es depth) (sym end-is) later;
+    }
+
+pub trees-not-cut : {rule : List ℕ} {start end depth : ℕ} {e : Expr} {es : List Expr} → TreesAt rule start end (e ∷ es) depth → headerAt rule start ≡ Cut → ⊥
+trees-not-cut t h = node-not-cut (trees-split t .1) h
+
+-- no tree takes no room, and some take some
+pub trees-none : {rule : List ℕ} {start end depth : ℕ} → TreesAt rule start end [] depth → start ≡ end
+unfolding treesBytes
+trees-none t = let h = held-size (t .held) in omega arith
+
+pub trees-some : {rule : List ℕ} {start end depth : ℕ} {e : Expr} {es : List Expr} → TreesAt rule start end (e ∷ es) depth → start < end
+trees-some t = let (m, first, later) = trees-split t in omega (arith, node-size first, later .held .ordered)
+
+-- one tree is a node
+pub trees-one : {rule : List ℕ} {start end depth : ℕ} {e : Expr} → TreesAt rule start end (e ∷ []) depth → NodeAt rule start end e depth
+trees-one {rule} {start} {end} {depth} {e} t =
+    let (m, first, later) = trees-split t in
+    subst (λ (n : ℕ). NodeAt rule start n e depth) (trees-none later) first
+
+-- a literal's value
+pub literal-held : {rule : List ℕ} {start end depth : ℕ} {t : DataType} {v : Entry} → NodeAt rule start end (literal t v) depth
+    → HeldAt rule (start + 3 + 2) end (valueBytes v)
+unfolding treesBytes
+literal-held {rule} {start} {end} {depth} {t} {v} n =
+    let h = node-parts (start + 3 + length (headBytes (literal t v))) refl n in
+    let size = held-size (h .1) in
+    let e : start + 3 + length (headBytes (literal t v)) ≡ end = omega arith in
+    subst (λ (k : ℕ). HeldAt rule (start + 3 + 2) k (valueBytes v)) e
+    (held-split (typeNumber t ∷ markNumber (isNull v) ∷ []) (valueBytes v) (start + 3 + 2) refl (h .0) .1)
