@@ -1,14 +1,14 @@
 -- Bits in bytes and back. Assumes nothing.
-use mathlib.Core.Path.{_≡_, refl, ap, sym, _∙_}
+use mathlib.Core.Path.{_≡_, ap, sym, _∙_}
 use mathlib.Core.Bool.{Bool, true, false, cond}
 use mathlib.Core.List.{List, [], _∷_}
-use Prim.Native.Nat.{ℕ, zero, suc, _+_, _-_, _*_, _/_, _%_, _^_, _<_}
+use Prim.Native.Nat.{ℕ, zero, suc, _+_, _-_, _*_, _/_, _%_, _^_, _<_, _≤_}
 use native.Mathlib.Nat.{zero-div}
 use native.Mathlib.Omega.{arith}
 use lib.Dec.{eqb}
-use lib.ListN.{length, getD}
+use lib.ListN.{length, getD, List·getD-eq-default}
 use lib.Pow.{shr-shr, field, mod-mod-pow}
-use Rattle.layout.specs.Bytes.{byte, numberBytes, bitAt, bitmapLength, bitNumber, bitmap}
+use Rattle.layout.specs.Bytes.{byte, numberBytes, byteOfRow, bitOfRow, bitAt, bitmapLength, bitNumber, bitmap}
 use Rattle.layout.proofs.BytesLaws.{length-numberBytes}
 
 -- a byte of a number
@@ -59,3 +59,7 @@ bit-of-bitmap bits i h =
 -- a bitmap takes an eighth of its bits, rounded up
 pub length-bitmap : (bits : List Bool) → length (bitmap bits) ≡ bitmapLength (length bits)
 length-bitmap bits = length-numberBytes (bitmapLength (length bits)) (bitNumber bits)
+
+-- behind a bitmap's end no bit is set
+pub bit-behind : (map : List ℕ) (i : ℕ) → length map ≤ byteOfRow i → bitAt map i ≡ false
+bit-behind map i h = rw (List·getD-eq-default map 0 h, zero-div (2 ^ bitOfRow i))

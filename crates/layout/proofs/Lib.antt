@@ -4,3 +4,6 @@ pub mod ResultLaws
 pub mod BytesLaws
 pub mod FieldLaws
 pub mod BitLaws
+pub mod NumberLaws
+pub mod PartLaws
+pub mod PlaceLaws

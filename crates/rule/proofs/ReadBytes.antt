@@ -16,7 +16,7 @@ use Rattle.scalar.specs.declared.types.DataType.{DataType}
 use Rattle.scalar.specs.declared.types.DataType.the-variants.{Boolean, Int32, Int64, Float64, Utf8}
 use Rattle.scalar.specs.Types.{typeNumber, markNumber, markNumbered}
 use Rattle.scalar.specs.Entry.{Entry, int32, int64, float64, isNull}
-use Rattle.scalar.proofs.TypesLaws.{markNumbered-ok}
+use Rattle.scalar.proofs.TypeLaws.{markNumbered-ok}
 use Rattle.rule.specs.Tree.{Column, Expr, column, literal, negation, negative, isNotNull, cast, tryCast, equal, less, caseWhen, Branches, branch, Optional, branchCount}
 use Rattle.rule.specs.TreeBytes.{valueBytes, isPresent, flagsOf, bytesOf, branchesBytes, optionalBytes}
 use Rattle.rule.specs.Reading.{Read, Reader, Kind, aColumn, aLiteral, aNot, aNegative, anIsNotNull, aCast, aTryCast, anEqual, aLess, aCase, tagOf, readColumn, numberOf, literalValue, markedValue, readLiteral, readUnary, readCast, readBinary, readBranches, readOptional, hasBase, hasElse, readParts, readCase, readLimitedCase, readKind, readField, depthMost, casesMost, readRule}

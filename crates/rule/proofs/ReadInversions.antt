@@ -15,7 +15,7 @@ use Rattle.layout.proofs.ResultLaws.{refused-not-ok, ok-injective, bind-ok, req
 use Rattle.scalar.specs.declared.types.DataType.{DataType}
 use Rattle.scalar.specs.Types.{typeNumber, typeNumbered, markNumber, markNumbered}
 use Rattle.scalar.specs.Entry.{Entry}
-use Rattle.scalar.proofs.TypesLaws.{typeNumbered-ok, markNumbered-ok}
+use Rattle.scalar.proofs.TypeLaws.{typeNumbered-ok, markNumbered-ok}
 use Rattle.rule.specs.Tree.{Column, Expr, column, literal, caseWhen, Branches, branch, Optional, present, branchCount}
 use Rattle.rule.specs.Typing.{nodeTyped}
 use Rattle.rule.specs.Constant.{isEmpty, constantFails}

@@ -1,3 +1,6 @@
 -- The laws of `scalar`.
-pub mod TypesLaws
+pub mod IntegerLaws
+pub mod FloatLaws
 pub mod TypeLaws
+pub mod ValueLaws
+pub mod EntryLaws

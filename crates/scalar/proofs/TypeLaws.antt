@@ -1,22 +1,14 @@
--- Each operation keeps types: what it gives is null or a value of its type, within its bits. Assumes nothing.
+-- Types and marks by their numbers. Each operation keeps types: what it gives is null or a value of its type, within its bits. Assumes nothing.
 use mathlib.Core.Bool.{Bool, true, false, false≢true, cond}
 use mathlib.Core.Path.{_≡_, refl, ap}
-use Prim.Native.Nat.{ℕ, suc, _+_, _-_, _^_, _<_}
-use native.Mathlib.Nat.{mod-lt, pow-suc}
-use native.Mathlib.Omega.{arith}
-use lib.Dec.{ltb}
-use lib.Pow.{pow-pos}
-use lib.IntN.{ℤ, pos, negsuc}
-use lib.Ieee.{binary64, ofInt}
-use lib.Ieee.Fits.{ofInt-fits}
-use lib.Ieee.Bits.{toBits-lt}
+use Prim.Native.Nat.{ℕ, zero, suc}
 use borrow.Author.Tests.{ltb-true, eqb-true, lt-ltb}
 use Rattle.layout.specs.Result.{ok}
+use Rattle.layout.proofs.ResultLaws.{refused-not-ok, ok-injective}
 use Rattle.scalar.specs.declared.types.DataType.{DataType}
 use Rattle.scalar.specs.declared.types.DataType.the-variants.{Boolean, Int32, Int64, Float64, Utf8}
-use Rattle.scalar.specs.Types.{typeNumber, sameType, typeNumbered}
+use Rattle.scalar.specs.Types.{typeNumber, sameType, typeNumbered, markNumber, markNumbered}
 use Rattle.scalar.specs.Integer.{signed, bitsOf, inRange}
-use Rattle.scalar.specs.Float.{signTurned, floatBits}
 use Rattle.scalar.specs.Entry.{Entry, null, boolean, int32, int64, float64, utf8, Outcome, entry, unfit, ofType, outcomeOfType}
 use Rattle.scalar.specs.Pair.{Pair, bothNull, oneNull, unlike, booleans, int32s, int64s, float64s, texts, pairOf}
 use Rattle.scalar.specs.Not.{notEntry}
@@ -25,6 +17,26 @@ use Rattle.scalar.specs.IsNotNull.{isNotNullEntry}
 use Rattle.scalar.specs.Cast.{castEntry, narrowed}
 use Rattle.scalar.specs.TryCast.{orNull, tryCastEntry}
 use Rattle.scalar.specs.Compare.{equalPair, equalEntry, lessPair, lessEntry}
+use Rattle.scalar.proofs.IntegerLaws.{bitsOf-below}
+use Rattle.scalar.proofs.FloatLaws.{floatBits-below, signTurned-below}
+
+-- a type is the one of its number
+pub typeNumbered-ok : (n a : ℕ) (t : DataType) → typeNumbered n a ≡ ok t → a ≡ typeNumber t
+unfolding typeNumbered
+typeNumbered-ok n zero t e = absurd (refused-not-ok n t e)
+typeNumbered-ok n (suc zero) t e = ap typeNumber (ok-injective e)
+typeNumbered-ok n (suc (suc zero)) t e = ap typeNumber (ok-injective e)
+typeNumbered-ok n (suc (suc (suc zero))) t e = ap typeNumber (ok-injective e)
+typeNumbered-ok n (suc (suc (suc (suc zero)))) t e = ap typeNumber (ok-injective e)
+typeNumbered-ok n (suc (suc (suc (suc (suc zero))))) t e = ap typeNumber (ok-injective e)
+typeNumbered-ok n (suc (suc (suc (suc (suc (suc k)))))) t e = absurd (refused-not-ok n t e)
+
+-- and so is a mark
+pub markNumbered-ok : (n a : ℕ) (b : Bool) → markNumbered n a ≡ ok b → a ≡ markNumber b
+unfolding markNumbered
+markNumbered-ok n zero b e = ap markNumber (ok-injective e)
+markNumbered-ok n (suc zero) b e = ap markNumber (ok-injective e)
+markNumbered-ok n (suc (suc k)) b e = absurd (refused-not-ok n b e)
 
 -- a type is told by its number
 type-numbered : (a : DataType) → typeNumbered 0 (typeNumber a) ≡ ok a
@@ -41,25 +53,6 @@ sameType-eq a b p =
     let e : typeNumbered 0 (typeNumber a) ≡ typeNumbered 0 (typeNumber b) = ap (typeNumbered 0) (eqb-true _ _ p) in
     cc (type-numbered a, type-numbered b)
 
--- the bits of an integer are of their width
-pub bitsOf-below : (h : ℕ) (z : ℤ) → bitsOf h z < 2 ^ suc h
-unfolding bitsOf
-bitsOf-below h (pos n) = mod-lt n (pow-pos (suc h))
-bitsOf-below h (negsuc n) = omega (arith, pow-pos (suc h))
-
--- the bits of an integer's float are 64
-floatBits-below : (z : ℤ) → floatBits z < 2 ^ 64
-floatBits-below z = toBits-lt binary64 (ofInt binary64 z) (ofInt-fits binary64 z)
-
--- a pattern whose sign is turned is of its width
-signTurned-below : (h n : ℕ) → n < 2 ^ suc h → signTurned h n < 2 ^ suc h
-signTurned-below h n b = go (ltb n (2 ^ h)) refl
-  where
-    go : (t : Bool) → ltb n (2 ^ h) ≡ t → cond t (n + 2 ^ h) (n - 2 ^ h) < 2 ^ suc h
-    go true p = let l : n < 2 ^ h = ltb-true _ _ p in omega (arith, pow-suc 2 h)
-    go false p = omega arith
-
--- a test does not both hold and fail
 never : {A : Type 0} → false ≡ true → A
 never p = absurd (false≢true p)
 

@@ -15,6 +15,10 @@ totalLess h a b =
     cond (ltb a (2 ^ h)) (cond (ltb b (2 ^ h)) (ltb a b) false)
     (cond (ltb b (2 ^ h)) true (ltb b a))
 
+-- a number that goes with totalOrder: without the sign the bits rise above it, with it they fall below
+abbrev pub totalKey : ℕ → ℕ → ℕ
+totalKey h n = cond (ltb n (2 ^ h)) (n + 2 ^ h) (2 ^ suc h - suc n)
+
 -- the bits of the float nearest to an integer, ties to even; every Int32 is a float exactly
 abbrev pub floatBits : ℤ → ℕ
 floatBits z = toBits binary64 (ofInt binary64 z)

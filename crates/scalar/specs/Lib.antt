@@ -12,3 +12,4 @@ pub mod Cast
 pub mod TryCast
 pub mod Compare
 pub mod Value
+pub mod Casts

@@ -7,7 +7,7 @@ use lib.Dec.{ltb}
 use lib.ListN.{getElem?}
 use Rattle.layout.specs.Result.{Result, refused, ok}
 use Rattle.scalar.specs.Entry.{Outcome, entry}
-use Rattle.scalar.specs.Value.{meaning}
+use Rattle.scalar.specs.Value.{meaning, Storable}
 use Rattle.table.specs.declared.answer.EntryAnswer.{EntryAnswer}
 use Rattle.table.specs.declared.answer.EntryAnswer.the-variants.{Entry as AnEntry, NoColumn, NoRow, Refused}
 use Rattle.table.specs.Column.{TableColumn, entryAt}
@@ -33,3 +33,10 @@ entryAnswer table (AnEntry v) = has (meaning [] table v)
 entryAnswer table NoColumn = noColumn
 entryAnswer table NoRow = noRow
 entryAnswer table (Refused n) = tableRefused n
+
+-- the value of an answer keeps whole in a kind and a payload
+abbrev pub StorableAnswer : EntryAnswer → Type 0
+StorableAnswer (AnEntry v) = Storable v
+StorableAnswer NoColumn = Unit {0}
+StorableAnswer NoRow = Unit {0}
+StorableAnswer (Refused n) = Unit {0}

@@ -2,3 +2,4 @@
 pub mod Column
 pub mod Reading
 pub mod Answers
+pub mod Places
