@@ -5,4 +5,5 @@ pub mod PathLaws
 pub mod ReadBytes
 pub mod ReadTyped
 pub mod NodeLaws
+pub mod WalkLaws
 pub mod ReadNode

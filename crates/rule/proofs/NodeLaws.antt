@@ -294,6 +294,19 @@ node-not-cut n h = let k = node-header n in let z : _≡_ {A = ℕ} 0 1 = cc in 
 pub node-size : {rule : List ℕ} {start end depth : ℕ} {e : Expr} → NodeAt rule start end e depth → start + 3 ≤ end
 node-size {start = start} {e = e} n = let h = node-parts (start + 3 + length (headBytes e)) refl n in omega (arith, h .0 .ordered, h .1 .ordered)
 
+-- a node starts with its tag
+pub node-tag : {rule : List ℕ} {start end depth : ℕ} {e : Expr} → NodeAt rule start end e depth → byte rule start ≡ nodeTag e
+unfolding fieldBytes
+node-tag {start = start} n = held-byte 0 start (node-held n) (omega arith) (omega arith)
+
+-- a leaf ends behind its bytes
+pub node-end : {rule : List ℕ} {start end depth : ℕ} {e : Expr} → NodeAt rule start end e depth → childrenOf e ≡ [] → start + 3 + length (headBytes e) ≡ end
+unfolding treesBytes
+node-end {start = start} {e = e} n leaf =
+    let size = held-size (node-parts (start + 3 + length (headBytes e)) refl n .1) in
+    let none : length (treesBytes (childrenOf e)) ≡ 0 = ap (λ (es : List Expr). length (treesBytes es)) leaf in
+    omega arith
+
 -- the field at the start of several trees is the first of them, and behind it stand the others
 pub record FirstAt (rule : List ℕ) (start end : ℕ) (e : Expr) (es : List Expr) (depth : ℕ) (p : FieldPlace) : Type 0 where
   pub tag-is : p .tag ≡ nodeTag e

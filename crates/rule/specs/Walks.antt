@@ -2,15 +2,19 @@
 use mathlib.Core.Path.{_≡_}
 use mathlib.Core.Bool.{Bool, true, false, _&&_}
 use mathlib.Core.List.{List, [], _∷_, _++_}
-use Prim.Native.Nat.{ℕ, _≤_, max}
+use Prim.Native.Nat.{ℕ, _+_, _-_, _<_, _≤_, max}
 use lib.ListN.{length}
 use Rattle.layout.specs.Bytes.{Bytes, part}
 use Rattle.scalar.specs.Types.{typeNumber, markNumber}
-use Rattle.scalar.specs.Entry.{isNull}
+use Rattle.scalar.specs.declared.types.DataType.{DataType}
+use Rattle.scalar.specs.declared.value.Value.{Value}
+use Rattle.scalar.specs.Entry.{Entry, isNull, entry}
+use Rattle.scalar.specs.Value.{meaning, Storable}
 use Rattle.rule.specs.Tree.{Column, Expr, column, literal, negation, negative, isNotNull, cast, tryCast, equal, less, caseWhen, Branches, noMore, branch, Optional, absent, present, branchCount}
 use Rattle.rule.specs.TreeBytes.{valueBytes, flagsOf, bytesOf}
 use Rattle.rule.specs.WellFormed.{wellFormed}
-use Rattle.rule.specs.Node.{depthOf}
+use Rattle.rule.specs.Typing.{typeOf}
+use Rattle.rule.specs.Node.{NodeAt, depthOf}
 
 -- the trees of branches, WHEN and THEN in turn
 abbrev pub branchTrees : Branches → List Expr
@@ -86,3 +90,40 @@ pub record TreesAt (rule : List ℕ) (start end : ℕ) (es : List Expr) (depth :
   pub held : HeldAt rule start end (treesBytes es)
   pub deep : treesDepth es ≤ depth
   pub formed : treesFormed es ≡ true
+
+-- the end of the field at a place: of whatever node stands there; always onward
+pub record EndGives (rule : List ℕ) (at r : ℕ) : Type 0 where
+  pub ends : (end : ℕ) (e : Expr) (depth : ℕ) → NodeAt rule at end e depth → r ≡ end
+  pub onward : at ≤ r
+  pub farther : at < length rule → at < r
+
+-- where the children of whatever node stands at a place stand; always onward
+pub record ChildrenGives (rule : List ℕ) (at r : ℕ) : Type 0 where
+  pub stand : (end : ℕ) (e : Expr) (depth : ℕ) → NodeAt rule at end e depth → TreesAt rule r end (childrenOf e) (depth - 1)
+  pub onward : at ≤ r
+  pub farther : at < length rule → at < r
+
+-- what stands behind so many trees
+pub record BehindGives (rule : List ℕ) (at count r : ℕ) : Type 0 where
+  pub stand : (end : ℕ) (es rest : List Expr) (depth : ℕ) → length es ≡ count → TreesAt rule at end (es ++ rest) depth → TreesAt rule r end rest depth
+  pub onward : at ≤ r
+
+-- the value of whatever literal stands at a place
+abbrev pub LiteralGives : List ℕ → ℕ → ℕ → Value → Type 0
+LiteralGives rule start end r =
+    (t : DataType) (v : Entry) (depth : ℕ) → NodeAt rule start end (literal t v) depth → ((table : List ℕ) → meaning rule table r ≡ entry v) × Storable r
+
+-- the type of a number
+abbrev pub NumberedGives : ℕ → DataType → Type 0
+NumberedGives n r = (t : DataType) → n ≡ typeNumber t → r ≡ t
+
+-- where the first THEN of whatever CASE stands at a place stands; always onward
+pub record ThenGives (rule : List ℕ) (at r : ℕ) : Type 0 where
+  pub stand : (end : ℕ) (b : Optional) (w t : Expr) (bs : Branches) (els : Optional) (depth : ℕ) → NodeAt rule at end (caseWhen b (branch w t bs) els) depth
+      → (m : ℕ) × NodeAt rule r m t (depth - 1)
+  pub onward : at ≤ r
+  pub farther : at < length rule → at < r
+
+-- the type of whatever node stands at a place
+abbrev pub TypeGives : List ℕ → ℕ → DataType → Type 0
+TypeGives rule start r = (end : ℕ) (e : Expr) (depth : ℕ) → NodeAt rule start end e depth → r ≡ typeOf e
