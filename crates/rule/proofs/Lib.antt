@@ -6,4 +6,6 @@ pub mod ReadBytes
 pub mod ReadTyped
 pub mod NodeLaws
 pub mod WalkLaws
+pub mod LiteralLaws
+pub mod TypeOfLaws
 pub mod ReadNode

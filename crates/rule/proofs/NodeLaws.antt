@@ -62,7 +62,7 @@ held-size {rule} {bytes} {start} {end} h =
     omega (arith, h .ordered)
 
 -- behind them stands what is behind their end
-held-behind : {rule bytes : List ℕ} {start end : ℕ} → HeldAt rule start end bytes → drop start rule ≡ bytes ++ drop end rule
+pub held-behind : {rule bytes : List ℕ} {start end : ℕ} → HeldAt rule start end bytes → drop start rule ≡ bytes ++ drop end rule
 held-behind {rule} {bytes} {start} {end} h =
     let e : start + (end - start) ≡ end = omega (arith, h .ordered) in
     sym (take-append-drop (end - start) (drop start rule))
@@ -344,12 +344,8 @@ trees-one {rule} {start} {end} {depth} {e} t =
     subst (λ (n : ℕ). NodeAt rule start n e depth) (trees-none later) first
 
 -- a literal's value
-pub literal-held : {rule : List ℕ} {start end depth : ℕ} {t : DataType} {v : Entry} → NodeAt rule start end (literal t v) depth
-    → HeldAt rule (start + 3 + 2) end (valueBytes v)
-unfolding treesBytes
-literal-held {rule} {start} {end} {depth} {t} {v} n =
-    let h = node-parts (start + 3 + length (headBytes (literal t v))) refl n in
-    let size = held-size (h .1) in
-    let e : start + 3 + length (headBytes (literal t v)) ≡ end = omega arith in
-    subst (λ (k : ℕ). HeldAt rule (start + 3 + 2) k (valueBytes v)) e
-    (held-split (typeNumber t ∷ markNumber (isNull v) ∷ []) (valueBytes v) (start + 3 + 2) refl (h .0) .1)
+pub literal-held : {rule : List ℕ} {start end depth : ℕ} {t : DataType} {v : Entry} (at : ℕ) → at ≡ start + 5 → NodeAt rule start end (literal t v) depth
+    → HeldAt rule at end (valueBytes v)
+literal-held {rule} {start} {end} {depth} {t} {v} at p n =
+    let h = node-parts end (sym (node-end n refl)) n in
+    held-split (typeNumber t ∷ markNumber (isNull v) ∷ []) (valueBytes v) at (omega arith) (h .0) .1

@@ -1,3 +1,10 @@
+-- `literal_value` reads the mark, the type and the value of a literal, arm by arm.
+use Prim.Native.Nat.{_+_}
+use native.Mathlib.Omega.{arith}
+use mathlib.Core.Path.{refl}
+use Rattle.rule.proofs.LiteralLaws.{null-gives, boolean-gives, int32-gives, int64-gives, float64-gives, text-gives}
+use Rattle.rule.proofs.NodeLaws.{literal-held}
+use Rattle.rule.proofs.WalkLaws.{nothing-behind}
 use borrow.Author.Needs.{needs}
 use Rattle.rule.proofs.literal.literal_value.Statement.{statement}
 use Rattle.rule.proofs.literal.literal_value.Tie as tie
@@ -10,7 +17,7 @@ use Rattle.scalar.proofs.value.float_value.Reads as float-value-reads
 
 -- src/literal.rt:15:9
 returns : tie.Need-returns
-returns c = ?
+returns c = λ t v depth n. absurd (let k = nothing-behind n in omega arith)
 
 -- src/literal.rt:17:22
 add-byte-at : tie.Need-add-byte-at
@@ -22,7 +29,7 @@ byte-at-requires c κs = search needs
 
 -- src/literal.rt:18:9
 returns-2 : tie.Need-returns-2
-returns-2 c = ?
+returns-2 c = null-gives (c .before .byte-at .ensures) (c .if2 .taken)
 
 -- src/literal.rt:20:14
 add-at : tie.Need-add-at
@@ -58,27 +65,27 @@ float-value-requires c κs = search needs
 
 -- src/literal.rt:28:17
 returns-3 : tie.Need-returns-3
-returns-3 c = ?
+returns-3 c = λ t v depth n. absurd (omega (arith, literal-held (c .before .before .before .before .before .before .before .args .start + 5) refl n .ordered))
 
 -- src/literal.rt:11:1
 returns-4 : tie.Need-returns-4
-returns-4 c = ?
+returns-4 c = boolean-gives (c .before .before .before .before .byte-at .ensures) (c .before .before .before .if2 .left) (c .before .before .byte-at2 .ensures) refl (c .before .match .keys1) (c .byte-at3 .ensures)
 
 -- src/literal.rt:11:1
 returns-5 : tie.Need-returns-5
-returns-5 c = ?
+returns-5 c = int32-gives (c .before .before .before .before .byte-at .ensures) (c .before .before .before .if2 .left) (c .before .before .byte-at2 .ensures) refl (c .before .match .keys2) (c .read-u32 .ensures)
 
 -- src/literal.rt:11:1
 returns-6 : tie.Need-returns-6
-returns-6 c = ?
+returns-6 c = int64-gives (c .before .before .before .before .byte-at .ensures) (c .before .before .before .if2 .left) (c .before .before .byte-at2 .ensures) refl (c .before .match .keys3) (c .read-u64 .ensures)
 
 -- src/literal.rt:11:1
 returns-7 : tie.Need-returns-7
-returns-7 c = ?
+returns-7 c = float64-gives (c .before .before .before .before .before .byte-at .ensures) (c .before .before .before .before .if2 .left) (c .before .before .before .byte-at2 .ensures) refl (c .float-value .result) (c .before .before .match .keys4) (c .before .read-u642 .ensures) (c .float-value .ensures)
 
 -- src/literal.rt:11:1
 returns-8 : tie.Need-returns-8
-returns-8 c = ?
+returns-8 c = text-gives (c .before .before .before .before .byte-at .ensures) (c .before .before .before .if2 .left) (c .before .before .byte-at2 .ensures) refl (c .before .match .rest)
 
 pub literal-value-spec : {M : Type 1} → statement M
 literal-value-spec =
