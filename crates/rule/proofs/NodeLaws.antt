@@ -4,8 +4,10 @@ use mathlib.Core.Bool.{Bool, true, false, _&&_}
 use mathlib.Core.List.{List, [], _∷_, _++_, append-nil, append-assoc}
 use Prim.Native.Nat.{ℕ, zero, suc, _+_, _-_, _<_, _≤_, max}
 use native.Mathlib.Omega.{arith}
+use lib.Dec.{leb, ltb}
 use lib.ListN.{length, getD, take, drop, length-append, length-take, length-drop, take-append-drop, List·getD-append}
 use lib.Seq.{length-take-le, drop-drop, take-at, drop-at, getD-drop}
+use borrow.Author.Tests.{ltb-true, leb-true}
 use Rattle.layout.specs.declared.field.FieldPlace.{FieldPlace}
 use Rattle.layout.specs.declared.field.Header.the-variants.{Found, Cut}
 use Rattle.layout.specs.Result.{Result, ok}
@@ -349,3 +351,12 @@ pub literal-held : {rule : List ℕ} {start end depth : ℕ} {t : DataType} {v :
 literal-held {rule} {start} {end} {depth} {t} {v} at p n =
     let h = node-parts end (sym (node-end n refl)) n in
     held-split (typeNumber t ∷ markNumber (isNull v) ∷ []) (valueBytes v) at (omega arith) (h .0) .1
+
+-- a CASE has a branch, and at most 32
+pub case-counted : {rule : List ℕ} {start end depth : ℕ} {b : Optional} {bs : Branches} {e : Optional} → NodeAt rule start end (caseWhen b bs e) depth
+    → (0 < branchCount bs) × (branchCount bs ≤ 32)
+unfolding wellFormed
+case-counted {b = b} {bs} {e} n =
+    let i = both-hold (countFits bs) (nodeTyped (caseWhen b bs e) && (wellFormedOptional b && (wellFormedBranches bs && wellFormedOptional e))) (n .formed) in
+    let j = both-hold (ltb 0 (branchCount bs)) (leb (branchCount bs) 32) (i .0) in
+    (ltb-true _ _ (j .0), leb-true _ _ (j .1))
