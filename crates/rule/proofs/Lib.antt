@@ -8,4 +8,5 @@ pub mod NodeLaws
 pub mod WalkLaws
 pub mod LiteralLaws
 pub mod TypeOfLaws
+pub mod ConstantLaws
 pub mod ReadNode

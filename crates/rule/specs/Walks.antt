@@ -8,12 +8,21 @@ use Rattle.layout.specs.Bytes.{Bytes, part}
 use Rattle.scalar.specs.Types.{typeNumber, markNumber}
 use Rattle.scalar.specs.declared.types.DataType.{DataType}
 use Rattle.scalar.specs.declared.value.Value.{Value}
-use Rattle.scalar.specs.Entry.{Entry, isNull, entry}
-use Rattle.scalar.specs.Value.{meaning, Storable}
+use Rattle.scalar.specs.Entry.{Entry, boolean, isNull, Outcome, entry, onEntries}
+use Rattle.scalar.specs.Not.{notEntry}
+use Rattle.scalar.specs.Negative.{negativeEntry}
+use Rattle.scalar.specs.IsNotNull.{isNotNullEntry}
+use Rattle.scalar.specs.Cast.{castEntry}
+use Rattle.scalar.specs.TryCast.{tryCastEntry}
+use Rattle.scalar.specs.Compare.{equalEntry, lessEntry}
+use Rattle.scalar.specs.Value.{meaning, Storable, Gives}
 use Rattle.rule.specs.Tree.{Column, Expr, column, literal, negation, negative, isNotNull, cast, tryCast, equal, less, caseWhen, Branches, noMore, branch, Optional, absent, present, branchCount}
 use Rattle.rule.specs.TreeBytes.{valueBytes, flagsOf, bytesOf}
 use Rattle.rule.specs.WellFormed.{wellFormed}
 use Rattle.rule.specs.Typing.{typeOf}
+use Rattle.rule.specs.Row.{equalsTest, withBase, eval, evalBranches, evalElse}
+use Rattle.rule.specs.Constant.{unread}
+use Rattle.rule.specs.Nullable.{replaced, replacedBranches, replacedOptional, mayPass}
 use Rattle.rule.specs.Node.{NodeAt, depthOf}
 
 -- the trees of branches, WHEN and THEN in turn
@@ -127,3 +136,77 @@ pub record ThenGives (rule : List ℕ) (at r : ℕ) : Type 0 where
 -- the type of whatever node stands at a place
 abbrev pub TypeGives : List ℕ → ℕ → DataType → Type 0
 TypeGives rule start r = (end : ℕ) (e : Expr) (depth : ℕ) → NodeAt rule start end e depth → r ≡ typeOf e
+
+-- a tree whose parts that equal the bytes are replaced, itself kept
+abbrev pub within : Expr → List ℕ → Expr
+within (column c) bytes = column c
+within (literal t v) bytes = literal t v
+within (negation e) bytes = negation (replaced e bytes)
+within (negative e) bytes = negative (replaced e bytes)
+within (isNotNull e) bytes = isNotNull (replaced e bytes)
+within (cast t e) bytes = cast t (replaced e bytes)
+within (tryCast t e) bytes = tryCast t (replaced e bytes)
+within (equal a b) bytes = equal (replaced a bytes) (replaced b bytes)
+within (less a b) bytes = less (replaced a bytes) (replaced b bytes)
+within (caseWhen b bs e) bytes = caseWhen (replacedOptional b bytes) (replacedBranches bs bytes) (replacedOptional e bytes)
+
+-- a value means an outcome, whatever the table
+abbrev pub Means : List ℕ → Value → Outcome → Type 0
+Means rule r o = (table : List ℕ) → meaning rule table r ≡ o
+
+-- what a node of one child makes of it, by its tag and its type byte
+pub record OneGives (tag number : ℕ) (v r : Value) : Type 0 where
+  pub ofNot : tag ≡ 18 → Gives (λ e. entry (notEntry e)) v r
+  pub ofNegative : tag ≡ 19 → Gives (λ e. entry (negativeEntry e)) v r
+  pub ofIsNotNull : tag ≡ 20 → Gives (λ e. entry (isNotNullEntry e)) v r
+  pub ofCast : tag ≡ 21 → (t : DataType) → number ≡ typeNumber t → Gives (castEntry t) v r
+  pub ofTryCast : tag ≡ 22 → (t : DataType) → number ≡ typeNumber t → Gives (λ e. entry (tryCastEntry t e)) v r
+
+-- what a comparison makes of two values, by its tag
+pub record TwoGives (rule : List ℕ) (tag : ℕ) (a b r : Value) : Type 0 where
+  pub ofEqual : tag ≡ 23 → (x y : Outcome) → Means rule a x → Means rule b y → Means rule r (onEntries equalEntry x y)
+  pub ofLess : tag ≡ 24 → (x y : Outcome) → Means rule a x → Means rule b y → Means rule r (onEntries lessEntry x y)
+
+-- whether a WHEN passes or failed
+abbrev pub PassGives : Value → Bool → Type 0
+PassGives v r = (rule table : List ℕ) → r ≡ mayPass (meaning rule table v)
+
+-- on the row of which no column can be read, with the parts that equal the target's bytes as null: whatever node stands at a place,
+abbrev pub ConstantGives : List ℕ → ℕ → ℕ → List ℕ → ℕ → Value → Type 0
+ConstantGives rule start end target depth r = (e : Expr) → NodeAt rule start end e depth → Means rule r (eval (replaced e target) unread)
+
+-- the same of a node that doesn't equal them, whose children nest at most so deep,
+abbrev pub WithinGives : List ℕ → ℕ → ℕ → List ℕ → ℕ → Value → Type 0
+WithinGives rule start end target depth r = (e : Expr) → NodeAt rule start end e (depth + 1) → Means rule r (eval (within e target) unread)
+
+-- of a CASE,
+abbrev pub CaseGives : List ℕ → ℕ → ℕ → List ℕ → ℕ → Value → Type 0
+CaseGives rule start end target depth r =
+    (b : Optional) (bs : Branches) (els : Optional) → NodeAt rule start end (caseWhen b bs els) (depth + 1)
+    → Means rule r (eval (within (caseWhen b bs els) target) unread)
+
+-- of a base, which is true where there is none,
+abbrev pub baseOutcome : Optional → Outcome
+baseOutcome absent = entry (boolean true)
+baseOutcome (present b) = eval b unread
+
+abbrev pub BaseGives : List ℕ → ℕ → ℕ → List ℕ → ℕ → Value → Type 0
+BaseGives rule at end target depth r = (b : Optional) → TreesAt rule at end (optionalTrees b) depth → Means rule r (baseOutcome (replacedOptional b target))
+
+-- of ELSE,
+abbrev pub ElseGives : List ℕ → ℕ → ℕ → DataType → List ℕ → ℕ → Value → Type 0
+ElseGives rule at end to target depth r = (els : Optional) → TreesAt rule at end (optionalTrees els) depth → Means rule r (evalElse (replacedOptional els target) unread to)
+
+-- of branches and ELSE behind them, by a base,
+abbrev pub BranchesGives : List ℕ → ℕ → ℕ → ℕ → Value → DataType → List ℕ → ℕ → Value → Type 0
+BranchesGives rule at end count base to target depth r =
+    (bs : Branches) (els : Optional) (b : Entry) → TreesAt rule at end (branchTrees bs ++ optionalTrees els) depth → branchCount bs ≡ count → Means rule base (entry b)
+    → Means rule r (evalBranches (replacedBranches bs target) unread (equalsTest b) (evalElse (replacedOptional els target) unread to))
+
+-- by a base that may be null or have failed
+abbrev pub WithBaseGives : List ℕ → ℕ → ℕ → ℕ → Value → DataType → List ℕ → ℕ → Value → Type 0
+WithBaseGives rule at end count base to target depth r =
+    (bs : Branches) (els : Optional) (o : Outcome) → TreesAt rule at end (branchTrees bs ++ optionalTrees els) depth → branchCount bs ≡ count → Means rule base o
+    → Means rule r
+    (withBase o (λ test. evalBranches (replacedBranches bs target) unread test (evalElse (replacedOptional els target) unread to))
+    (evalElse (replacedOptional els target) unread to))
