@@ -9,4 +9,5 @@ pub mod WalkLaws
 pub mod LiteralLaws
 pub mod TypeOfLaws
 pub mod ConstantLaws
+pub mod ConstantNode
 pub mod ReadNode

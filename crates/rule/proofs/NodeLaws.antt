@@ -360,3 +360,18 @@ case-counted {b = b} {bs} {e} n =
     let i = both-hold (countFits bs) (nodeTyped (caseWhen b bs e) && (wellFormedOptional b && (wellFormedBranches bs && wellFormedOptional e))) (n .formed) in
     let j = both-hold (ltb 0 (branchCount bs)) (leb (branchCount bs) 32) (i .0) in
     (ltb-true _ _ (j .0), leb-true _ _ (j .1))
+
+-- what nests at most so deep nests at most deeper
+pub node-deeper : {rule : List ℕ} {start end depth : ℕ} {e : Expr} (d : ℕ) → depth ≤ d → NodeAt rule start end e depth → NodeAt rule start end e d
+node-deeper d p n = record {
+  all-bytes = n .all-bytes;
+  few = n .few;
+  ordered = n .ordered;
+  inside = n .inside;
+  is = n .is;
+  deep = omega (arith, n .deep);
+  formed = n .formed;
+}
+
+pub trees-deeper : {rule : List ℕ} {start end depth : ℕ} {es : List Expr} (d : ℕ) → depth ≤ d → TreesAt rule start end es depth → TreesAt rule start end es d
+trees-deeper d p t = record { held = t .held; deep = omega (arith, t .deep); formed = t .formed }

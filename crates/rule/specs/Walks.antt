@@ -20,7 +20,7 @@ use Rattle.rule.specs.Tree.{Column, Expr, column, literal, negation, neg
 use Rattle.rule.specs.TreeBytes.{valueBytes, flagsOf, bytesOf}
 use Rattle.rule.specs.WellFormed.{wellFormed}
 use Rattle.rule.specs.Typing.{typeOf}
-use Rattle.rule.specs.Row.{equalsTest, withBase, eval, evalBranches, evalElse}
+use Rattle.rule.specs.Row.{Test, equalsTest, withBase, eval, evalBranches, evalElse}
 use Rattle.rule.specs.Constant.{unread}
 use Rattle.rule.specs.Nullable.{replaced, replacedBranches, replacedOptional, mayPass}
 use Rattle.rule.specs.Node.{NodeAt, depthOf}
@@ -172,41 +172,42 @@ abbrev pub PassGives : Value → Bool → Type 0
 PassGives v r = (rule table : List ℕ) → r ≡ mayPass (meaning rule table v)
 
 -- on the row of which no column can be read, with the parts that equal the target's bytes as null: whatever node stands at a place,
-abbrev pub ConstantGives : List ℕ → ℕ → ℕ → List ℕ → ℕ → Value → Type 0
-ConstantGives rule start end target depth r = (e : Expr) → NodeAt rule start end e depth → Means rule r (eval (replaced e target) unread)
+pub record ConstantGives (rule : List ℕ) (start end : ℕ) (target : List ℕ) (depth : ℕ) (r : Value) : Type 0 where
+  pub means : (e : Expr) → NodeAt rule start end e depth → Means rule r (eval (replaced e target) unread)
 
 -- the same of a node that doesn't equal them, whose children nest at most so deep,
-abbrev pub WithinGives : List ℕ → ℕ → ℕ → List ℕ → ℕ → Value → Type 0
-WithinGives rule start end target depth r = (e : Expr) → NodeAt rule start end e (depth + 1) → Means rule r (eval (within e target) unread)
+pub record WithinGives (rule : List ℕ) (start end : ℕ) (target : List ℕ) (depth : ℕ) (r : Value) : Type 0 where
+  pub means : (e : Expr) → NodeAt rule start end e (depth + 1) → Means rule r (eval (within e target) unread)
 
 -- of a CASE,
-abbrev pub CaseGives : List ℕ → ℕ → ℕ → List ℕ → ℕ → Value → Type 0
-CaseGives rule start end target depth r =
-    (b : Optional) (bs : Branches) (els : Optional) → NodeAt rule start end (caseWhen b bs els) (depth + 1)
-    → Means rule r (eval (within (caseWhen b bs els) target) unread)
+pub record CaseGives (rule : List ℕ) (start end : ℕ) (target : List ℕ) (depth : ℕ) (r : Value) : Type 0 where
+  pub means : (b : Optional) (bs : Branches) (els : Optional) → NodeAt rule start end (caseWhen b bs els) (depth + 1)
+      → Means rule r (eval (within (caseWhen b bs els) target) unread)
 
 -- of a base, which is true where there is none,
 abbrev pub baseOutcome : Optional → Outcome
 baseOutcome absent = entry (boolean true)
 baseOutcome (present b) = eval b unread
 
-abbrev pub BaseGives : List ℕ → ℕ → ℕ → List ℕ → ℕ → Value → Type 0
-BaseGives rule at end target depth r = (b : Optional) → TreesAt rule at end (optionalTrees b) depth → Means rule r (baseOutcome (replacedOptional b target))
+pub record BaseGives (rule : List ℕ) (at end : ℕ) (target : List ℕ) (depth : ℕ) (r : Value) : Type 0 where
+  pub means : (b : Optional) → TreesAt rule at end (optionalTrees b) depth → Means rule r (baseOutcome (replacedOptional b target))
 
 -- of ELSE,
-abbrev pub ElseGives : List ℕ → ℕ → ℕ → DataType → List ℕ → ℕ → Value → Type 0
-ElseGives rule at end to target depth r = (els : Optional) → TreesAt rule at end (optionalTrees els) depth → Means rule r (evalElse (replacedOptional els target) unread to)
+abbrev pub elseOutcome : Optional → DataType → List ℕ → Outcome
+elseOutcome els to target = evalElse (replacedOptional els target) unread to
+
+pub record ElseGives (rule : List ℕ) (at end : ℕ) (to : DataType) (target : List ℕ) (depth : ℕ) (r : Value) : Type 0 where
+  pub means : (els : Optional) → TreesAt rule at end (optionalTrees els) depth → Means rule r (elseOutcome els to target)
 
 -- of branches and ELSE behind them, by a base,
-abbrev pub BranchesGives : List ℕ → ℕ → ℕ → ℕ → Value → DataType → List ℕ → ℕ → Value → Type 0
-BranchesGives rule at end count base to target depth r =
-    (bs : Branches) (els : Optional) (b : Entry) → TreesAt rule at end (branchTrees bs ++ optionalTrees els) depth → branchCount bs ≡ count → Means rule base (entry b)
-    → Means rule r (evalBranches (replacedBranches bs target) unread (equalsTest b) (evalElse (replacedOptional els target) unread to))
+abbrev pub branchesOutcome : Branches → Test → Optional → DataType → List ℕ → Outcome
+branchesOutcome bs test els to target = evalBranches (replacedBranches bs target) unread test (elseOutcome els to target)
+
+pub record BranchesGives (rule : List ℕ) (at end count : ℕ) (base : Value) (to : DataType) (target : List ℕ) (depth : ℕ) (r : Value) : Type 0 where
+  pub means : (bs : Branches) (els : Optional) (b : Entry) → TreesAt rule at end (branchTrees bs ++ optionalTrees els) depth → branchCount bs ≡ count → Means rule base (entry b)
+      → Means rule r (branchesOutcome bs (equalsTest b) els to target)
 
 -- by a base that may be null or have failed
-abbrev pub WithBaseGives : List ℕ → ℕ → ℕ → ℕ → Value → DataType → List ℕ → ℕ → Value → Type 0
-WithBaseGives rule at end count base to target depth r =
-    (bs : Branches) (els : Optional) (o : Outcome) → TreesAt rule at end (branchTrees bs ++ optionalTrees els) depth → branchCount bs ≡ count → Means rule base o
-    → Means rule r
-    (withBase o (λ test. evalBranches (replacedBranches bs target) unread test (evalElse (replacedOptional els target) unread to))
-    (evalElse (replacedOptional els target) unread to))
+pub record WithBaseGives (rule : List ℕ) (at end count : ℕ) (base : Value) (to : DataType) (target : List ℕ) (depth : ℕ) (r : Value) : Type 0 where
+  pub means : (bs : Branches) (els : Optional) (o : Outcome) → TreesAt rule at end (branchTrees bs ++ optionalTrees els) depth → branchCount bs ≡ count → Means rule base o
+      → Means rule r (withBase o (λ test. branchesOutcome bs test els to target) (elseOutcome els to target))
