@@ -10,4 +10,5 @@ pub mod LiteralLaws
 pub mod TypeOfLaws
 pub mod ConstantLaws
 pub mod ConstantNode
+pub mod ConstantCase
 pub mod ReadNode

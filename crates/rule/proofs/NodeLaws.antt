@@ -129,6 +129,13 @@ formed-append (e ∷ es) fs p q =
     let i = both-hold (wellFormed e) (treesFormed es) p in
     rw (i .0) (formed-append es fs (i .1) q)
 
+formed-first : (es fs : List Expr) → treesFormed (es ++ fs) ≡ true → treesFormed es ≡ true
+unfolding treesFormed
+formed-first [] fs p = refl
+formed-first (e ∷ es) fs p =
+    let i = both-hold (wellFormed e) (treesFormed (es ++ fs)) p in
+    rw (i .0) (formed-first es fs (i .1))
+
 -- the parts of a CASE, as trees
 branches-trees : (bs : Branches) → branchesBytes bs ≡ treesBytes (branchTrees bs)
 unfolding bytesOf treesBytes
@@ -375,3 +382,18 @@ node-deeper d p n = record {
 
 pub trees-deeper : {rule : List ℕ} {start end depth : ℕ} {es : List Expr} (d : ℕ) → depth ≤ d → TreesAt rule start end es depth → TreesAt rule start end es d
 trees-deeper d p t = record { held = t .held; deep = omega (arith, t .deep); formed = t .formed }
+
+-- trees that stand before others
+pub trees-before : {rule : List ℕ} {start end m depth : ℕ} (es fs : List Expr) → TreesAt rule start end (es ++ fs) depth → TreesAt rule m end fs depth → TreesAt rule start m es depth
+trees-before {rule} {start} {end} {m} {depth} es fs t later =
+    let bytes = trees-append es fs in
+    let held : HeldAt rule start end (treesBytes es ++ treesBytes fs) = subst (λ (l : List ℕ). HeldAt rule start end l) bytes (t .held) in
+    let sum = length-append (treesBytes es) (treesBytes fs) in
+    let whole = held-size held in
+    let rest = held-size (later .held) in
+    let d = depth-append es fs in
+    record {
+      held = held-split (treesBytes es) (treesBytes fs) m (omega arith) held .0;
+      deep = omega (arith, t .deep);
+      formed = formed-first es fs (t .formed);
+    }

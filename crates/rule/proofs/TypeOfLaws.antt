@@ -34,7 +34,7 @@ numbered-last rest Float64 p = absurd (rest .1 p)
 numbered-last rest Utf8 p = refl
 
 -- whether a base is there is the lowest of the flags
-base-flag : (b e : Optional) → flagsOf b e % 2 ≡ length (optionalTrees b)
+pub base-flag : (b e : Optional) → flagsOf b e % 2 ≡ length (optionalTrees b)
 base-flag absent absent = refl
 base-flag absent (present e) = refl
 base-flag (present b) absent = refl
