@@ -4,13 +4,16 @@ use mathlib.Core.Bool.{Bool, true, false, cond}
 use mathlib.Core.List.{List, [], _∷_, _++_}
 use Prim.Native.Nat.{ℕ, zero, suc, _+_, _-_, _*_, _%_, _<_, _≤_}
 use native.Mathlib.Omega.{arith}
+use lib.Dec.{eqb}
 use lib.ListN.{length}
+use borrow.Author.Tests.{ne-eqb}
 use Rattle.layout.specs.Bytes.{byte}
 use Rattle.scalar.specs.declared.types.DataType.{DataType}
 use Rattle.scalar.specs.declared.value.Value.{Value}
 use Rattle.scalar.specs.declared.value.Value.the-variants.{Null, Boolean, Int32, Int64, Float64, Nan, RuleText, TableText, Failed}
 use Rattle.scalar.specs.Entry.{Entry, null, boolean, int32, int64, float64, utf8, isNull, isTrue, Outcome, entry, unfit, onEntry, onEntries}
 use Rattle.scalar.specs.Compare.{equalEntry}
+use Rattle.scalar.specs.Cast.{isUnfit}
 use Rattle.scalar.specs.TryCast.{tryCastEntry}
 use Rattle.scalar.specs.Value.{meaning, kindOf, Gives, GivesBoth}
 use Rattle.rule.specs.Tree.{Expr, caseWhen, Branches, noMore, branch, Optional, absent, present, branchCount}
@@ -25,7 +28,7 @@ use Rattle.rule.proofs.TypeOfLaws.{base-flag}
 use Rattle.rule.proofs.ConstantLaws.{case-outcome}
 
 -- an outcome by the kind of its value
-data Kinded : ℕ → Outcome → Type 0 where
+pub data Kinded : ℕ → Outcome → Type 0 where
   aNull : Kinded 0 (entry null)
   aFailure : Kinded 7 unfit
   aValue : (k : ℕ) (v : Entry) → isNull v ≡ false → (k ≡ 0 → ⊥) → (k ≡ 7 → ⊥) → Kinded k (entry v)
@@ -42,7 +45,7 @@ kinded (TableText start size) rule table = aValue 6 _ refl (λ p. omega arith) (
 kinded Failed rule table = aFailure
 
 -- the outcome that a value means, by the kind that was told
-kind-means : (v : Value) {k : ℕ} (rule table : List ℕ) {o : Outcome} → k ≡ kindOf v → meaning rule table v ≡ o → Kinded k o
+pub kind-means : (v : Value) {k : ℕ} (rule table : List ℕ) {o : Outcome} → k ≡ kindOf v → meaning rule table v ≡ o → Kinded k o
 kind-means v {k} rule table {o} is means =
     subst (λ (x : Outcome). Kinded k x) means (subst (λ (n : ℕ). Kinded n (meaning rule table v)) (sym is) (kinded v rule table))
 
@@ -139,6 +142,12 @@ not-failed : {k : ℕ} {o : Outcome} → Kinded k o → (k ≡ 7 → ⊥) → o 
 not-failed aNull p q = let z : _≡_ {A = ℕ} 0 1 = cc in omega arith
 not-failed aFailure p q = p refl
 not-failed (aValue k v a b c) p q = let z : _≡_ {A = ℕ} 0 1 = cc in omega arith
+
+-- it is told by the kind
+pub kind-unfit : {k : ℕ} {o : Outcome} → Kinded k o → eqb k 7 ≡ isUnfit o
+kind-unfit aNull = refl
+kind-unfit aFailure = refl
+kind-unfit (aValue k v a b c) = ne-eqb k 7 c
 
 is-failed : {o : Outcome} → Kinded 7 o → o ≡ unfit
 is-failed aFailure = refl

@@ -11,4 +11,5 @@ pub mod TypeOfLaws
 pub mod ConstantLaws
 pub mod ConstantNode
 pub mod ConstantCase
+pub mod FailsLaws
 pub mod ReadNode

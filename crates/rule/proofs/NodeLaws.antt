@@ -24,7 +24,7 @@ use Rattle.rule.specs.TreeBytes.{valueBytes, flagsOf, bytesOf, branchesB
 use Rattle.rule.specs.Typing.{nodeTyped}
 use Rattle.rule.specs.WellFormed.{countFits, wellFormed, wellFormedBranches, wellFormedOptional}
 use Rattle.rule.specs.Node.{NodeAt, depthOf, branchesDepth, optionalDepth}
-use Rattle.rule.specs.Walks.{branchTrees, optionalTrees, childrenOf, nodeTag, headBytes, treesBytes, treesDepth, treesFormed, HeldAt, TreesAt}
+use Rattle.rule.specs.Walks.{branchTrees, optionalTrees, childrenOf, nodeTag, headBytes, treesBytes, treesDepth, treesFormed, HeldAt, TreesAt, ChildrenGives}
 
 -- a tree by its tag
 pub data Tagged : ℕ → Expr → Type 0 where
@@ -397,3 +397,34 @@ trees-before {rule} {start} {end} {m} {depth} es fs t later =
       deep = omega (arith, t .deep);
       formed = formed-first es fs (t .formed);
     }
+
+-- a node is one tree
+pub trees-of-node : {rule : List ℕ} {start end depth : ℕ} {e : Expr} → NodeAt rule start end e depth → TreesAt rule start end (e ∷ []) depth
+unfolding treesBytes treesDepth treesFormed
+trees-of-node {e = e} n = record {
+  held = record { all-bytes = n .all-bytes; few = n .few; ordered = n .ordered; inside = n .inside; is = n .is ∙ sym (append-nil (bytesOf e)) };
+  deep = omega (arith, n .deep);
+  formed = rw (n .formed);
+}
+
+-- trees, and others behind them
+trees-join : {rule : List ℕ} {start m end depth : ℕ} (es fs : List Expr) → TreesAt rule start m es depth → TreesAt rule m end fs depth → TreesAt rule start end (es ++ fs) depth
+trees-join {rule} {start} {m} {end} {depth} es fs a b =
+    let size = held-size (a .held) in
+    let rest = held-size (b .held) in
+    let sum = length-append (treesBytes es) (treesBytes fs) in
+    let bytes = trees-append es fs in
+    let behind : drop start rule ≡ (treesBytes es ++ treesBytes fs) ++ drop end rule =
+        held-behind (a .held) ∙ ap (λ (l : List ℕ). treesBytes es ++ l) (held-behind (b .held)) ∙ sym (append-assoc (treesBytes es) (treesBytes fs) (drop end rule)) in
+    record {
+      held = subst (λ (l : List ℕ). HeldAt rule start end l) (sym bytes) (held-before (drop end rule) (a .held .all-bytes) (a .held .few) (omega arith) (b .held .inside) behind);
+      deep = omega (arith, depth-append es fs, a .deep, b .deep);
+      formed = formed-append es fs (a .formed) (b .formed);
+    }
+
+-- from the first of several trees into it
+pub trees-into : {rule : List ℕ} {at next end depth : ℕ} {e : Expr} {es : List Expr} → ChildrenGives rule at next → TreesAt rule at end (e ∷ es) depth
+    → TreesAt rule next end (childrenOf e ++ es) depth
+trees-into {depth = depth} {e} {es} children t =
+    let (m, first, later) = trees-split t in
+    trees-join (childrenOf e) es (trees-deeper depth (omega arith) (children .stand m e depth first)) later

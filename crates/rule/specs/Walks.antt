@@ -1,6 +1,6 @@
 -- Walks over the bytes of an accepted rule: trees that stand one behind the other at a place, and what a node's bytes are before its children.
 use mathlib.Core.Path.{_≡_}
-use mathlib.Core.Bool.{Bool, true, false, _&&_}
+use mathlib.Core.Bool.{Bool, true, false, not, _&&_}
 use mathlib.Core.List.{List, [], _∷_, _++_}
 use Prim.Native.Nat.{ℕ, _+_, _-_, _<_, _≤_, max}
 use lib.ListN.{length}
@@ -21,7 +21,7 @@ use Rattle.rule.specs.TreeBytes.{valueBytes, flagsOf, bytesOf}
 use Rattle.rule.specs.WellFormed.{wellFormed}
 use Rattle.rule.specs.Typing.{typeOf}
 use Rattle.rule.specs.Row.{Test, equalsTest, withBase, eval, evalBranches, evalElse}
-use Rattle.rule.specs.Constant.{unread}
+use Rattle.rule.specs.Constant.{columnsOf, isEmpty, unread, failsAlone, constantFails}
 use Rattle.rule.specs.Nullable.{replaced, replacedBranches, replacedOptional, mayPass}
 use Rattle.rule.specs.Node.{NodeAt, depthOf}
 
@@ -211,3 +211,28 @@ pub record BranchesGives (rule : List ℕ) (at end count : ℕ) (base : Value) (
 pub record WithBaseGives (rule : List ℕ) (at end count : ℕ) (base : Value) (to : DataType) (target : List ℕ) (depth : ℕ) (r : Value) : Type 0 where
   pub means : (bs : Branches) (els : Optional) (o : Outcome) → TreesAt rule at end (branchTrees bs ++ optionalTrees els) depth → branchCount bs ≡ count → Means rule base o
       → Means rule r (withBase o (λ test. branchesOutcome bs test els to target) (elseOutcome els to target))
+
+-- a cast with no column under it whose value doesn't fit; no other node is
+abbrev pub failsHere : Expr → Bool
+failsHere (column c) = false
+failsHere (literal t v) = false
+failsHere (negation e) = false
+failsHere (negative e) = false
+failsHere (isNotNull e) = false
+failsHere (cast t e) = failsAlone (cast t e)
+failsHere (tryCast t e) = false
+failsHere (equal a b) = false
+failsHere (less a b) = false
+failsHere (caseWhen b bs e) = false
+
+-- whether whatever node stands at a place names a column,
+pub record ColumnGives (rule : List ℕ) (start end : ℕ) (r : Bool) : Type 0 where
+  pub is : (e : Expr) (depth : ℕ) → NodeAt rule start end e depth → r ≡ not (isEmpty (columnsOf e))
+
+-- fails here,
+pub record FailsHereGives (rule : List ℕ) (start : ℕ) (r : Bool) : Type 0 where
+  pub is : (end : ℕ) (e : Expr) → NodeAt rule start end e 8 → r ≡ failsHere e
+
+-- or holds a constant cast that fails
+pub record FailsGives (rule : List ℕ) (r : Bool) : Type 0 where
+  pub is : (e : Expr) → NodeAt rule 0 (length rule) e 8 → r ≡ constantFails e
