@@ -5,6 +5,9 @@ use mathlib.Core.List.{List, [], _∷_, _++_}
 use Prim.Native.Nat.{ℕ, zero, suc, _+_, _-_, _<_, _≤_}
 use native.Mathlib.Omega.{arith}
 use lib.ListN.{length}
+use types.Run.{OneOf, miss}
+use denote.Enum.Declared.{tagOf}
+use Rattle.scalar.proofs.value.Value.{the-type}
 use Rattle.layout.specs.Bytes.{byte, part}
 use Rattle.scalar.specs.declared.types.DataType.{DataType}
 use Rattle.scalar.specs.declared.types.DataType.the-variants as Of
@@ -13,6 +16,11 @@ use Rattle.scalar.specs.declared.value.Value.the-variants.{Null, Boolean, Int32
 use Rattle.scalar.specs.Types.{typeNumber}
 use Rattle.scalar.specs.Entry.{Entry, null, boolean, int32, int64, float64, utf8, Outcome, entry, unfit, onEntry, onEntries, ofType, outcomeOfType}
 use Rattle.scalar.specs.Text.{sameBytes}
+use Rattle.scalar.specs.Not.{notEntry}
+use Rattle.scalar.specs.Negative.{negativeEntry}
+use Rattle.scalar.specs.IsNotNull.{isNotNullEntry}
+use Rattle.scalar.specs.Cast.{castEntry}
+use Rattle.scalar.specs.TryCast.{tryCastEntry}
 use Rattle.scalar.specs.Compare.{equalEntry, lessEntry}
 use Rattle.scalar.specs.Value.{meaning, Gives, GivesBoth}
 use Rattle.scalar.proofs.TypeLaws.{equal-typed, less-typed}
@@ -20,9 +28,9 @@ use Rattle.rule.specs.Tree.{Expr, column, literal, negation, negative, i
 use Rattle.rule.specs.TreeBytes.{bytesOf}
 use Rattle.rule.specs.Row.{eval}
 use Rattle.rule.specs.Constant.{unread}
-use Rattle.rule.specs.Nullable.{replaced}
+use Rattle.rule.specs.Nullable.{replaced, mayPass}
 use Rattle.rule.specs.Node.{NodeAt}
-use Rattle.rule.specs.Walks.{within, childrenOf, Means, TreesAt, EndGives, ChildrenGives, LiteralGives, NumberedGives, OneGives, TwoGives, ConstantGives, WithinGives, CaseGives}
+use Rattle.rule.specs.Walks.{within, childrenOf, Means, TreesAt, EndGives, ChildrenGives, LiteralGives, NumberedGives, OneGives, TwoGives, PassGives, ConstantGives, WithinGives, CaseGives}
 use Rattle.rule.proofs.NodeLaws.{Tagged, ofColumn, ofLiteral, ofNegation, ofNegative, ofIsNotNull, ofCast, ofTryCast, ofEqual, ofLess, ofCase, node-byte, node-children, node-deep, node-deeper, trees-split, trees-one, trees-deeper}
 use Rattle.rule.proofs.WalkLaws.{nothing-behind, node-of-tag}
 use Rattle.rule.proofs.ConstantLaws.{whole-null, not-whole}
@@ -59,6 +67,11 @@ two-equal is gives = record { ofEqual = λ p. both-mean equalEntry equal-typed g
 
 pub two-less : {rule s : List ℕ} {tag : ℕ} {a b r : Value} → (tag ≡ 23 → ⊥) → GivesBoth lessEntry rule s a b r → TwoGives rule tag a b r
 two-less is gives = record { ofEqual = λ p. absurd (is p); ofLess = λ p. both-mean lessEntry less-typed gives }
+
+-- whether a node equals the target's bytes
+told : {rule : List ℕ} (target : List ℕ) {start end depth : ℕ} {same : Bool} {l : List ℕ} → l ≡ part rule start end → same ≡ sameBytes l target → (e : Expr) → NodeAt rule start end e depth
+    → sameBytes (bytesOf e) target ≡ same
+told target place is e n = ap (λ (x : List ℕ). sameBytes x target) (sym (n .is) ∙ sym place) ∙ sym is
 
 module _ {rule target : List ℕ} {start end depth : ℕ} where
   -- a column can't be read
@@ -130,15 +143,17 @@ module _ {rule target : List ℕ} {start end depth : ℕ} where
       go (ofLess x y) l p g t = let (h, k) = two x y t in g .ofLess refl (eval (replaced x target) unread) (eval (replaced y target) unread) h k
       go (ofCase x bs els) l p g t = absurd (p refl)
 
-  -- a node that equals the target's bytes, and one that doesn't
-  pub constant-same : {same : Bool} → same ≡ sameBytes (part rule start end) target → same ≡ true → ConstantGives rule start end target depth Null
-  constant-same is holds = record { means = λ e n table. whole-null e target unread (ap (λ (l : List ℕ). sameBytes l target) (sym (n .is)) ∙ sym is ∙ holds) }
+  -- a node that equals them, and one that doesn't
+  pub constant-same : {same : Bool} {l : List ℕ} → l ≡ part rule start end → same ≡ sameBytes l target → same ≡ true → ConstantGives rule start end target depth Null
+  constant-same place is holds = record { means = λ e n table. whole-null e target unread (told target place is e n ∙ holds) }
 
-  pub constant-other : {same : Bool} {r : Value} → same ≡ sameBytes (part rule start end) target → same ≡ false → 0 < depth → WithinGives rule start end target (depth - 1) r
-      → ConstantGives rule start end target depth r
-  constant-other {r = r} is differs some gives = record { means = λ e n table.
-      gives .means e (node-deeper (depth - 1 + 1) (omega arith) n) table
-      ∙ ap (λ (x : Expr). eval x unread) (sym (not-whole e target (ap (λ (l : List ℕ). sameBytes l target) (sym (n .is)) ∙ sym is ∙ differs))) }
+  pub constant-other : {same : Bool} {l : List ℕ} {r : Value} → l ≡ part rule start end → same ≡ sameBytes l target → same ≡ false → 0 < depth
+      → WithinGives rule start end target (depth - 1) r → ConstantGives rule start end target depth r
+  constant-other {r = r} place is differs some gives = record {
+    means = λ e n table.
+        gives .means e (node-deeper (depth - 1 + 1) (omega arith) n) table
+        ∙ ap (λ (x : Expr). eval x unread) (sym (not-whole e target (told target place is e n ∙ differs)));
+  }
 
   pub constant-none : {r : Value} → depth ≤ 0 → ConstantGives rule start end target depth r
   constant-none none = record { means = λ e n. absurd (let k = node-deep n in omega arith) }
@@ -146,3 +161,48 @@ module _ {rule target : List ℕ} {start end depth : ℕ} where
   -- behind the end no node stands
   pub within-behind : {r : Value} → length rule ≤ start → WithinGives rule start end target depth r
   within-behind none = record { means = λ e n. absurd (let k = nothing-behind n in omega arith) }
+
+-- an operation on one value, by its tag
+module _ {tag number : ℕ} {v r : Value} where
+  pub one-not : tag ≡ 18 → Gives (λ e. entry (notEntry e)) v r → OneGives tag number v r
+  one-not is gives = record { ofNot = λ p. gives; ofNegative = λ p. absurd (omega arith); ofIsNotNull = λ p. absurd (omega arith); ofCast = λ p. absurd (omega arith); ofTryCast = λ p. absurd (omega arith) }
+
+  pub one-negative : tag ≡ 19 → Gives (λ e. entry (negativeEntry e)) v r → OneGives tag number v r
+  one-negative is gives = record { ofNot = λ p. absurd (omega arith); ofNegative = λ p. gives; ofIsNotNull = λ p. absurd (omega arith); ofCast = λ p. absurd (omega arith); ofTryCast = λ p. absurd (omega arith) }
+
+  pub one-isNotNull : tag ≡ 20 → Gives (λ e. entry (isNotNullEntry e)) v r → OneGives tag number v r
+  one-isNotNull is gives = record { ofNot = λ p. absurd (omega arith); ofNegative = λ p. absurd (omega arith); ofIsNotNull = λ p. gives; ofCast = λ p. absurd (omega arith); ofTryCast = λ p. absurd (omega arith) }
+
+  pub one-cast : {t : DataType} → tag ≡ 21 → NumberedGives number t → Gives (castEntry t) v r → OneGives tag number v r
+  one-cast is numbers gives = record {
+    ofNot = λ p. absurd (omega arith);
+    ofNegative = λ p. absurd (omega arith);
+    ofIsNotNull = λ p. absurd (omega arith);
+    ofCast = λ p u q. subst (λ (x : DataType). Gives (castEntry x) v r) (numbers u q) gives;
+    ofTryCast = λ p. absurd (omega arith);
+  }
+
+  pub one-tryCast : {t : DataType} → (((Unit {0} × (tag ≡ 18 → ⊥)) × (tag ≡ 19 → ⊥)) × (tag ≡ 20 → ⊥)) × (tag ≡ 21 → ⊥) → NumberedGives number t
+      → Gives (λ e. entry (tryCastEntry t e)) v r → OneGives tag number v r
+  one-tryCast rest numbers gives = record {
+    ofNot = λ p. absurd (rest .0 .0 .0 .1 p);
+    ofNegative = λ p. absurd (rest .0 .0 .1 p);
+    ofIsNotNull = λ p. absurd (rest .0 .1 p);
+    ofCast = λ p. absurd (rest .1 p);
+    ofTryCast = λ p u q. subst (λ (x : DataType). Gives (λ e. entry (tryCastEntry x e)) v r) (numbers u q) gives;
+  }
+
+-- whether a WHEN passes or failed, by the value
+pub pass-at : {v : Value} {r : Bool} (w : Value) → v ≡ w → PassGives w r → PassGives v r
+pass-at {v} {r} w is gives rule table = gives rule table ∙ ap (λ (x : Value). mayPass (meaning rule table x)) (sym is)
+
+pub pass-other : (v : Value) → OneOf (0 ∷ 2 ∷ 3 ∷ 4 ∷ 5 ∷ 6 ∷ 7 ∷ []) (tagOf the-type v) → PassGives v false
+pass-other Null h rule table = refl
+pass-other (Boolean b) h rule table = absurd (miss (0 ∷ 2 ∷ 3 ∷ 4 ∷ 5 ∷ 6 ∷ 7 ∷ []) 1 tt h)
+pass-other (Int32 n) h rule table = refl
+pass-other (Int64 n) h rule table = refl
+pass-other (Float64 f) h rule table = refl
+pass-other (Nan n) h rule table = refl
+pass-other (RuleText start size) h rule table = refl
+pass-other (TableText start size) h rule table = refl
+pass-other Failed h rule table = absurd (miss (0 ∷ 2 ∷ 3 ∷ 4 ∷ 5 ∷ 6 ∷ 7 ∷ []) 8 tt h)

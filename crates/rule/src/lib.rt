@@ -1,5 +1,7 @@
 // Reading a rule, and its public answers: strategy, projection, nullability.
 pub mod answer;
+pub mod constant;
+pub mod fails;
 pub mod literal;
 pub mod strategy;
 pub mod type_of;
