@@ -200,10 +200,10 @@ module _ {rule : List ℕ} {start end : ℕ} {named : Bool} (is : byte rule star
         ap (λ (x : Bool). x && isUnfit (eval e unread)) (sym empty) ∙ sym (cast-alone e (node-of-tag n is));
   }
 
-  pub here-alone : {v : Value} {k : ℕ} → named ≡ false → ConstantGives rule start end [] 8 v → k ≡ kindOf v → FailsHereGives rule start (eqb k 7)
-  here-alone {v} none gives kind-is = record {
+  pub here-alone : {v : Value} {k : ℕ} {target : List ℕ} → named ≡ false → target ≡ [] → ConstantGives rule start end target 8 v → k ≡ kindOf v → FailsHereGives rule start (eqb k 7)
+  here-alone {v} none nothing gives kind-is = record {
     is = λ m e n.
         let empty : isEmpty (columnsOf e) ≡ true = let k = columns .is e 8 (here n) in not-false _ (sym k ∙ none) in
-        let unfit-is = kind-unfit (kind-means v rule [] kind-is (gives .means e (here n) [] ∙ ap (λ (x : Expr). eval x unread) (replaced-none e))) in
+        let unfit-is = kind-unfit (kind-means v rule [] kind-is (gives .means e (here n) [] ∙ ap (λ (x : Expr). eval x unread) (ap (replaced e) nothing ∙ replaced-none e))) in
         unfit-is ∙ ap (λ (x : Bool). x && isUnfit (eval e unread)) (sym empty) ∙ sym (cast-alone e (node-of-tag n is));
   }

@@ -1,43 +1,17 @@
+-- `constant_fails` goes from field to field. The loop's invariant: trees that hold a constant cast that fails, if the rule does, stand at the place; the
+-- measure is what is left of the rule.
+use Rattle.rule.proofs.FailsLaws.{FailsLeft, fails-start, fails-found, fails-next, fails-end}
+use Prim.Native.Nat.{_-_}
+use lib.ListN.{length}
+use native.Mathlib.Omega.{arith}
 use Rattle.rule.proofs.fails.constant_fails.Statement.{statement}
 use Rattle.rule.proofs.fails.constant_fails.Tie as tie
-use Rattle.rule.proofs.fails.constant_fails.Reads as reads
-use Rattle.rule.proofs.fails.constant_fails.Lts as lts
-use Rattle.rule.proofs.fails.fails_here.Reads as fails-here-reads
-use Rattle.rule.proofs.walk.children_at.Reads as children-at-reads
 
 abbrev Inv-loop : tie.InvT-loop
-Inv-loop rule at₀ at = ?
+Inv-loop rule at₀ at = FailsLeft rule at
 
 abbrev μ-loop : tie.MeasureT-loop
-μ-loop rule at₀ at = ?
-
--- src/fails.rt:50:5
-loop-holds : tie.Need-loop-holds Inv-loop μ-loop
-loop-holds c = ?
-
--- src/fails.rt:51:12
-fails-here-requires : tie.Need-fails-here-requires Inv-loop μ-loop
-fails-here-requires c κs = ?
-
--- src/fails.rt:52:13
-returns : tie.Need-returns Inv-loop μ-loop
-returns c = ?
-
--- src/fails.rt:54:9
-children-at-requires : tie.Need-children-at-requires Inv-loop μ-loop
-children-at-requires c κs = ?
-
--- src/fails.rt:50:5
-loop-less : tie.Need-loop-less Inv-loop μ-loop
-loop-less c = ?
-
--- src/fails.rt:50:5
-loop-again : tie.Need-loop-again Inv-loop μ-loop
-loop-again c = ?
-
--- src/fails.rt:46:1
-returns-2 : tie.Need-returns-2 Inv-loop μ-loop
-returns-2 c = ?
+μ-loop rule at₀ at = length rule - at
 
 pub constant-fails-spec : {M : Type 1} → statement M
 constant-fails-spec =
@@ -45,10 +19,10 @@ constant-fails-spec =
     (tie.spec
     Inv-loop
     μ-loop
-    loop-holds
-    fails-here-requires
-    returns
-    children-at-requires
-    loop-less
-    loop-again
-    returns-2)
+    (λ c. fails-start)
+    (λ c κs. tt)
+    (λ c. fails-found (c .before .before .before .loop .inv) (c .before .before .loop-test .taken) (c .before .fails-here .ensures) (c .if1 .taken))
+    (λ c κs. tt)
+    (λ c. omega (arith, c .children-at .ensures .farther (c .before .before .before .loop-test .taken)))
+    (λ c. fails-next (c .before .before .before .before .loop .inv) (c .before .before .before .loop-test .taken) (c .before .before .fails-here .ensures) (c .before .if1 .left) (c .children-at .ensures))
+    (λ c. fails-end (c .before .loop .inv) (c .loop-test .left)))
