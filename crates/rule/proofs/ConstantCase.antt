@@ -50,7 +50,7 @@ kind-means v {k} rule table {o} is means =
     subst (λ (x : Outcome). Kinded k x) means (subst (λ (n : ℕ). Kinded n (meaning rule table v)) (sym is) (kinded v rule table))
 
 -- branches have two trees each
-branches-length : (bs : Branches) → length (branchTrees bs) ≡ 2 * branchCount bs
+pub branches-length : (bs : Branches) → length (branchTrees bs) ≡ 2 * branchCount bs
 unfolding branchCount
 branches-length noMore = refl
 branches-length (branch w t bs) = let k = branches-length bs in omega arith

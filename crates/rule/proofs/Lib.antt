@@ -12,4 +12,5 @@ pub mod ConstantLaws
 pub mod ConstantNode
 pub mod ConstantCase
 pub mod FailsLaws
+pub mod StrategyLaws
 pub mod ReadNode

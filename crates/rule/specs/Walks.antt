@@ -16,13 +16,15 @@ use Rattle.scalar.specs.Cast.{castEntry}
 use Rattle.scalar.specs.TryCast.{tryCastEntry}
 use Rattle.scalar.specs.Compare.{equalEntry, lessEntry}
 use Rattle.scalar.specs.Value.{meaning, Storable, Gives}
-use Rattle.rule.specs.Tree.{Column, Expr, column, literal, negation, negative, isNotNull, cast, tryCast, equal, less, caseWhen, Branches, noMore, branch, Optional, absent, present, branchCount}
-use Rattle.rule.specs.TreeBytes.{valueBytes, flagsOf, bytesOf}
+use Rattle.rule.specs.Tree.{Column, Expr, column, literal, negation, negative, isNotNull, cast, tryCast, equal, less, caseWhen, Branches, noMore, branch, Optional, absent, present, branchCount, isNullLiteral}
+use Rattle.rule.specs.TreeBytes.{valueBytes, isPresent, flagsOf, bytesOf}
 use Rattle.rule.specs.WellFormed.{wellFormed}
 use Rattle.rule.specs.Typing.{typeOf}
 use Rattle.rule.specs.Row.{Test, equalsTest, withBase, eval, evalBranches, evalElse}
 use Rattle.rule.specs.Constant.{columnsOf, isEmpty, unread, failsAlone, constantFails}
 use Rattle.rule.specs.Nullable.{replaced, replacedBranches, replacedOptional, mayPass}
+use Rattle.rule.specs.declared.strategy.Strategy.{Strategy}
+use Rattle.rule.specs.Strategy.{isLiteral, dropNull, someWhenValue, elseServes, tableServes, singleBranch, strategy}
 use Rattle.rule.specs.Node.{NodeAt, depthOf}
 
 -- the trees of branches, WHEN and THEN in turn
@@ -236,3 +238,39 @@ pub record FailsHereGives (rule : List ℕ) (start : ℕ) (r : Bool) : Type 0 wh
 -- or holds a constant cast that fails
 pub record FailsGives (rule : List ℕ) (r : Bool) : Type 0 where
   pub is : (e : Expr) → NodeAt rule 0 (length rule) e 8 → r ≡ constantFails e
+
+-- whether whatever node stands at a place is a null literal,
+pub record NullLiteralGives (rule : List ℕ) (at : ℕ) (r : Bool) : Type 0 where
+  pub is : (end : ℕ) (e : Expr) (depth : ℕ) → NodeAt rule at end e depth → r ≡ isNullLiteral e
+
+-- whether an ELSE is there that is not dropped,
+pub record ElseThereGives (rule : List ℕ) (at end : ℕ) (r : Bool) : Type 0 where
+  pub is : (els : Optional) (depth : ℕ) → TreesAt rule at end (optionalTrees els) depth → r ≡ isPresent (dropNull els)
+
+-- whether so many trees are all literals,
+abbrev pub treesLiteral : List Expr → Bool
+treesLiteral [] = true
+treesLiteral (e ∷ es) = isLiteral e && treesLiteral es
+
+pub record LiteralsGives (rule : List ℕ) (at count : ℕ) (r : Bool) : Type 0 where
+  pub is : (end : ℕ) (es rest : List Expr) (depth : ℕ) → length es ≡ count → TreesAt rule at end (es ++ rest) depth → r ≡ treesLiteral es
+
+-- whether a WHEN of so many branches isn't a null literal,
+pub record SomeWhenGives (rule : List ℕ) (at count : ℕ) (r : Bool) : Type 0 where
+  pub is : (end : ℕ) (bs : Branches) (rest : List Expr) (depth : ℕ) → branchCount bs ≡ count → TreesAt rule at end (branchTrees bs ++ rest) depth → r ≡ someWhenValue bs
+
+-- whether an ELSE serves beside a THEN,
+pub record ElseServesGives (rule : List ℕ) (at end then : ℕ) (r : Bool) : Type 0 where
+  pub is : (els : Optional) (depth : ℕ) (m : ℕ) (t : Expr) (d : ℕ) → TreesAt rule at end (optionalTrees els) depth → NodeAt rule then m t d → r ≡ elseServes (typeOf t) (dropNull els)
+
+-- whether a lookup table serves so many branches and what is behind them,
+pub record TableServesGives (rule : List ℕ) (at end count : ℕ) (r : Bool) : Type 0 where
+  pub is : (bs : Branches) (els : Optional) (depth : ℕ) → branchCount bs ≡ count → TreesAt rule at end (branchTrees bs ++ optionalTrees els) depth → r ≡ tableServes bs (dropNull els)
+
+-- the strategy of one branch and what is behind it,
+pub record SingleGives (rule : List ℕ) (at end : ℕ) (r : Strategy) : Type 0 where
+  pub is : (w t : Expr) (els : Optional) (depth : ℕ) → TreesAt rule at end (w ∷ t ∷ optionalTrees els) depth → r ≡ singleBranch t (dropNull els)
+
+-- and of the rule
+pub record StrategyGives (rule : List ℕ) (r : Strategy) : Type 0 where
+  pub is : (e : Expr) → NodeAt rule 0 (length rule) e 8 → r ≡ strategy e
