@@ -23,8 +23,10 @@ part-cut l from to end start e s =
   where
     within : min (end - start) (length l - start) ≡ end - start
     within = omega arith
+
     asked : end - start ≡ min (to - from) (length l - from)
     asked = omega arith
+
     byte-at : (i : ℕ) → i < end - start → byte (part l start end) i ≡ byte (part l from to) i
     byte-at i h =
         let same : start + i ≡ from + i = omega arith in

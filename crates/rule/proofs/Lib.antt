@@ -10,3 +10,13 @@ pub mod LeafLaws
 pub mod CycleLaws
 pub mod ProjectionLaws
 pub mod ReadColumns
+pub mod NodeLaws
+pub mod WalkLaws
+pub mod LiteralLaws
+pub mod TypeOfLaws
+pub mod ConstantLaws
+pub mod ConstantNode
+pub mod ConstantCase
+pub mod FailsLaws
+pub mod StrategyLaws
+pub mod ReadNode

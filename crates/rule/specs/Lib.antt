@@ -14,3 +14,4 @@ pub mod Strategy
 pub mod Projection
 pub mod Nullable
 pub mod Answers
+pub mod Walks

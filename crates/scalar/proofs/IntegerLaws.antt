@@ -1,5 +1,5 @@
 -- Two's complement at any width: the bits of an integer and of its negation, and from one width to the other. Assumes nothing.
-use mathlib.Core.Path.{_≡_, refl, sym, ap, _∙_}
+use mathlib.Core.Path.{_≡_, sym, ap, _∙_}
 use mathlib.Core.Logic.{⊎-elim, _⊎_, inl, inr}
 use Prim.Native.Nat.{ℕ, zero, suc, _+_, _-_, _%_, _^_, _<_, _≤_}
 use native.Mathlib.Decide.{decLt}
@@ -71,6 +71,7 @@ negated-is h n r bn br e = ⊎-elim none some (zero-sum (2 ^ suc h) (r + n) (ome
         let p : n ≡ 0 = omega arith in
         let q : r ≡ 0 = omega arith in
         q ∙ sym (ap (negated h) p ∙ negated-zero h)
+
     some : r + n ≡ 2 ^ suc h → r ≡ negated h n
     some z =
         let q : r ≡ 2 ^ suc h - n = omega arith in

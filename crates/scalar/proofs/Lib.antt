@@ -4,3 +4,6 @@ pub mod FloatLaws
 pub mod TypeLaws
 pub mod ValueLaws
 pub mod EntryLaws
+pub mod TextLaws
+pub mod OrderLaws
+pub mod CompareLaws

@@ -2,7 +2,7 @@
 use mathlib.Core.Path.{_≡_, refl, sym, ap, ap₂, subst, _∙_}
 use mathlib.Core.Bool.{true, false}
 use mathlib.Core.List.{List, [], _∷_}
-use Prim.Native.Nat.{ℕ, zero, suc, _+_, _*_, _/_, _%_, _^_, _<_}
+use Prim.Native.Nat.{ℕ, zero, suc, _/_, _%_, _^_, _<_}
 use native.Mathlib.Nat.{mod-eq-of-lt}
 use native.Mathlib.Omega.{arith}
 use lib.Dec.{lit<}
@@ -15,7 +15,7 @@ use Rattle.scalar.proofs.value.Value.{the-type}
 use Rattle.scalar.specs.declared.types.DataType.{DataType}
 use Rattle.scalar.specs.declared.value.Value.{Value}
 use Rattle.scalar.specs.declared.value.Value.the-variants.{Null, Boolean, Int32, Int64, Float64, Nan, RuleText, TableText, Failed}
-use Rattle.scalar.specs.Entry.{Entry, null, float64, Outcome, entry, unfit, onEntry}
+use Rattle.scalar.specs.Entry.{Entry, float64, Outcome, entry, onEntry}
 use Rattle.scalar.specs.Integer.{signed}
 use Rattle.scalar.specs.Float.{signTurned}
 use Rattle.scalar.specs.Negative.{negativeEntry}
@@ -46,7 +46,7 @@ turned-gives {v} {r} {n} {t} m e b p = record {
 abbrev pub NotFailed : Value → Type 0
 NotFailed v = OneOf (0 ∷ 1 ∷ 2 ∷ 3 ∷ 4 ∷ 5 ∷ 6 ∷ 7 ∷ []) (tagOf the-type v)
 
--- is an entry
+-- a value that has not failed is an entry
 is-entry : (v : Value) → NotFailed v → (rule table : List ℕ) → meaning rule table v ≡ entry (orNull (meaning rule table v))
 is-entry Null h rule table = refl
 is-entry (Boolean b) h rule table = refl
@@ -76,7 +76,7 @@ try-null to {v} {r} h e g = record {
   stores = λ _. tt;
 }
 
--- n is none of the numbers before the last arm of a `match` on a kind
+-- what the last arm of a `match` on a kind leaves
 abbrev pub Rest : ℕ → Type 0
 Rest k =
     (((((((Unit {0} × (k ≡ 0 → ⊥)) × (k ≡ 1 → ⊥)) × (k ≡ 2 → ⊥)) × (k ≡ 3 → ⊥)) × (k ≡ 4 → ⊥)) × (k ≡ 5 → ⊥)) × (k ≡ 6 → ⊥))

@@ -13,3 +13,4 @@ pub mod TryCast
 pub mod Compare
 pub mod Value
 pub mod Casts
+pub mod Order

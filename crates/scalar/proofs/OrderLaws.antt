@@ -1,0 +1,251 @@
+-- The order of two values by their keys. Assumes nothing.
+use mathlib.Core.Path.{_≡_, refl, sym, ap, ap₂, subst, _∙_}
+use mathlib.Core.Bool.{Bool, true, false, cond, _&&_, false≢true}
+use mathlib.Core.List.{List, [], _∷_}
+use mathlib.Core.Logic.{_⊎_, inl, inr}
+use types.Run.{OneOf, miss}
+use Prim.Native.Nat.{ℕ, suc, _+_, _-_, _^_, _<_, _≤_}
+use native.Mathlib.Nat.{pow-suc}
+use native.Mathlib.Omega.{arith}
+use mir.Val.{Val}
+use denote.Laws.{Is}
+use denote.Enum.Declared.{row, tagOf}
+use lib.Dec.{T, eqb, ltb}
+use lib.IntN.{ℤ}
+use lib.Signed.{ltZ}
+use lib.Ieee.{binary64, fits}
+use lib.Ieee.Bits.{toBits-lt}
+use borrow.Author.Tests.{lt-ltb, le-ltb, eq-eqb, ne-eqb, eqb-true, eqb-false, ltb-true, ltb-false}
+use Rattle.scalar.specs.declared.order.Order.{Order}
+use Rattle.scalar.specs.declared.order.Order.the-variants.{Less, Equal, Greater, Unlike}
+use Rattle.scalar.specs.declared.order.Key.{Key}
+use Rattle.scalar.specs.declared.order.Key.the-variants as Keys
+use Rattle.scalar.specs.declared.value.Value.{Value}
+use Rattle.scalar.specs.declared.value.Value.the-variants.{Null, Boolean, Int32, Int64, Float64, Nan, RuleText, TableText, Failed}
+use Rattle.scalar.specs.Integer.{signed, signedLess}
+use Rattle.scalar.specs.Float.{signTurned, totalKey, totalLess}
+use Rattle.scalar.specs.Types.{markNumber}
+use Rattle.scalar.specs.Entry.{Entry, null, boolean, int32, int64, float64, utf8, Outcome, entry, unfit}
+use Rattle.scalar.specs.Pair.{pairOf, booleans}
+use Rattle.scalar.specs.Value.{meaning}
+use Rattle.scalar.specs.Order.{orderOfPair, orderOf, keyOf, textIn, textOrder, numberOrder, keyOrder}
+use Rattle.scalar.proofs.value.Value.{the-type}
+use Rattle.scalar.proofs.IntegerLaws.{signed-low, signed-high}
+
+-- two tests of numbers that hold in the same cases
+ltb-same : (p q a b : ℕ) → (a < b → p < q) → (b ≤ a → q ≤ p) → ltb p q ≡ ltb a b
+ltb-same p q a b f g = go (ltb a b) refl
+  where
+    go : (t : Bool) → ltb a b ≡ t → ltb p q ≡ t
+    go true e = lt-ltb p q (f (ltb-true a b e))
+    go false e = le-ltb p q (g (ltb-false a b e))
+
+eqb-same : (p q a b : ℕ) → (p ≡ q → a ≡ b) → (a ≡ b → p ≡ q) → eqb p q ≡ eqb a b
+eqb-same p q a b f g = go (eqb a b) refl
+  where
+    go : (t : Bool) → eqb a b ≡ t → eqb p q ≡ t
+    go true e = eq-eqb p q (g (eqb-true a b e))
+    go false e = ne-eqb p q (λ i. eqb-false a b e (f i))
+
+-- the order of two numbers by their keys
+order-by : (p q a b : ℕ) (l : Bool) → (p ≡ q → a ≡ b) → (a ≡ b → p ≡ q) → ltb p q ≡ l → numberOrder p q ≡ cond (eqb a b) Equal (cond l Less Greater)
+order-by p q a b l f g e = ap₂ (λ s t. cond s Equal (cond t Less Greater)) (eqb-same p q a b f g) e
+
+-- a key: without the sign the bits rise above it, with it the key is another
+abbrev Keyed : ℕ → ℕ → ℕ → ℕ → Type 0
+Keyed h n high p = ((n < 2 ^ h) × (p ≡ n + 2 ^ h)) ⊎ ((2 ^ h ≤ n) × (p ≡ high))
+
+keyed : (h n high : ℕ) → Keyed h n high (cond (ltb n (2 ^ h)) (n + 2 ^ h) high)
+keyed h n high = go (ltb n (2 ^ h)) refl
+  where
+    go : (t : Bool) → ltb n (2 ^ h) ≡ t → Keyed h n high (cond t (n + 2 ^ h) high)
+    go true e = inl (ltb-true _ _ e, refl)
+    go false e = inr (ltb-false _ _ e, refl)
+
+-- integers go by their bits with the sign turned
+signed-keys : (h a b p q : ℕ) → a < 2 ^ suc h → b < 2 ^ suc h → Keyed h a (a - 2 ^ h) p → Keyed h b (b - 2 ^ h) q
+    → numberOrder p q ≡ cond (eqb a b) Equal (cond (signedLess h a b) Less Greater)
+signed-keys h a b p q ba bb = pairs
+  where
+    less : {x y : ℤ} → signed h a ≡ x → signed h b ≡ y → ltZ x y ≡ signedLess h a b
+    less e f = cc
+
+    pairs : Keyed h a (a - 2 ^ h) p → Keyed h b (b - 2 ^ h) q → numberOrder p q ≡ cond (eqb a b) Equal (cond (signedLess h a b) Less Greater)
+    pairs (inl u) (inl v) = order-by p q a b _ (λ e. omega arith) (λ e. omega arith) (ltb-same p q a b (λ l. omega arith) (λ l. omega arith) ∙ less (signed-low h a (u .0)) (signed-low h b (v .0)))
+    pairs (inl u) (inr v) = order-by p q a b _ (λ e. omega (arith, pow-suc 2 h)) (λ e. omega arith) (le-ltb p q (omega (arith, pow-suc 2 h)) ∙ less (signed-low h a (u .0)) (signed-high h b (v .0)))
+    pairs (inr u) (inl v) = order-by p q a b _ (λ e. omega (arith, pow-suc 2 h)) (λ e. omega arith) (lt-ltb p q (omega (arith, pow-suc 2 h)) ∙ less (signed-high h a (u .0)) (signed-low h b (v .0)))
+    pairs (inr u) (inr v) =
+        order-by p q a b _ (λ e. omega arith) (λ e. omega arith)
+        (ltb-same p q (2 ^ suc h - suc b) (2 ^ suc h - suc a) (λ l. omega arith) (λ l. omega arith) ∙ less (signed-high h a (u .0)) (signed-high h b (v .0)))
+
+pub signed-order : (h a b : ℕ) → a < 2 ^ suc h → b < 2 ^ suc h → numberOrder (signTurned h a) (signTurned h b) ≡ cond (eqb a b) Equal (cond (signedLess h a b) Less Greater)
+signed-order h a b ba bb = signed-keys h a b _ _ ba bb (keyed h a (a - 2 ^ h)) (keyed h b (b - 2 ^ h))
+
+-- floats by the number that goes with totalOrder
+total-keys : (h a b p q : ℕ) → a < 2 ^ suc h → b < 2 ^ suc h → Keyed h a (2 ^ suc h - suc a) p → Keyed h b (2 ^ suc h - suc b) q
+    → numberOrder p q ≡ cond (eqb a b) Equal (cond (totalLess h a b) Less Greater)
+total-keys h a b p q ba bb (inl u) (inl v) =
+    order-by p q a b (totalLess h a b) (λ e. omega arith) (λ e. omega arith)
+    (ltb-same p q a b (λ l. omega arith) (λ l. omega arith) ∙ simp (lt-ltb a (2 ^ h) (u .0), lt-ltb b (2 ^ h) (v .0)))
+total-keys h a b p q ba bb (inl u) (inr v) =
+    order-by p q a b (totalLess h a b) (λ e. omega (arith, pow-suc 2 h)) (λ e. omega arith)
+    (le-ltb p q (omega (arith, pow-suc 2 h)) ∙ simp (lt-ltb a (2 ^ h) (u .0), le-ltb b (2 ^ h) (v .0)))
+total-keys h a b p q ba bb (inr u) (inl v) =
+    order-by p q a b (totalLess h a b) (λ e. omega (arith, pow-suc 2 h)) (λ e. omega arith)
+    (lt-ltb p q (omega (arith, pow-suc 2 h)) ∙ simp (le-ltb a (2 ^ h) (u .0), lt-ltb b (2 ^ h) (v .0)))
+total-keys h a b p q ba bb (inr u) (inr v) =
+    order-by p q a b (totalLess h a b) (λ e. omega arith) (λ e. omega arith)
+    (ltb-same p q b a (λ l. omega arith) (λ l. omega arith) ∙ simp (le-ltb a (2 ^ h) (u .0), le-ltb b (2 ^ h) (v .0)))
+
+pub total-order : (h a b : ℕ) → a < 2 ^ suc h → b < 2 ^ suc h → numberOrder (totalKey h a) (totalKey h b) ≡ cond (eqb a b) Equal (cond (totalLess h a b) Less Greater)
+total-order h a b ba bb = total-keys h a b _ _ ba bb (keyed h a (2 ^ suc h - suc a)) (keyed h b (2 ^ suc h - suc b))
+
+-- the key and the text of an entry
+abbrev entryKey : Entry → Key
+entryKey null = Keys.Null
+entryKey (boolean b) = Keys.Number 1 (markNumber b)
+entryKey (int32 n) = Keys.Number 2 (signTurned 31 n)
+entryKey (int64 n) = Keys.Number 3 (signTurned 63 n)
+entryKey (float64 n) = Keys.Number 4 (totalKey 63 n)
+entryKey (utf8 t) = Keys.Text
+
+abbrev entryText : Entry → List ℕ
+entryText null = []
+entryText (boolean b) = []
+entryText (int32 n) = []
+entryText (int64 n) = []
+entryText (float64 n) = []
+entryText (utf8 t) = t
+
+-- an entry within its bits
+abbrev Within : Entry → Type 0
+Within null = Unit {0}
+Within (boolean b) = Unit {0}
+Within (int32 n) = n < 2 ^ 32
+Within (int64 n) = n < 2 ^ 64
+Within (float64 n) = n < 2 ^ 64
+Within (utf8 t) = Unit {0}
+
+-- Booleans go by 0 and 1
+flags-order : (x y : Bool) → orderOfPair (booleans x y) ≡ numberOrder (markNumber x) (markNumber y)
+flags-order true true = refl
+flags-order true false = refl
+flags-order false true = refl
+flags-order false false = refl
+
+-- the order of two entries is that of their keys and their texts
+entries-order : (a b : Entry) → Within a → Within b → orderOfPair (pairOf a b) ≡ keyOrder (entryKey a) (entryKey b) (textOrder (entryText a) (entryText b))
+unfolding pairOf
+entries-order null b wa =
+    elim b [ null ↦ λ wb. refl | boolean y ↦ λ wb. refl | int32 y ↦ λ wb. refl | int64 y ↦ λ wb. refl | float64 y ↦ λ wb. refl | utf8 y ↦ λ wb. refl ]
+entries-order (boolean x) b wa =
+    elim b [ null ↦ λ wb. refl | boolean y ↦ λ wb. flags-order x y | int32 y ↦ λ wb. refl | int64 y ↦ λ wb. refl | float64 y ↦ λ wb. refl | utf8 y ↦ λ wb. refl ]
+entries-order (int32 x) b wa =
+    elim b [ null ↦ λ wb. refl | boolean y ↦ λ wb. refl | int32 y ↦ λ wb. sym (signed-order 31 x y wa wb) | int64 y ↦ λ wb. refl | float64 y ↦ λ wb. refl | utf8 y ↦ λ wb. refl ]
+entries-order (int64 x) b wa =
+    elim b [ null ↦ λ wb. refl | boolean y ↦ λ wb. refl | int32 y ↦ λ wb. refl | int64 y ↦ λ wb. sym (signed-order 63 x y wa wb) | float64 y ↦ λ wb. refl | utf8 y ↦ λ wb. refl ]
+entries-order (float64 x) b wa =
+    elim b [ null ↦ λ wb. refl | boolean y ↦ λ wb. refl | int32 y ↦ λ wb. refl | int64 y ↦ λ wb. refl | float64 y ↦ λ wb. sym (total-order 63 x y wa wb) | utf8 y ↦ λ wb. refl ]
+entries-order (utf8 x) b wa =
+    elim b [ null ↦ λ wb. refl | boolean y ↦ λ wb. refl | int32 y ↦ λ wb. refl | int64 y ↦ λ wb. refl | float64 y ↦ λ wb. refl | utf8 y ↦ λ wb. refl ]
+
+-- the key and the text of an outcome
+abbrev outcomeKey : Outcome → Key
+outcomeKey (entry e) = entryKey e
+outcomeKey unfit = Keys.Failed
+
+abbrev outcomeText : Outcome → List ℕ
+outcomeText (entry e) = entryText e
+outcomeText unfit = []
+
+abbrev WithinOut : Outcome → Type 0
+WithinOut (entry e) = Within e
+WithinOut unfit = Unit {0}
+
+-- the order of two outcomes is that of their keys and their texts
+outcomes-order : (o p : Outcome) → WithinOut o → WithinOut p → orderOf o p ≡ keyOrder (outcomeKey o) (outcomeKey p) (textOrder (outcomeText o) (outcomeText p))
+outcomes-order (entry a) (entry b) wa wb = entries-order a b wa wb
+outcomes-order (entry a) unfit wa wb = elim a [ null ↦ refl | boolean x ↦ refl | int32 x ↦ refl | int64 x ↦ refl | float64 x ↦ refl | utf8 x ↦ refl ]
+outcomes-order unfit (entry b) wa wb = refl
+outcomes-order unfit unfit wa wb = refl
+
+-- a value of the code has the key and the text of its outcome, which is within its bits
+record Known (rule table : List ℕ) (v : Value) : Type 0 where
+  key : outcomeKey (meaning rule table v) ≡ keyOf v
+  text : outcomeText (meaning rule table v) ≡ textIn rule table v
+  within : WithinOut (meaning rule table v)
+
+-- what owning a value tells
+abbrev pub Owned : Value → Type 0
+Owned v = (vs : List Val) × Is (row the-type) v vs
+
+known : (rule table : List ℕ) (v : Value) → Owned v → Known rule table v
+known rule table Null o = record { key = refl; text = refl; within = tt }
+known rule table (Boolean b) o = record { key = refl; text = refl; within = tt }
+known rule table (Int32 n) o = record { key = refl; text = refl; within = omega arith }
+known rule table (Int64 n) o = record { key = refl; text = refl; within = omega arith }
+known rule table (Float64 f) o = let t : fits binary64 f ≡ true = cc in record { key = refl; text = refl; within = toBits-lt binary64 f (subst T (sym t) tt) }
+known rule table (Nan n) o = record { key = refl; text = refl; within = omega arith }
+known rule table (RuleText start size) o = record { key = refl; text = refl; within = tt }
+known rule table (TableText start size) o = record { key = refl; text = refl; within = tt }
+known rule table Failed o = record { key = refl; text = refl; within = tt }
+
+-- the order of two values is that of their keys and their texts
+values-order : (rule table : List ℕ) (a b : Value) → Owned a → Owned b
+    → keyOrder (keyOf a) (keyOf b) (textOrder (textIn rule table a) (textIn rule table b)) ≡ orderOf (meaning rule table a) (meaning rule table b)
+values-order rule table a b oa ob =
+    let p = known rule table a oa in
+    let q = known rule table b ob in
+    sym (outcomes-order (meaning rule table a) (meaning rule table b) (p .within) (q .within) ∙ rw (p .key, p .text, q .key, q .text))
+
+-- a value in the arm that is left when the texts are told apart
+abbrev pub NoText : Value → Type 0
+NoText v = OneOf (0 ∷ 1 ∷ 2 ∷ 3 ∷ 4 ∷ 5 ∷ 8 ∷ []) (tagOf the-type v)
+
+-- whether a key is that of a text
+abbrev isText : Key → Bool
+isText Keys.Null = false
+isText Keys.Failed = false
+isText (Keys.Number k x) = false
+isText Keys.Text = true
+
+no-text : (v : Value) → NoText v → isText (keyOf v) ≡ false
+no-text Null h = refl
+no-text (Boolean b) h = refl
+no-text (Int32 n) h = refl
+no-text (Int64 n) h = refl
+no-text (Float64 f) h = refl
+no-text (Nan n) h = refl
+no-text (RuleText start size) h = absurd (miss (0 ∷ 1 ∷ 2 ∷ 3 ∷ 4 ∷ 5 ∷ 8 ∷ []) 6 tt h)
+no-text (TableText start size) h = absurd (miss (0 ∷ 1 ∷ 2 ∷ 3 ∷ 4 ∷ 5 ∷ 8 ∷ []) 7 tt h)
+no-text Failed h = refl
+
+-- the order of the texts is asked for only where both are texts
+apart : (k l : Key) (x y : Order) → (isText k && isText l) ≡ false → keyOrder k l x ≡ keyOrder k l y
+apart Keys.Null l x y e = elim l [ Keys.Null ↦ refl | Keys.Failed ↦ refl | Keys.Number a b ↦ refl | Keys.Text ↦ refl ]
+apart Keys.Failed l x y e = refl
+apart (Keys.Number k n) l x y e = elim l [ Keys.Null ↦ refl | Keys.Failed ↦ refl | Keys.Number a b ↦ refl | Keys.Text ↦ refl ]
+apart Keys.Text Keys.Null x y e = refl
+apart Keys.Text Keys.Failed x y e = refl
+apart Keys.Text (Keys.Number a b) x y e = refl
+apart Keys.Text Keys.Text x y e = absurd (false≢true (sym e))
+
+-- text beside a value that is none
+pub text-beside-none : (v : Value) {k : Key} {r : Order} (x : Order) → NoText v → k ≡ keyOf v → r ≡ keyOrder Keys.Text k Unlike → r ≡ keyOrder Keys.Text (keyOf v) x
+text-beside-none v x h e f = f ∙ ap (λ (l : Key). keyOrder Keys.Text l Unlike) e ∙ apart Keys.Text (keyOf v) Unlike x (no-text v h)
+
+-- two values of which the first is a text
+pub text-first : (rule table : List ℕ) (a w b : Value) {s : List ℕ} {r : Order} → a ≡ w → keyOf w ≡ Keys.Text → s ≡ textIn rule table w → Owned a → Owned b
+    → r ≡ keyOrder Keys.Text (keyOf b) (textOrder s (textIn rule table b)) → r ≡ orderOf (meaning rule table a) (meaning rule table b)
+text-first rule table a w b e k p oa ob f =
+    let t : keyOf a ≡ Keys.Text = ap keyOf e ∙ k in
+    let q = ap (textIn rule table) e in
+    f ∙ (rw (p, ← q, ← t) (values-order rule table a b oa ob))
+
+-- two values of which the first is no text
+pub no-text-first : (rule table : List ℕ) (a b : Value) {k l : Key} {r : Order} → NoText a → Owned a → Owned b → k ≡ keyOf a → l ≡ keyOf b → r ≡ keyOrder k l Unlike
+    → r ≡ orderOf (meaning rule table a) (meaning rule table b)
+no-text-first rule table a b h oa ob p q f =
+    f ∙ ap₂ (λ (x y : Key). keyOrder x y Unlike) p q
+    ∙ apart (keyOf a) (keyOf b) Unlike (textOrder (textIn rule table a) (textIn rule table b)) (ap (λ (t : Bool). t && isText (keyOf b)) (no-text a h))
+    ∙ values-order rule table a b oa ob

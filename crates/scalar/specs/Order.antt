@@ -1,0 +1,87 @@
+-- The order of two values, from which equal and less are read.
+use mathlib.Core.Bool.{Bool, true, false, cond, not}
+use mathlib.Core.List.{List}
+use mathlib.Core.List.{[]}
+use Prim.Native.Nat.{ℕ}
+use lib.Dec.{eqb, ltb}
+use lib.Ieee.{binary64, toBits}
+use Rattle.scalar.specs.declared.order.Order.{Order}
+use Rattle.scalar.specs.declared.order.Order.the-variants.{Less, Equal, Greater, SomeNull, SomeFailed, Unlike}
+use Rattle.scalar.specs.declared.order.Key.{Key}
+use Rattle.scalar.specs.declared.order.Key.the-variants as Keys
+use Rattle.scalar.specs.declared.value.Value.{Value}
+use Rattle.scalar.specs.declared.value.Value.the-variants.{Null, Boolean, Int32, Int64, Float64, Nan, RuleText, TableText, Failed}
+use Rattle.scalar.specs.Types.{markNumber}
+use Rattle.scalar.specs.Float.{signTurned, totalKey}
+use Rattle.scalar.specs.Text.{sameBytes, textLess}
+use Rattle.scalar.specs.Value.{placeText}
+use Rattle.scalar.specs.Entry.{Entry, null, boolean, isTrue, Outcome, entry, unfit}
+use Rattle.scalar.specs.Pair.{Pair, bothNull, oneNull, unlike, booleans, int32s, int64s, float64s, texts, pairOf}
+use Rattle.scalar.specs.Compare.{equalPair, lessPair}
+
+-- equal, else less or greater
+abbrev pub orderBy : Entry → Entry → Order
+orderBy equals lessThan = cond (isTrue equals) Equal (cond (isTrue lessThan) Less Greater)
+
+abbrev pub orderOfPair : Pair → Order
+orderOfPair bothNull = SomeNull
+orderOfPair oneNull = SomeNull
+orderOfPair unlike = Unlike
+orderOfPair (booleans x y) = orderBy (equalPair (booleans x y)) (lessPair (booleans x y))
+orderOfPair (int32s x y) = orderBy (equalPair (int32s x y)) (lessPair (int32s x y))
+orderOfPair (int64s x y) = orderBy (equalPair (int64s x y)) (lessPair (int64s x y))
+orderOfPair (float64s x y) = orderBy (equalPair (float64s x y)) (lessPair (float64s x y))
+orderOfPair (texts x y) = orderBy (equalPair (texts x y)) (lessPair (texts x y))
+
+-- the order of two outcomes: failed where either has failed, null where either is null
+abbrev pub orderOf : Outcome → Outcome → Order
+orderOf (entry a) (entry b) = orderOfPair (pairOf a b)
+orderOf (entry a) unfit = SomeFailed
+orderOf unfit (entry b) = SomeFailed
+orderOf unfit unfit = SomeFailed
+
+-- how a value is compared: Booleans by 0 and 1, integers by their bits with the sign turned, floats by a number that goes with totalOrder
+abbrev pub keyOf : Value → Key
+keyOf Null = Keys.Null
+keyOf (Boolean b) = Keys.Number 1 (markNumber b)
+keyOf (Int32 n) = Keys.Number 2 (signTurned 31 n)
+keyOf (Int64 n) = Keys.Number 3 (signTurned 63 n)
+keyOf (Float64 f) = Keys.Number 4 (totalKey 63 (toBits binary64 f))
+keyOf (Nan n) = Keys.Number 4 (totalKey 63 n)
+keyOf (RuleText start size) = Keys.Text
+keyOf (TableText start size) = Keys.Text
+keyOf Failed = Keys.Failed
+
+-- the bytes of a text value; none of any other
+abbrev pub textIn : List ℕ → List ℕ → Value → List ℕ
+textIn rule table Null = []
+textIn rule table (Boolean b) = []
+textIn rule table (Int32 n) = []
+textIn rule table (Int64 n) = []
+textIn rule table (Float64 f) = []
+textIn rule table (Nan n) = []
+textIn rule table (RuleText start size) = placeText rule start size
+textIn rule table (TableText start size) = placeText table start size
+textIn rule table Failed = []
+
+abbrev pub textOrder : List ℕ → List ℕ → Order
+textOrder s t = cond (sameBytes s t) Equal (cond (textLess s t) Less Greater)
+
+abbrev pub numberOrder : ℕ → ℕ → Order
+numberOrder x y = cond (eqb x y) Equal (cond (ltb x y) Less Greater)
+
+-- the order of two keys, given that of the texts
+abbrev pub keyOrder : Key → Key → Order → Order
+keyOrder Keys.Null Keys.Null between = SomeNull
+keyOrder Keys.Null Keys.Failed between = SomeFailed
+keyOrder Keys.Null (Keys.Number l y) between = SomeNull
+keyOrder Keys.Null Keys.Text between = SomeNull
+keyOrder Keys.Failed other between = SomeFailed
+keyOrder (Keys.Number k x) Keys.Null between = SomeNull
+keyOrder (Keys.Number k x) Keys.Failed between = SomeFailed
+keyOrder (Keys.Number k x) (Keys.Number l y) between = cond (eqb k l) (numberOrder x y) Unlike
+keyOrder (Keys.Number k x) Keys.Text between = Unlike
+keyOrder Keys.Text Keys.Null between = SomeNull
+keyOrder Keys.Text Keys.Failed between = SomeFailed
+keyOrder Keys.Text (Keys.Number l y) between = Unlike
+keyOrder Keys.Text Keys.Text between = between
