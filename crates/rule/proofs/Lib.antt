@@ -20,3 +20,4 @@ pub mod ConstantCase
 pub mod FailsLaws
 pub mod StrategyLaws
 pub mod ReadNode
+pub mod AnswerLaws

@@ -30,7 +30,7 @@ no-type (suc (suc (suc (suc zero)))) r = absurd (r .0 .1 refl)
 no-type (suc (suc (suc (suc (suc zero))))) r = absurd (r .1 refl)
 no-type (suc (suc (suc (suc (suc (suc k)))))) r = refl
 
-module _ {A : Type 0} {good : Read A → Type 0} {m : Result (Read A)} {k : ℕ} where
+module _ {A : Type 0} {good : A → Type 0} {m : Result A} {k : ℕ} where
   -- a definition that refuses
   pub gives-refusal : (n : ℕ) → m ≡ refused n → 0 < n → k ≡ n → Gives good m k
   gives-refusal n e p q = record {
@@ -39,32 +39,40 @@ module _ {A : Type 0} {good : Read A → Type 0} {m : Result (Read A)} {k : ℕ}
   }
 
   -- a definition that reads
-  pub gives-read : (x : Read A) → m ≡ ok x → k ≡ 0 → good x → Gives good m k
+  pub gives-read : (x : A) → m ≡ ok x → k ≡ 0 → good x → Gives good m k
   gives-read x e z g = record {
     refuses = λ n h. absurd (refused-not-ok n x (sym h ∙ e));
     reads = λ y h. (z, subst good (ok-injective (sym e ∙ h)) g);
   }
 
-module _ {A B : Type 0} {good : Read B → Type 0} {k : ℕ} where
+-- taken backwards
+module _ {A : Type 0} {good : A → Type 0} {k : ℕ} where
+  pub was-refused : (m : Result A) → Gives good m k → (k ≡ 0 → ⊥) → (m ≡ refused k) × (0 < k)
+  was-refused (refused n) g z = let i = g .refuses n refl in (ap refused (sym (i .0)), subst (λ (j : ℕ). 0 < j) (sym (i .0)) (i .1))
+  was-refused (ok x) g z = absurd (z (g .reads x refl .0))
+
+  pub was-read : (m : Result A) → Gives good m k → k ≡ 0 → (x : A) × (m ≡ ok x) × good x
+  was-read (refused n) g z = let i = g .refuses n refl in absurd (omega (arith, i .0, i .1))
+  was-read (ok x) g z = (x, refl, g .reads x refl .1)
+
+module _ {A B : Type 0} {good : B → Type 0} {k : ℕ} where
   -- a step that goes on, and one that refuses
-  pub on-ok : (m : Result A) (f : A → Result (Read B)) (a : A) → m ≡ ok a → Gives good (f a) k → Gives good (m >>= f) k
+  pub on-ok : (m : Result A) (f : A → Result B) (a : A) → m ≡ ok a → Gives good (f a) k → Gives good (m >>= f) k
   on-ok m f a e g = subst (λ (x : Result A). Gives good (x >>= f) k) (sym e) g
 
-  pub on-refused : (m : Result A) (f : A → Result (Read B)) (n : ℕ) → m ≡ refused n → 0 < n → k ≡ n → Gives good (m >>= f) k
+  pub on-refused : (m : Result A) (f : A → Result B) (n : ℕ) → m ≡ refused n → 0 < n → k ≡ n → Gives good (m >>= f) k
   on-refused m f n e p q = gives-refusal n (ap (λ (x : Result A). x >>= f) e) p q
 
-module _ {A B : Type 0} {first : Read A → Type 0} {good : Read B → Type 0} {j k : ℕ} where
+module _ {A B : Type 0} {first : A → Type 0} {good : B → Type 0} {j k : ℕ} where
   -- behind a part that was read, and behind one that was refused
-  pub behind-read : (m : Result (Read A)) (f : Read A → Result (Read B)) → Gives first m j → j ≡ 0 → ((x : Read A) → first x → Gives good (f x) k) → Gives good (m >>= f) k
-  behind-read (refused n) f g z h = let i = g .refuses n refl in absurd (omega (arith, i .0, i .1))
-  behind-read (ok x) f g z h = h x (g .reads x refl .1)
+  pub behind-read : (m : Result A) (f : A → Result B) → Gives first m j → j ≡ 0 → ((x : A) → first x → Gives good (f x) k) → Gives good (m >>= f) k
+  behind-read m f g z h = let (x, is, read) = was-read m g z in on-ok m f x is (h x read)
 
-  pub behind-refused : (m : Result (Read A)) (f : Read A → Result (Read B)) → Gives first m j → (j ≡ 0 → ⊥) → k ≡ j → Gives good (m >>= f) k
-  behind-refused (refused n) f g z q = let i = g .refuses n refl in gives-refusal n refl (i .1) (q ∙ i .0)
-  behind-refused (ok x) f g z q = absurd (z (g .reads x refl .0))
+  pub behind-refused : (m : Result A) (f : A → Result B) → Gives first m j → (j ≡ 0 → ⊥) → k ≡ j → Gives good (m >>= f) k
+  behind-refused m f g z q = let (is, some) = was-refused m g z in on-refused m f j is some q
 
   -- a part that makes up the whole
-  pub gives-map : (m : Result (Read A)) (h : Read A → Read B) → Gives first m j → k ≡ j → ((x : Read A) → first x → good (h x)) → Gives good (m >>= λ x. ok (h x)) k
+  pub gives-map : (m : Result A) (h : A → B) → Gives first m j → k ≡ j → ((x : A) → first x → good (h x)) → Gives good (m >>= λ x. ok (h x)) k
   gives-map (refused n) h g e f = let i = g .refuses n refl in gives-refusal n refl (i .1) (e ∙ i .0)
   gives-map (ok x) h g e f = let i = g .reads x refl in gives-read (h x) refl (e ∙ i .0) (f x (i .1))
 

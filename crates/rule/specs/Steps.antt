@@ -19,6 +19,7 @@ use Rattle.rule.specs.declared.node.NodeRead.{NodeRead}
 use Rattle.rule.specs.declared.node.BranchesRead.{BranchesRead}
 use Rattle.rule.specs.Tree.{Column, Expr, column, negation, negative, isNotNull, cast, tryCast, equal, less, Branches, branch, Optional, isNullLiteral}
 use Rattle.rule.specs.Typing.{typeOf, resultType, whenType, branchesTyped, elseTyped}
+use Rattle.rule.specs.Projection.{indexes, projection}
 use Rattle.rule.specs.Reading.{Read, Reader, unlikeEarlier, markedValue, readColumn, readLiteral, readUnary, readCast, readBinary, readBranches, readLimitedCase}
 use Rattle.rule.specs.Seen.{SeenIs}
 
@@ -54,9 +55,9 @@ abbrev pub branched : DataType → DataType → DataType → BranchesRead → Br
 branched w when t later = record { refused = later .refused; result = later .result; fits = sameType w when && sameType t (later .result) && later .fits; next = later .next; seen = later .seen }
 
 -- the number of a refusal, or 0 and what was read
-pub record Gives {A : Type 0} (good : Read A → Type 0) (definition : Result (Read A)) (number : ℕ) : Type 0 where
+pub record Gives {A : Type 0} (good : A → Type 0) (definition : Result A) (number : ℕ) : Type 0 where
   pub refuses : (n : ℕ) → definition ≡ refused n → (number ≡ n) × (0 < n)
-  pub reads : (x : Read A) → definition ≡ ok x → (number ≡ 0) × good x
+  pub reads : (x : A) → definition ≡ ok x → (number ≡ 0) × good x
 
 -- where it ends, and the columns met
 pub record Behind {A : Type 0} (bytes : List ℕ) (next : ℕ) (seen : Seen) (x : Read A) : Type 0 where
@@ -71,6 +72,13 @@ pub record FieldRead (bytes : List ℕ) (r : NodeRead) (x : Read Expr) : Type 0 
 
 abbrev pub ReadGives : List ℕ → Result (Read Expr) → NodeRead → Type 0
 ReadGives bytes definition r = Gives (FieldRead bytes r) definition (r .refused)
+
+-- a rule: its type, and that the columns met are those that it names
+pub record RuleRead (r : NodeRead) (e : Expr) : Type 0 where
+  pub type-is : r .result ≡ typeOf e
+  pub columns : List Column
+  pub columns-are : indexes columns ≡ projection e
+  pub seen-are : SeenIs columns (r .seen)
 
 -- a part that may be absent: a WHEN's type if it is a base, and whether it fits as an ELSE
 pub record OptionalRead (bytes : List ℕ) (r : NodeRead) (x : Read Optional) : Type 0 where

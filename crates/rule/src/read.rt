@@ -1,4 +1,5 @@
 // Reading a rule, front to back. Each function follows a definition of specs/Reading.antt and needs no buffer.
+use crate::fails::constant_fails;
 use crate::leaf::read_column;
 use crate::leaf::read_literal;
 use crate::node::BranchesRead;
@@ -28,9 +29,9 @@ ghost use mathlib.Core.List.{List};
 ghost use Prim.Native.Nat.{ℕ};
 ghost use lib.ListN.{drop};
 ghost use Rattle.rule.specs.Tree.{Column, Expr};
-ghost use Rattle.rule.specs.Reading.{Read, readUnary, readCast, readBinary, readLimitedCase, readParts, readOptional, readBranches, readField, readRoot, readTree};
+ghost use Rattle.rule.specs.Reading.{Read, readUnary, readCast, readBinary, readLimitedCase, readParts, readOptional, readBranches, readField, readRoot, readTree, readRule};
 ghost use Rattle.rule.specs.Seen.{SeenIs};
-ghost use Rattle.rule.specs.Steps.{Gives, FieldRead, ReadGives, OptionalRead, BranchesAre, readThen, unaryOf, castOf, binaryOf, readTagged};
+ghost use Rattle.rule.specs.Steps.{Gives, FieldRead, ReadGives, RuleRead, OptionalRead, BranchesAre, readThen, unaryOf, castOf, binaryOf, readTagged};
 
 // The field at a place of a slice; so much depth and so many CASEs are left on the path.
 fn read_field(s: &[u8], at: usize, depth: usize, cases: usize, seen: Seen) -> NodeRead
@@ -236,6 +237,20 @@ pub(crate) fn read_tree(rule: &[u8]) -> NodeRead
     }
     if r.next < rule.len() {
         return refuse(3, none_seen());
+    }
+    r
+}
+
+// A rule: its tree, and that no constant cast fails.
+pub(crate) fn read_rule(rule: &[u8]) -> NodeRead
+    ensures { λ r. ⌜ Gives (RuleRead r) (readRule (now (rule .entry))) (r .refused) ⌝ }
+{
+    let r = read_tree(rule);
+    if r.refused != 0 {
+        return r;
+    }
+    if constant_fails(rule) {
+        return refuse(8, none_seen());
     }
     r
 }
