@@ -1,17 +1,17 @@
 -- The public answers about a rule, from what its reading gives. Assumes nothing.
-use mathlib.Core.Path.{_≡_, refl, ap, ap₂, sym, _∙_}
+use mathlib.Core.Path.{_≡_, refl, ap, sym, _∙_}
 use mathlib.Core.Bool.{Bool, true, false, not}
 use mathlib.Core.List.{List}
 use Prim.Native.Nat.{ℕ}
 use native.Mathlib.Omega.{arith}
 use lib.ListN.{length}
-use Rattle.layout.specs.Result.{refused, ok, require}
+use Rattle.layout.specs.Result.{refused, require}
 use Rattle.layout.specs.Bytes.{Bytes}
 use Rattle.rule.specs.declared.node.NodeRead.{NodeRead}
 use Rattle.rule.specs.declared.strategy.Strategy.{Strategy}
 use Rattle.rule.specs.declared.answer.RuleAnswer.the-variants as OfRule
 use Rattle.rule.specs.declared.answer.StrategyAnswer.the-variants as OfStrategy
-use Rattle.rule.specs.Tree.{Column, Expr}
+use Rattle.rule.specs.Tree.{Column}
 use Rattle.rule.specs.Constant.{constantFails}
 use Rattle.rule.specs.Reading.{readTree, readRule}
 use Rattle.rule.specs.Projection.{indexes}

@@ -2,7 +2,7 @@
 use mathlib.Core.Path.{_≡_, refl, ap, ap₂, sym, subst, _∙_}
 use mathlib.Core.Bool.{Bool, true, false, cond, _&&_, _||_}
 use mathlib.Core.List.{List, [], _∷_}
-use Prim.Native.Nat.{ℕ, zero, suc, _+_, _-_, _%_, _<_, _≤_}
+use Prim.Native.Nat.{ℕ, zero, suc, _+_, _-_, _<_, _≤_}
 use native.Mathlib.Omega.{arith}
 use lib.Dec.{eqb, leb, ltb}
 use lib.ListN.{length, take, drop, length-drop}
@@ -10,11 +10,11 @@ use lib.Seq.{length-take-le, drop-drop}
 use borrow.Author.Tests.{lt-ltb, le-ltb, le-leb, lt-leb, eq-eqb, ne-eqb}
 use Rattle.layout.specs.declared.field.FieldPlace.{FieldPlace}
 use Rattle.layout.specs.declared.field.Header.the-variants.{Found, Cut}
-use Rattle.layout.specs.Result.{Result, refused, ok, _>>=_, require}
+use Rattle.layout.specs.Result.{Result, refused, ok, require}
 use Rattle.layout.specs.Bytes.{byte, part}
 use Rattle.layout.specs.Field.{Field, contentLength, fieldAt, header}
 use Rattle.layout.specs.Place.{placed, headerOf, headerAt}
-use Rattle.layout.proofs.ResultLaws.{refused-not-ok, ok-injective}
+use Rattle.layout.proofs.ResultLaws.{refused-not-ok}
 use Rattle.layout.proofs.FieldLaws.{header-ok}
 use Rattle.scalar.specs.declared.types.DataType.{DataType}
 use Rattle.scalar.specs.declared.types.DataType.the-variants.{Boolean}
@@ -28,9 +28,9 @@ use Rattle.rule.specs.declared.node.BranchesRead.{BranchesRead}
 use Rattle.rule.specs.Tree.{Column, Expr, negation, negative, isNotNull, cast, tryCast, equal, less, caseWhen, Branches, noMore, branch, Optional, absent, present, isNullLiteral}
 use Rattle.rule.specs.Typing.{typeOf, resultType, nodeTyped, whenType, branchesTyped, elseTyped}
 use Rattle.rule.specs.Constant.{isEmpty}
-use Rattle.rule.specs.Reading.{Read, Reader, Kind, aColumn, aLiteral, aNot, aNegative, anIsNotNull, aCast, aTryCast, anEqual, aLess, aCase, tagOf, kinds, kindAmong, kindOf, firstByte, readColumn, readLiteral, readUnary, readCast, readBinary, readBranches, readOptional, hasBase, hasElse, readParts, readCase, readLimitedCase, readKind, readField, readRoot, readTree}
+use Rattle.rule.specs.Reading.{Read, Reader, Kind, aColumn, aLiteral, aNot, aNegative, anIsNotNull, aCast, aTryCast, anEqual, aLess, aCase, tagOf, kinds, kindAmong, kindOf, readColumn, readLiteral, readUnary, readCast, readBinary, readBranches, readOptional, hasBase, hasElse, readParts, readCase, readLimitedCase, readKind, readField, readRoot, readTree}
 use Rattle.rule.specs.Seen.{SeenIs}
-use Rattle.rule.specs.Steps.{typeOr, accepted, closed, unbranched, branched, Gives, Behind, FieldRead, ReadGives, OptionalRead, BranchesAre, readThen, unaryOf, castOf, binaryOf, readTagged}
+use Rattle.rule.specs.Steps.{typeOr, accepted, closed, unbranched, branched, Gives, FieldRead, ReadGives, OptionalRead, BranchesAre, readThen, unaryOf, castOf, binaryOf, readTagged}
 use Rattle.rule.proofs.StepLaws.{gives-refusal, gives-read, on-ok, on-refused, behind-read, behind-refused, gives-map, empty-drop, some-drop, close-gives}
 
 -- no node with children is a null literal
@@ -87,7 +87,7 @@ module _ (child : Reader Expr) (content : List ℕ) (cols : List Column) (outer 
       behind-read (child content cols) _ h z
       (λ x g. rw e (close-gives (binaryOf tag (x .tree)) content outer b (length content) fits Boolean end refl
       (λ y k. let (typed, type-is, null-is) = binary-plain tag (x .tree) (y .tree) in
-          (k .behind, fits-is ∙ ap₂ sameType (g .type-is) (k .type-is) ∙ typed, type-is, null-is))
+      (k .behind, fits-is ∙ ap₂ sameType (g .type-is) (k .type-is) ∙ typed, type-is, null-is))
       (child (x .rest) (x .seen))
       (subst (λ (l : List ℕ). ReadGives content (child l (x .seen)) b) (sym (g .behind .rest-is)) (second (x .seen) (g .behind .seen-are)))))
 
@@ -113,7 +113,7 @@ module _ (child : Reader Expr) (cols : List Column) (outer : List ℕ) (end : �
       on-ok (typeNumbered 3 b) _ t p
       (rw e (close-gives (castOf tag t) (b ∷ l) outer a (length (b ∷ l)) fits t end refl
       (λ x k. let (typed, type-is, null-is) = cast-plain tag t (x .tree) in
-          (k .behind, fits-is ∙ ap (λ (from : DataType). listed from t) (k .type-is) ∙ typed, type-is, null-is))
+      (k .behind, fits-is ∙ ap (λ (from : DataType). listed from t) (k .type-is) ∙ typed, type-is, null-is))
       (child l cols) g))
 
 -- a part that may be absent
@@ -417,7 +417,7 @@ found-is s at p = go (header 2 (drop at s)) refl
         let tag-is : f .tag ≡ p .tag = ap (λ (x : FieldPlace). x .tag) same in
         let wide : k ≡ p .end - p .start = omega arith in
         let content-is : f .content ≡ part s (p .start) (p .end) =
-            ap (λ (g : Field). g .content) is ∙ ap (take k) (drop-drop 3 at s) ∙ ap₂ (λ (n m : ℕ). take n (drop m s)) wide start-is in
+        ap (λ (g : Field). g .content) is ∙ ap (take k) (drop-drop 3 at s) ∙ ap₂ (λ (n m : ℕ). take n (drop m s)) wide start-is in
         let far : at + (3 + k) ≡ p .end = omega arith in
         let rest-is : f .rest ≡ drop (p .end) s = ap (λ (g : Field). g .rest) is ∙ drop-drop (3 + k) at s ∙ ap (λ (n : ℕ). drop n s) far in
         q ∙ (λ i. ok (record { tag = tag-is i; content = content-is i; rest = rest-is i }))
@@ -457,7 +457,7 @@ module _ (cases : ℕ) (s : List ℕ) (at : ℕ) (cols : List Column) (r : NodeR
           let (k, known, is) = known-tag (p .tag) low high in
           let back : suc d - 1 ≡ d = omega arith in
           let same = ap₂ (λ (n : ℕ) (l : List ℕ). readTagged (readField n) cases (record { tag = p .tag; content = l; rest = drop (p .end) s }) cols) back q
-              ∙ tagged-kind (readField d) cases k (placeField s p) cols is in
+          ∙ tagged-kind (readField d) cases k (placeField s p) cols is in
           on-ok (header 2 (drop at s)) _ (placeField s p) (found-is s at p h)
           (on-ok (kindOf (p .tag)) _ k known (subst (λ (m : Result (Read Expr)). ReadGives s m r) same g))
 
@@ -518,7 +518,7 @@ module _ (rule : List ℕ) (r : NodeRead) where
           on-ok (require (ltb 0 (length rule) && leb (length rule) 4096) 1) _ tt sized
           (behind-read (readRoot rule) _ g z
           (λ x k. let left : isEmpty (x .rest) ≡ false = ap isEmpty (k .behind .rest-is) ∙ some-drop (a .next) rule h in
-              on-refused (require (isEmpty (x .rest)) 3) _ 3 (ap (λ (b : Bool). require b 3) left) (omega arith) e))
+          on-refused (require (isEmpty (x .rest)) 3) _ 3 (ap (λ (b : Bool). require b 3) left) (omega arith) e))
 
       pub tree-gives : ReadGives rule (readRoot rule) r → r .refused ≡ 0 → length rule ≤ r .next → TreeGives
       unfolding readTree
@@ -526,4 +526,4 @@ module _ (rule : List ℕ) (r : NodeRead) where
           on-ok (require (ltb 0 (length rule) && leb (length rule) 4096) 1) _ tt sized
           (behind-read (readRoot rule) _ g z
           (λ x k. let none : isEmpty (x .rest) ≡ true = ap isEmpty (k .behind .rest-is) ∙ empty-drop (r .next) rule h in
-              on-ok (require (isEmpty (x .rest)) 3) _ tt (ap (λ (b : Bool). require b 3) none) (gives-read x refl z k)))
+          on-ok (require (isEmpty (x .rest)) 3) _ tt (ap (λ (b : Bool). require b 3) none) (gives-read x refl z k)))

@@ -11,17 +11,16 @@ use borrow.Author.Tests.{eqb-true, eqb-false, ltb-true, ltb-false, leb-true, leb
 use Rattle.layout.specs.Result.{Result, refused, ok, _>>=_, require}
 use Rattle.layout.specs.Bytes.{byte, number}
 use Rattle.scalar.specs.declared.types.DataType.{DataType}
-use Rattle.scalar.specs.declared.types.DataType.the-variants.{Boolean, Int32, Int64, Float64, Utf8}
+use Rattle.scalar.specs.declared.types.DataType.the-variants.{Boolean, Utf8}
 use Rattle.scalar.specs.Types.{typeNumber, typeNumbered, markNumber, markNumbered, sameType}
-use Rattle.scalar.specs.Entry.{Entry, null, boolean, int32, int64, float64, utf8, isNull}
+use Rattle.scalar.specs.Entry.{Entry, null, boolean, utf8, isNull}
 use Rattle.rule.specs.declared.seen.Seen.{Seen}
 use Rattle.rule.specs.declared.node.NodeRead.{NodeRead}
 use Rattle.rule.specs.Tree.{Column, Expr, column, literal, negation, isNotNull}
 use Rattle.rule.specs.Typing.{typeOf, isNumber, nodeTyped}
-use Rattle.rule.specs.Constant.{isEmpty}
 use Rattle.rule.specs.Reading.{Read, unlikeEarlier, readColumn, numberOf, literalValue, markedValue, readLiteral}
-use Rattle.rule.specs.Seen.{markOf, markAt, SeenIs}
-use Rattle.rule.specs.Steps.{refusal, accepted, Gives, FieldRead, ReadGives, meetColumn, valueOf, ValueGives, unaryOf}
+use Rattle.rule.specs.Seen.{markOf, SeenIs}
+use Rattle.rule.specs.Steps.{accepted, ReadGives, meetColumn, valueOf, ValueGives, unaryOf}
 use Rattle.rule.proofs.SeenLaws.{unlike-marks, seen-met}
 use Rattle.rule.proofs.StepLaws.{gives-refusal, gives-read, on-ok, on-refused, empty-drop, some-drop}
 
@@ -201,7 +200,7 @@ module _ (cols : List Column) (outer : List ℕ) (end : ℕ) {r : NodeRead} wher
     unfolding readLiteral valueOf
     literal-unfit [] h p fits v f e = absurd (omega arith)
     literal-unfit (a ∷ []) h p fits v f e = absurd (omega arith)
-    literal-unfit (a ∷ b ∷ l) h p fits v f e = 
+    literal-unfit (a ∷ b ∷ l) h p fits v f e =
         on-ok (typeNumbered 3 a) _ t p
         (subst (λ (d : Result (Read Expr)). ReadGives outer d r) (in-turn (markNumbered 3 b) (λ m. markedValue m t l) _)
         (on-refused (valueOf t b l) (λ x. ok (record { tree = literal t x; seen = cols; rest = drop end outer })) 3 (v .unfitting f) (omega arith) e))
@@ -213,7 +212,7 @@ module _ (cols : List Column) (outer : List ℕ) (end : ℕ) {r : NodeRead} wher
     unfolding readLiteral valueOf typeOf
     literal-read [] seen h p fits v f s e = absurd (omega arith)
     literal-read (a ∷ []) seen h p fits v f s e = absurd (omega arith)
-    literal-read (a ∷ b ∷ l) seen h p fits v f s e = 
+    literal-read (a ∷ b ∷ l) seen h p fits v f s e =
         let (x, gives, is) = v .fitting f in
         on-ok (typeNumbered 3 a) _ t p
         (subst (λ (d : Result (Read Expr)). ReadGives outer d r) (in-turn (markNumbered 3 b) (λ m. markedValue m t l) _)

@@ -98,7 +98,7 @@ insert-risen f c (suc k) h = go (eqb k c) refl (insert-risen f c k)
     go true e ih =
         let is : k ≡ c = eqb-true k c e in
         let same : risen f k ≡ risen (λ i. eqb i c || f i) k =
-            risen-same f (λ i. eqb i c || f i) k (λ i p. let no : eqb i c ≡ false = ne-eqb i c (λ q. omega arith) in sym (ap (λ (t : Bool). t || f i) no)) in
+        risen-same f (λ i. eqb i c || f i) k (λ i p. let no : eqb i c ≡ false = ne-eqb i c (λ q. omega arith) in sym (ap (λ (t : Bool). t || f i) no)) in
         ap (λ (n : ℕ). insertRising n (cond (f k) (risen f k ++ (k ∷ [])) (risen f k))) (sym is) ∙ last (f k) ∙ ap (λ (m : List ℕ). m ++ (k ∷ [])) same
     go false e ih =
         let n = eqb-false k c e in
@@ -190,7 +190,7 @@ module _ (marks : List ℕ) where
     projecting-skips z =
         let none : marked marks i ≡ false = ap (λ (n : ℕ). not (eqb n 0)) z in
         let same : risen (marked marks) (i + 1) ≡ risen (marked marks) i =
-            ap (risen (marked marks)) (add-one i) ∙ ap (λ (t : Bool). cond t (risen (marked marks) i ++ (i ∷ [])) (risen (marked marks) i)) none in
+        ap (risen (marked marks)) (add-one i) ∙ ap (λ (t : Bool). cond t (risen (marked marks) i ++ (i ∷ [])) (risen (marked marks) i)) none in
         record { upto = omega arith; count-is = g .count-is ∙ ap length (sym same); columns-are = g .columns-are ∙ ap columnsIn256 (sym same) }
 
     projecting-adds : (getD marks i 0 ≡ 0 → ⊥) → Projecting marks (i + 1) (count + 1) (set columns count i)

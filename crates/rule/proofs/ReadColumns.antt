@@ -1,5 +1,5 @@
 -- The columns met while a rule is read are those of its tree. Assumes nothing.
-use mathlib.Core.Path.{_≡_, refl, ap, ap₂, sym, subst, _∙_}
+use mathlib.Core.Path.{_≡_, refl, ap, sym, subst, _∙_}
 use mathlib.Core.Bool.{Bool, true, false, _||_, or-false}
 use mathlib.Core.List.{List, [], _∷_, _++_}
 use Prim.Native.Nat.{ℕ, zero, suc}
@@ -17,7 +17,7 @@ use Rattle.rule.specs.Projection.{indexes, projection}
 use Rattle.rule.specs.Reading.{Read, Reader, Kind, aColumn, aLiteral, aNot, aNegative, anIsNotNull, aCast, aTryCast, anEqual, aLess, aCase, readColumn, readLiteral, readUnary, readCast, readBinary, readCase, readBranches, readOptional, hasBase, hasElse, readParts, readKind, readField, depthMost, casesMost, readTree}
 use Rattle.rule.specs.Seen.{SeenIs}
 use Rattle.rule.proofs.ReadInversions.{column-inv, literal-inv, unary-inv, cast-inv, binary-inv, branches-inv, optional-inv, parts-inv, case-inv, limitedCase-inv, field-inv, root-inv, tree-inv}
-use Rattle.rule.proofs.ProjectionLaws.{named, risen, risen-same, indexes-risen, seen-bound}
+use Rattle.rule.proofs.ProjectionLaws.{named, risen-same, indexes-risen, seen-bound}
 
 -- columns that were met, and more
 abbrev Added : List Column → List Column → List Column → Type 0

@@ -2,7 +2,7 @@
 use mathlib.Core.Path.{_≡_, refl, ap, sym, subst, _∙_}
 use mathlib.Core.Bool.{Bool, true, false, cond}
 use mathlib.Core.List.{List, [], _∷_}
-use Prim.Native.Nat.{ℕ, zero, suc, _+_, _-_, _<_, _≤_}
+use Prim.Native.Nat.{ℕ, zero, suc, _-_, _<_, _≤_}
 use native.Mathlib.Omega.{arith}
 use lib.Dec.{eqb, ltb}
 use lib.ListN.{length, drop}
@@ -12,12 +12,12 @@ use Rattle.layout.proofs.ResultLaws.{refused-not-ok, ok-injective}
 use Rattle.scalar.specs.declared.types.DataType.{DataType}
 use Rattle.scalar.specs.Types.{typeNumbered}
 use Rattle.rule.specs.declared.node.NodeRead.{NodeRead}
-use Rattle.rule.specs.Tree.{Column, Expr, isNullLiteral}
+use Rattle.rule.specs.Tree.{Expr, isNullLiteral}
 use Rattle.rule.specs.Typing.{typeOf, nodeTyped}
 use Rattle.rule.specs.Constant.{isEmpty}
 use Rattle.rule.specs.Reading.{Read, closeNode}
 use Rattle.rule.specs.Seen.{SeenIs}
-use Rattle.rule.specs.Steps.{refusal, accepted, closed, Gives, Behind, FieldRead, ReadGives}
+use Rattle.rule.specs.Steps.{refusal, accepted, closed, Gives, Behind, ReadGives}
 
 -- a number that is none of the types'
 pub no-type : (n : ℕ) → (((((Unit {0} × (n ≡ 1 → ⊥)) × (n ≡ 2 → ⊥)) × (n ≡ 3 → ⊥)) × (n ≡ 4 → ⊥)) × (n ≡ 5 → ⊥)) → typeNumbered 3 n ≡ refused 3
@@ -95,7 +95,6 @@ some-drop (suc n) (a ∷ l) h = some-drop n l (omega arith)
 module _ {A : Type 0} {good : Read A → Type 0} (node : A → Expr) (bytes outer : List ℕ) (last : NodeRead) (size : ℕ) (fits : Bool) (t : DataType) (end : ℕ)
     (size-is : size ≡ length bytes)
     (fine : (x : Read A) → good x → Behind bytes (last .next) (last .seen) x × (fits ≡ nodeTyped (node (x .tree))) × (t ≡ typeOf (node (x .tree))) × (false ≡ isNullLiteral (node (x .tree)))) where
-
   typed-gives : (x : Read A) → good x → size ≤ last .next → (b : Bool) → fits ≡ b
       → ReadGives outer (closeNode (node (x .tree)) (x .seen) (x .rest) (drop end outer)) (cond b (accepted t false end (last .seen)) (refusal 7 (last .seen)))
   unfolding closeNode

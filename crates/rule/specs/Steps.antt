@@ -1,10 +1,10 @@
 -- What the steps of the reading promise beside their definitions.
 use mathlib.Core.Path.{_≡_}
 use mathlib.Core.Bool.{Bool, true, false, cond, not, _&&_, _||_}
-use mathlib.Core.List.{List, [], _∷_}
+use mathlib.Core.List.{List, _∷_}
 use Prim.Native.Nat.{ℕ, _<_}
 use lib.Dec.{eqb, ltb}
-use lib.ListN.{length, drop}
+use lib.ListN.{drop}
 use Rattle.layout.specs.Result.{Result, refused, ok, _>>=_, require}
 use Rattle.layout.specs.Field.{Field}
 use Rattle.scalar.specs.declared.types.DataType.{DataType}
@@ -91,6 +91,24 @@ pub record BranchesAre (bytes : List ℕ) (when : DataType) (earlier : TypeAnswe
   pub result-is : r .result ≡ typeOr earlier (resultType (x .tree))
   pub fits-is : r .fits ≡ branchesTyped when (r .result) (x .tree)
   pub behind : Behind bytes (r .next) (r .seen) x
+
+-- a step promises this whatever columns the marks are of: one that reads a field, a part that may be absent, branches,
+abbrev pub FieldGives : List ℕ → Seen → (List Column → Result (Read Expr)) → NodeRead → Type 0
+FieldGives bytes seen definition r = (cols : List Column) → SeenIs cols seen → ReadGives bytes (definition cols) r
+
+abbrev pub OptionalGives : List ℕ → Seen → (List Column → Result (Read Optional)) → NodeRead → Type 0
+OptionalGives bytes seen definition r = (cols : List Column) → SeenIs cols seen → Gives (OptionalRead bytes r) (definition cols) (r .refused)
+
+abbrev pub BranchesGive : List ℕ → Seen → DataType → TypeAnswer → (List Column → Result (Read Branches)) → BranchesRead → Type 0
+BranchesGive bytes seen when earlier definition r = (cols : List Column) → SeenIs cols seen → Gives (BranchesAre bytes when earlier r) (definition cols) (r .refused)
+
+-- or the content of a field, which ends at a place of whatever its parent's bytes are
+abbrev pub NodeGives : ℕ → Seen → (List Column → List ℕ → Result (Read Expr)) → NodeRead → Type 0
+NodeGives end seen definition r = (cols : List Column) (outer : List ℕ) → SeenIs cols seen → ReadGives outer (definition cols (drop end outer)) r
+
+-- and a branch behind a WHEN that was read
+abbrev pub BranchGives : List ℕ → NodeRead → DataType → TypeAnswer → (Read Expr → Result (Read Branches)) → BranchesRead → Type 0
+BranchGives bytes w when earlier definition r = (x : Read Expr) → FieldRead bytes w x → Gives (BranchesAre bytes when earlier r) (definition x) (r .refused)
 
 -- a column behind its type: nullable, and that it is like the earlier ones
 unfoldable pub meetColumn : ℕ → DataType → ℕ → List Column → List ℕ → Result (Read Expr)

@@ -4,7 +4,6 @@ use crate::read::read_rule;
 use crate::strategy::Strategy;
 use crate::strategy::strategy_of;
 use scalar::types::DataType;
-
 ghost use mathlib.Core.Path.{_≡_};
 ghost use Rattle.rule.specs.Reading.{readRule};
 ghost use Rattle.rule.specs.Answers.{ruleAnswer, strategyAnswer, projectionAnswer};

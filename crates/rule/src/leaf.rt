@@ -8,18 +8,13 @@ use crate::types::type_number;
 use crate::types::type_numbered;
 use layout::number::byte_at;
 use scalar::types::DataType;
-
-ghost use mathlib.Core.List.{List};
-ghost use Prim.Native.Nat.{ℕ};
 ghost use lib.ListN.{drop};
-ghost use Rattle.rule.specs.Tree.{Column};
 ghost use Rattle.rule.specs.Reading.{readColumn, readLiteral};
-ghost use Rattle.rule.specs.Seen.{SeenIs};
-ghost use Rattle.rule.specs.Steps.{ReadGives, meetColumn, valueOf, ValueGives};
+ghost use Rattle.rule.specs.Steps.{NodeGives, meetColumn, valueOf, ValueGives};
 
 // A column behind its type: nullable, and that it is like the earlier ones of its index.
 pub(crate) fn meet_column(index: u8, result: DataType, mark: u8, end: usize, seen: Seen) -> NodeRead
-    ensures { λ r. ⌜ ((cols : List Column) (outer : List ℕ) → SeenIs cols seen → ReadGives outer (meetColumn index result mark cols (drop end outer)) r) ⌝ }
+    ensures { λ r. ⌜ NodeGives end seen (meetColumn index result mark) r ⌝ }
 {
     if 1 < mark {
         return refuse(3, seen);
@@ -39,7 +34,7 @@ pub(crate) fn meet_column(index: u8, result: DataType, mark: u8, end: usize, see
 
 // A column: index, type, nullable, a byte each.
 pub(crate) fn read_column(content: &[u8], end: usize, seen: Seen) -> NodeRead
-    ensures { λ r. ⌜ ((cols : List Column) (outer : List ℕ) → SeenIs cols seen → ReadGives outer (readColumn (record { tag = 16; content = now (content .entry); rest = drop end outer }) cols) r) ⌝ }
+    ensures { λ r. ⌜ NodeGives end seen (λ cols rest. readColumn (record { tag = 16; content = now (content .entry); rest = rest }) cols) r ⌝ }
 {
     if content.len() != 3 {
         return refuse(3, seen);
@@ -77,7 +72,7 @@ pub(crate) fn value_fits(result: DataType, mark: u8, content: &[u8]) -> bool
 
 // A literal: type, null mark, value.
 pub(crate) fn read_literal(content: &[u8], end: usize, seen: Seen) -> NodeRead
-    ensures { λ r. ⌜ ((cols : List Column) (outer : List ℕ) → SeenIs cols seen → ReadGives outer (readLiteral (record { tag = 17; content = now (content .entry); rest = drop end outer }) cols) r) ⌝ }
+    ensures { λ r. ⌜ NodeGives end seen (λ cols rest. readLiteral (record { tag = 17; content = now (content .entry); rest = rest }) cols) r ⌝ }
 {
     if content.len() < 2 {
         return refuse(3, seen);

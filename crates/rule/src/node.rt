@@ -6,7 +6,6 @@ use crate::types::is_number;
 use crate::types::same_type;
 use crate::types::type_or;
 use scalar::types::DataType;
-
 ghost use mathlib.Core.Path.{_≡_};
 ghost use mathlib.Core.Bool.{_&&_, _||_};
 ghost use Rattle.scalar.specs.Types.{sameType};
@@ -62,7 +61,13 @@ pub(crate) fn accept(result: DataType, null: bool, next: usize, seen: Seen) -> N
 }
 
 // A node behind its last child, of so many bytes of content: bytes left over, then types that don't fit.
-pub(crate) fn close(last: NodeRead, size: usize, fits: bool, result: DataType, end: usize) -> NodeRead
+pub(crate) fn close(
+    last: NodeRead,
+    size: usize,
+    fits: bool,
+    result: DataType,
+    end: usize,
+) -> NodeRead
     ensures { λ r. ⌜ r ≡ closed last size fits result end ⌝ }
 {
     if last.refused != 0 {
@@ -150,7 +155,12 @@ fn branch_fits(w: DataType, when: DataType, t: DataType, result: DataType, later
 }
 
 // A branch before later ones.
-pub(crate) fn add_branch(w: DataType, when: DataType, t: DataType, later: BranchesRead) -> BranchesRead
+pub(crate) fn add_branch(
+    w: DataType,
+    when: DataType,
+    t: DataType,
+    later: BranchesRead,
+) -> BranchesRead
     ensures { λ r. ⌜ r ≡ branched w when t later ⌝ }
 {
     let result = later.result;

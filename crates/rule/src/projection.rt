@@ -1,6 +1,5 @@
 // The projection: the columns that a rule names, each once, rising.
 use crate::seen::Seen;
-
 ghost use mathlib.Core.Path.{_≡_};
 ghost use mathlib.Core.List.{List};
 ghost use lib.ListN.{length};

@@ -24,18 +24,13 @@ use layout::field::Header;
 use layout::field::field_at;
 use layout::part::part_of;
 use scalar::types::DataType;
-
-ghost use mathlib.Core.List.{List};
-ghost use Prim.Native.Nat.{ℕ};
 ghost use lib.ListN.{drop};
-ghost use Rattle.rule.specs.Tree.{Column, Expr};
-ghost use Rattle.rule.specs.Reading.{Read, readUnary, readCast, readBinary, readLimitedCase, readParts, readOptional, readBranches, readField, readRoot, readTree, readRule};
-ghost use Rattle.rule.specs.Seen.{SeenIs};
-ghost use Rattle.rule.specs.Steps.{Gives, FieldRead, ReadGives, RuleRead, OptionalRead, BranchesAre, readThen, unaryOf, castOf, binaryOf, readTagged};
+ghost use Rattle.rule.specs.Reading.{readUnary, readCast, readBinary, readLimitedCase, readParts, readOptional, readBranches, readField, readRoot, readTree, readRule};
+ghost use Rattle.rule.specs.Steps.{Gives, ReadGives, RuleRead, FieldGives, OptionalGives, BranchesGive, NodeGives, BranchGives, readThen, unaryOf, castOf, binaryOf, readTagged};
 
 // The field at a place of a slice; so much depth and so many CASEs are left on the path.
 fn read_field(s: &[u8], at: usize, depth: usize, cases: usize, seen: Seen) -> NodeRead
-    ensures { λ r. ⌜ ((cols : List Column) → SeenIs cols seen → ReadGives (now (s .entry)) (readField depth cases (drop at (now (s .entry))) cols) r) ⌝ }
+    ensures { λ r. ⌜ FieldGives (now (s .entry)) seen (readField depth cases (drop at (now (s .entry)))) r ⌝ }
 {
     match field_at(s, at) {
         Header::Found(f) => {
@@ -57,8 +52,15 @@ fn read_field(s: &[u8], at: usize, depth: usize, cases: usize, seen: Seen) -> No
 }
 
 // A field of a tag from 16 to 25 by its content; it ends at a place of its parent.
-fn read_kind(content: &[u8], tag: u8, end: usize, depth: usize, cases: usize, seen: Seen) -> NodeRead
-    ensures { λ r. ⌜ ((cols : List Column) (outer : List ℕ) → SeenIs cols seen → ReadGives outer (readTagged (readField depth) cases (record { tag = tag; content = now (content .entry); rest = drop end outer }) cols) r) ⌝ }
+fn read_kind(
+    content: &[u8],
+    tag: u8,
+    end: usize,
+    depth: usize,
+    cases: usize,
+    seen: Seen,
+) -> NodeRead
+    ensures { λ r. ⌜ NodeGives end seen (λ cols rest. readTagged (readField depth) cases (record { tag = tag; content = now (content .entry); rest = rest }) cols) r ⌝ }
 {
     if tag == 16 {
         return read_column(content, end, seen);
@@ -79,17 +81,37 @@ fn read_kind(content: &[u8], tag: u8, end: usize, depth: usize, cases: usize, se
 }
 
 // NOT, negative or IS NOT NULL: one child.
-fn read_unary(content: &[u8], tag: u8, end: usize, depth: usize, cases: usize, seen: Seen) -> NodeRead
-    ensures { λ r. ⌜ ((cols : List Column) (outer : List ℕ) → SeenIs cols seen → ReadGives outer (readUnary (unaryOf tag) (readField depth cases) (now (content .entry)) cols (drop end outer)) r) ⌝ }
+fn read_unary(
+    content: &[u8],
+    tag: u8,
+    end: usize,
+    depth: usize,
+    cases: usize,
+    seen: Seen,
+) -> NodeRead
+    ensures { λ r. ⌜ NodeGives end seen (readUnary (unaryOf tag) (readField depth cases) (now (content .entry))) r ⌝ }
 {
     let a = read_field(content, 0, depth, cases, seen);
     let t = a.result;
-    close(a, content.len(), unary_fits(tag, t), unary_type(tag, t), end)
+    close(
+        a,
+        content.len(),
+        unary_fits(tag, t),
+        unary_type(tag, t),
+        end,
+    )
 }
 
 // Cast or try-cast: target type byte, one child.
-fn read_cast(content: &[u8], tag: u8, end: usize, depth: usize, cases: usize, seen: Seen) -> NodeRead
-    ensures { λ r. ⌜ ((cols : List Column) (outer : List ℕ) → SeenIs cols seen → ReadGives outer (readCast (castOf tag) (readField depth cases) (now (content .entry)) cols (drop end outer)) r) ⌝ }
+fn read_cast(
+    content: &[u8],
+    tag: u8,
+    end: usize,
+    depth: usize,
+    cases: usize,
+    seen: Seen,
+) -> NodeRead
+    ensures { λ r. ⌜ NodeGives end seen (readCast (castOf tag) (readField depth cases) (now (content .entry))) r ⌝ }
 {
     if content.len() == 0 {
         return refuse(3, seen);
@@ -105,8 +127,15 @@ fn read_cast(content: &[u8], tag: u8, end: usize, depth: usize, cases: usize, se
 }
 
 // Equal or less: two children.
-fn read_binary(content: &[u8], tag: u8, end: usize, depth: usize, cases: usize, seen: Seen) -> NodeRead
-    ensures { λ r. ⌜ ((cols : List Column) (outer : List ℕ) → SeenIs cols seen → ReadGives outer (readBinary (binaryOf tag) (readField depth cases) (now (content .entry)) cols (drop end outer)) r) ⌝ }
+fn read_binary(
+    content: &[u8],
+    tag: u8,
+    end: usize,
+    depth: usize,
+    cases: usize,
+    seen: Seen,
+) -> NodeRead
+    ensures { λ r. ⌜ NodeGives end seen (readBinary (binaryOf tag) (readField depth cases) (now (content .entry))) r ⌝ }
 {
     let a = read_field(content, 0, depth, cases, seen);
     if a.refused != 0 {
@@ -116,12 +145,18 @@ fn read_binary(content: &[u8], tag: u8, end: usize, depth: usize, cases: usize, 
     let b = read_field(content, a.next, depth, cases, met);
     let first = a.result;
     let second = b.result;
-    close(b, content.len(), same_type(first, second), DataType::Boolean, end)
+    close(
+        b,
+        content.len(),
+        same_type(first, second),
+        DataType::Boolean,
+        end,
+    )
 }
 
 // CASE: flags and branch count, then its parts.
 fn read_case(content: &[u8], end: usize, depth: usize, cases: usize, seen: Seen) -> NodeRead
-    ensures { λ r. ⌜ ((cols : List Column) (outer : List ℕ) → SeenIs cols seen → ReadGives outer (readLimitedCase (readField depth) cases (now (content .entry)) cols (drop end outer)) r) ⌝ }
+    ensures { λ r. ⌜ NodeGives end seen (readLimitedCase (readField depth) cases (now (content .entry))) r ⌝ }
 {
     if cases == 0 {
         return refuse(4, seen);
@@ -144,8 +179,16 @@ fn read_case(content: &[u8], end: usize, depth: usize, cases: usize, seen: Seen)
 }
 
 // The parts of a CASE: base, WHEN and THEN in turn, ELSE.
-fn read_parts(content: &[u8], flags: u8, count: u8, end: usize, depth: usize, cases: usize, seen: Seen) -> NodeRead
-    ensures { λ r. ⌜ ((cols : List Column) (outer : List ℕ) → SeenIs cols seen → ReadGives outer (readParts (readField depth cases) flags count (drop 2 (now (content .entry))) cols (drop end outer)) r) ⌝ }
+fn read_parts(
+    content: &[u8],
+    flags: u8,
+    count: u8,
+    end: usize,
+    depth: usize,
+    cases: usize,
+    seen: Seen,
+) -> NodeRead
+    ensures { λ r. ⌜ NodeGives end seen (readParts (readField depth cases) flags count (drop 2 (now (content .entry)))) r ⌝ }
 {
     let b = read_optional(content, 2, flags % 2 == 1, depth, cases, seen);
     if b.refused != 0 {
@@ -153,7 +196,16 @@ fn read_parts(content: &[u8], flags: u8, count: u8, end: usize, depth: usize, ca
     }
     let when = b.result;
     let before = b.seen;
-    let bs = read_branches(content, b.next, count, when, TypeAnswer::Unknown, depth, cases, before);
+    let bs = read_branches(
+        content,
+        b.next,
+        count,
+        when,
+        TypeAnswer::Unknown,
+        depth,
+        cases,
+        before,
+    );
     let met = bs.seen;
     if bs.refused != 0 {
         return refuse(bs.refused, met);
@@ -161,12 +213,25 @@ fn read_parts(content: &[u8], flags: u8, count: u8, end: usize, depth: usize, ca
     let e = read_optional(content, bs.next, 2 <= flags, depth, cases, met);
     let from = e.result;
     let result = bs.result;
-    close(e, content.len(), case_fits(bs.fits, e.null, from, result), result, end)
+    close(
+        e,
+        content.len(),
+        case_fits(bs.fits, e.null, from, result),
+        result,
+        end,
+    )
 }
 
 // A part that may be absent: absent, it is as a null literal of type Boolean.
-fn read_optional(s: &[u8], at: usize, there: bool, depth: usize, cases: usize, seen: Seen) -> NodeRead
-    ensures { λ r. ⌜ ((cols : List Column) → SeenIs cols seen → Gives (OptionalRead (now (s .entry)) r) (readOptional there (readField depth cases) (drop at (now (s .entry))) cols) (r .refused)) ⌝ }
+fn read_optional(
+    s: &[u8],
+    at: usize,
+    there: bool,
+    depth: usize,
+    cases: usize,
+    seen: Seen,
+) -> NodeRead
+    ensures { λ r. ⌜ OptionalGives (now (s .entry)) seen (readOptional there (readField depth cases) (drop at (now (s .entry)))) r ⌝ }
 {
     if there {
         return read_field(s, at, depth, cases, seen);
@@ -175,8 +240,17 @@ fn read_optional(s: &[u8], at: usize, there: bool, depth: usize, cases: usize, s
 }
 
 // So many branches; the type of a THEN may be known from earlier ones.
-fn read_branches(s: &[u8], at: usize, count: u8, when: DataType, earlier: TypeAnswer, depth: usize, cases: usize, seen: Seen) -> BranchesRead
-    ensures { λ r. ⌜ ((cols : List Column) → SeenIs cols seen → Gives (BranchesAre (now (s .entry)) when earlier r) (readBranches (readField depth cases) count (drop at (now (s .entry))) cols) (r .refused)) ⌝ }
+fn read_branches(
+    s: &[u8],
+    at: usize,
+    count: u8,
+    when: DataType,
+    earlier: TypeAnswer,
+    depth: usize,
+    cases: usize,
+    seen: Seen,
+) -> BranchesRead
+    ensures { λ r. ⌜ BranchesGive (now (s .entry)) seen when earlier (readBranches (readField depth cases) count (drop at (now (s .entry)))) r ⌝ }
 {
     if count == 0 {
         return no_branches(earlier, at, seen);
@@ -189,8 +263,16 @@ fn read_branches(s: &[u8], at: usize, count: u8, when: DataType, earlier: TypeAn
 }
 
 // A branch behind its WHEN, and so many later ones.
-fn read_then(s: &[u8], w: NodeRead, count: u8, when: DataType, earlier: TypeAnswer, depth: usize, cases: usize) -> BranchesRead
-    ensures { λ r. ⌜ ((x : Read Expr) → FieldRead (now (s .entry)) w x → Gives (BranchesAre (now (s .entry)) when earlier r) (readThen (readField depth cases) (x .tree) count (x .rest) (x .seen)) (r .refused)) ⌝ }
+fn read_then(
+    s: &[u8],
+    w: NodeRead,
+    count: u8,
+    when: DataType,
+    earlier: TypeAnswer,
+    depth: usize,
+    cases: usize,
+) -> BranchesRead
+    ensures { λ r. ⌜ BranchGives (now (s .entry)) w when earlier (λ x. readThen (readField depth cases) (x .tree) count (x .rest) (x .seen)) r ⌝ }
 {
     let before = w.seen;
     let t = read_field(s, w.next, depth, cases, before);
@@ -200,7 +282,16 @@ fn read_then(s: &[u8], w: NodeRead, count: u8, when: DataType, earlier: TypeAnsw
     }
     let own = t.result;
     let result = type_or(earlier, own);
-    let later = read_branches(s, t.next, count, when, TypeAnswer::Known(result), depth, cases, met);
+    let later = read_branches(
+        s,
+        t.next,
+        count,
+        when,
+        TypeAnswer::Known(result),
+        depth,
+        cases,
+        met,
+    );
     let tested = w.result;
     add_branch(tested, when, own, later)
 }

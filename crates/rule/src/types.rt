@@ -1,6 +1,5 @@
 // Types by their numbers, and which types fit.
 use scalar::types::DataType;
-
 ghost use mathlib.Core.Path.{_≡_};
 ghost use Rattle.scalar.specs.Types.{typeNumber, sameType, typeNumbered};
 ghost use Rattle.scalar.specs.Cast.{whole, listed};

@@ -1,11 +1,8 @@
+-- `is_listed` goes by the type that is cast from.
 use mathlib.Core.Path.{sym, _∙_}
 use borrow.Author.Needs.{needs}
 use Rattle.rule.proofs.types.is_listed.Statement.{statement}
 use Rattle.rule.proofs.types.is_listed.Tie as tie
-use Rattle.rule.proofs.types.is_listed.Reads as reads
-use Rattle.rule.proofs.types.is_listed.Lts as lts
-use Rattle.rule.proofs.types.is_whole.Reads as is-whole-reads
-use Rattle.rule.proofs.types.same_type.Reads as same-type-reads
 
 pub is-listed-spec : {M : Type 1} → statement M
 is-listed-spec =
