@@ -13,4 +13,5 @@ pub mod ConstantNode
 pub mod ConstantCase
 pub mod FailsLaws
 pub mod StrategyLaws
+pub mod NullableLaws
 pub mod ReadNode

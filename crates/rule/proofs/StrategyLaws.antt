@@ -76,7 +76,7 @@ null-literal e = go (tagged-by e (nodeTag e) refl)
 pub null-other : {rule : List ℕ} {at : ℕ} → (byte rule at ≡ 17 → ⊥) → NullLiteralGives rule at false
 null-other is = record { is = λ end e depth n. sym (null-literal e (no-literal n refl is)) }
 
-marked : (m : Bool) → eqb (markNumber m) 1 ≡ m
+pub marked : (m : Bool) → eqb (markNumber m) 1 ≡ m
 marked true = refl
 marked false = refl
 

@@ -1,6 +1,6 @@
 -- Walks over the bytes of an accepted rule: trees that stand one behind the other at a place, and what a node's bytes are before its children.
 use mathlib.Core.Path.{_≡_}
-use mathlib.Core.Bool.{Bool, true, false, not, _&&_}
+use mathlib.Core.Bool.{Bool, true, false, not, _&&_, _||_}
 use mathlib.Core.List.{List, [], _∷_, _++_}
 use Prim.Native.Nat.{ℕ, _+_, _-_, _<_, _≤_, max}
 use lib.ListN.{length}
@@ -22,7 +22,7 @@ use Rattle.rule.specs.WellFormed.{wellFormed}
 use Rattle.rule.specs.Typing.{typeOf}
 use Rattle.rule.specs.Row.{Test, equalsTest, withBase, eval, evalBranches, evalElse}
 use Rattle.rule.specs.Constant.{columnsOf, isEmpty, unread, failsAlone, constantFails}
-use Rattle.rule.specs.Nullable.{replaced, replacedBranches, replacedOptional, mayPass}
+use Rattle.rule.specs.Nullable.{replaced, replacedBranches, replacedOptional, mayPass, stripped, reachable, nullable, nullableThen, nullableElse}
 use Rattle.rule.specs.declared.strategy.Strategy.{Strategy}
 use Rattle.rule.specs.Strategy.{isLiteral, dropNull, someWhenValue, elseServes, tableServes, singleBranch, strategy}
 use Rattle.rule.specs.Node.{NodeAt, depthOf}
@@ -274,3 +274,40 @@ pub record SingleGives (rule : List ℕ) (at end : ℕ) (r : Strategy) : Type 0 
 -- and of the rule
 pub record StrategyGives (rule : List ℕ) (r : Strategy) : Type 0 where
   pub is : (e : Expr) → NodeAt rule 0 (length rule) e 8 → r ≡ strategy e
+
+-- where whatever node stands at a place stands, stripped,
+pub record StrippedGives (rule : List ℕ) (at r : ℕ) : Type 0 where
+  pub stand : (end : ℕ) (e : Expr) (depth : ℕ) → NodeAt rule at end e depth → NodeAt rule r end (stripped e) depth
+
+-- whether a WHEN before a THEN is reachable,
+pub record ReachableGives (rule : List ℕ) (when then end : ℕ) (r : Bool) : Type 0 where
+  pub is : (w t : Expr) → NodeAt rule when then w 8 → NodeAt rule then end t 8 → r ≡ reachable w t
+
+-- whether whatever node stands at a place is nullable,
+pub record NullableGives (rule : List ℕ) (start end depth : ℕ) (r : Bool) : Type 0 where
+  pub is : (e : Expr) → depth ≤ 8 → NodeAt rule start end e depth → r ≡ nullable e
+
+-- whether one of several is,
+abbrev pub anyNullable : List Expr → Bool
+anyNullable [] = false
+anyNullable (e ∷ es) = nullable e || anyNullable es
+
+pub record AnyGives (rule : List ℕ) (start end depth : ℕ) (r : Bool) : Type 0 where
+  pub is : (es : List Expr) → depth ≤ 8 → TreesAt rule start end es depth → r ≡ anyNullable es
+
+-- whether a CASE is,
+pub record CaseNullableGives (rule : List ℕ) (start end depth : ℕ) (r : Bool) : Type 0 where
+  pub is : (b : Optional) (bs : Branches) (els : Optional) → depth ≤ 8 → NodeAt rule start end (caseWhen b bs els) (depth + 1) → r ≡ nullable (caseWhen b bs els)
+
+-- by its branches and what is behind them,
+pub record BranchesNullableGives (rule : List ℕ) (at end count : ℕ) (base : Bool) (depth : ℕ) (r : Bool) : Type 0 where
+  pub is : (bs : Branches) (els : Optional) → depth ≤ 8 → branchCount bs ≡ count → TreesAt rule at end (branchTrees bs ++ optionalTrees els) depth
+      → r ≡ (nullableThen bs base || nullableElse els)
+
+-- by a branch alone,
+pub record BranchNullableGives (rule : List ℕ) (when then end : ℕ) (base : Bool) (depth : ℕ) (r : Bool) : Type 0 where
+  pub is : (w t : Expr) → depth ≤ 8 → NodeAt rule when then w depth → NodeAt rule then end t depth → r ≡ (nullable t && (base || reachable w t))
+
+-- and whether the rule is
+pub record RuleNullableGives (rule : List ℕ) (r : Bool) : Type 0 where
+  pub is : (e : Expr) → NodeAt rule 0 (length rule) e 8 → r ≡ nullable e
