@@ -1,27 +1,26 @@
 -- Nullability out of a rule's bytes. Assumes nothing.
 use mathlib.Core.Path.{_≡_, refl, ap, ap₂, sym, subst, _∙_}
-use mathlib.Core.Bool.{Bool, true, false, not, _&&_, _||_, or-false, or-true}
+use mathlib.Core.Bool.{Bool, true, false, _&&_, _||_, or-false}
 use mathlib.Core.List.{List, [], _∷_, _++_}
-use Prim.Native.Nat.{ℕ, zero, suc, _+_, _-_, _%_, _<_, _≤_}
+use Prim.Native.Nat.{ℕ, _+_, _-_, _%_, _<_, _≤_}
 use native.Mathlib.Omega.{arith}
 use lib.Dec.{eqb}
 use lib.ListN.{length}
 use Rattle.layout.specs.Bytes.{byte, part}
 use Rattle.scalar.specs.declared.value.Value.{Value}
-use Rattle.scalar.specs.Types.{markNumber}
 use Rattle.scalar.specs.Entry.{isNull}
-use Rattle.scalar.specs.Value.{meaning}
-use Rattle.rule.specs.Tree.{Expr, negation, negative, cast, caseWhen, Branches, noMore, branch, Optional, absent, present, branchCount}
+use Rattle.rule.specs.Tree.{Expr, Branches, noMore, branch, Optional, absent, present, branchCount}
 use Rattle.rule.specs.TreeBytes.{bytesOf, isPresent}
 use Rattle.rule.specs.Row.{eval}
 use Rattle.rule.specs.Constant.{unread}
 use Rattle.rule.specs.Nullable.{stripped, replaced, mayPass, reachable, nullable, nullableThen, nullableElse}
 use Rattle.rule.specs.Node.{NodeAt}
-use Rattle.rule.specs.Walks.{branchTrees, optionalTrees, childrenOf, headBytes, anyNullable, TreesAt, EndGives, ChildrenGives, BehindGives, PassGives, ConstantGives, StrippedGives, ReachableGives, NullableGives, AnyGives, CaseNullableGives, BranchesNullableGives, BranchNullableGives, RuleNullableGives}
-use Rattle.rule.proofs.NodeLaws.{Tagged, ofColumn, ofLiteral, ofNegation, ofNegative, ofIsNotNull, ofCast, ofTryCast, ofEqual, ofLess, ofCase, node-byte, node-children, node-deep, node-deeper, trees-split, trees-one, trees-none, trees-some, trees-deeper}
-use Rattle.rule.proofs.WalkLaws.{nothing-behind, node-of-tag}
-use Rattle.rule.proofs.TypeOfLaws.{base-flag}
-use Rattle.rule.proofs.StrategyLaws.{marked}
+use Rattle.rule.specs.Walks.{branchTrees, optionalTrees, childrenOf, headBytes, TreesAt, EndGives, ChildrenGives, BehindGives}
+use Rattle.rule.specs.ConstantWalks.{PassGives, ConstantGives}
+use Rattle.rule.specs.AnswerWalks.{anyNullable, StrippedGives, ReachableGives, NullableGives, AnyGives, CaseNullableGives, BranchesNullableGives, BranchNullableGives}
+use Rattle.rule.proofs.NodeLaws.{Tagged, ofColumn, ofLiteral, ofNegation, ofNegative, ofIsNotNull, ofCast, ofTryCast, ofEqual, ofLess, ofCase, node-byte, node-children, node-deep, node-deeper, trees-one, trees-none, trees-some, trees-deeper}
+use Rattle.rule.proofs.WalkLaws.{nothing-behind, node-of-tag, first-tree, first-two, base-flag}
+use Rattle.rule.proofs.LiteralLaws.{mark-told}
 
 -- a tree that is stripped to the same stands at the place
 pub record StrippedLeft (rule : List ℕ) (start at : ℕ) : Type 0 where
@@ -104,14 +103,14 @@ module _ {rule : List ℕ} {start end depth : ℕ} where
   nullable-column {mark} is read = record { is = λ e most n. go e (node-of-tag n is) n }
     where
       go : (e : Expr) → Tagged 16 e → NodeAt rule start end e depth → eqb mark 1 ≡ nullable e
-      go e (ofColumn c) n = ap (λ (x : ℕ). eqb x 1) (read ∙ node-byte 2 (start + 5) n (omega arith) (omega arith)) ∙ marked (c .nullable)
+      go e (ofColumn c) n = ap (λ (x : ℕ). eqb x 1) (read ∙ node-byte 2 (start + 5) n (omega arith) (omega arith)) ∙ mark-told (c .nullable)
 
   pub nullable-literal : {mark : ℕ} → byte rule start ≡ 17 → mark ≡ byte rule (start + 4) → NullableGives rule start end depth (eqb mark 1)
   unfolding nullable
   nullable-literal {mark} is read = record { is = λ e most n. go e (node-of-tag n is) n }
     where
       go : (e : Expr) → Tagged 17 e → NodeAt rule start end e depth → eqb mark 1 ≡ nullable e
-      go e (ofLiteral t v) n = ap (λ (x : ℕ). eqb x 1) (read ∙ node-byte 1 (start + 4) n (omega arith) (omega arith)) ∙ marked (isNull v)
+      go e (ofLiteral t v) n = ap (λ (x : ℕ). eqb x 1) (read ∙ node-byte 1 (start + 4) n (omega arith) (omega arith)) ∙ mark-told (isNull v)
 
   pub nullable-isNotNull : byte rule start ≡ 20 → NullableGives rule start end depth false
   unfolding nullable
@@ -168,10 +167,7 @@ module _ {rule : List ℕ} {start end depth at next : ℕ} {null : Bool} (inv : 
     (given : NullableGives rule at next depth null) where
   -- the first of them
   first-is : {f : Expr} {fs : List Expr} → depth ≤ 8 → TreesAt rule at end (f ∷ fs) depth → (null ≡ nullable f) × TreesAt rule next end fs depth
-  first-is {f} {fs} most t =
-      let (m, first, later) = trees-split t in
-      let same : m ≡ next = sym (ends .ends m f depth first) in
-      (given .is f most (subst (λ (x : ℕ). NodeAt rule at x f depth) same first), subst (λ (x : ℕ). TreesAt rule x end fs depth) same later)
+  first-is {f} most t = let (first, later) = first-tree ends t in (given .is f most first, later)
 
   pub any-found : null ≡ true → AnyGives rule start end depth true
   any-found is = record { is = λ es most t. let (fs, trees, same) = inv .stand es most t in go fs most trees ∙ sym same }
@@ -221,13 +217,7 @@ module _ {rule : List ℕ} {at end count depth place left then next : ℕ} {base
     (e : EndGives rule place then) (f : EndGives rule then next) (given : BranchNullableGives rule place then next base depth null) where
   -- the first of them
   branch-is : {w t : Expr} {es : List Expr} → depth ≤ 8 → TreesAt rule place end (w ∷ t ∷ es) depth → (null ≡ (nullable t && (base || reachable w t))) × TreesAt rule next end es depth
-  branch-is {w} {t} {es} most trees =
-      let (m, first, rest) = trees-split trees in
-      let same : m ≡ then = sym (e .ends m w depth first) in
-      let (k, second, later) = trees-split (subst (λ (z : ℕ). TreesAt rule z end (t ∷ es) depth) same rest) in
-      let again : k ≡ next = sym (f .ends k t depth second) in
-      (given .is w t most (subst (λ (z : ℕ). NodeAt rule place z w depth) same first) (subst (λ (z : ℕ). NodeAt rule then z t depth) again second),
-       subst (λ (z : ℕ). TreesAt rule z end es depth) again later)
+  branch-is {w} {t} most trees = let (first, second, later) = first-two e f trees in (given .is w t most first second, later)
 
   pub thens-found : null ≡ true → BranchesNullableGives rule at end count base depth true
   unfolding nullable branchCount

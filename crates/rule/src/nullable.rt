@@ -6,8 +6,7 @@ use crate::walk::children_at;
 use crate::walk::field_end;
 use layout::number::byte_at;
 use layout::part::part_of;
-
-ghost use Rattle.rule.specs.Walks.{StrippedGives, ReachableGives, NullableGives, AnyGives, CaseNullableGives, BranchesNullableGives, BranchNullableGives, RuleNullableGives};
+ghost use Rattle.rule.specs.AnswerWalks.{StrippedGives, ReachableGives, NullableGives, AnyGives, CaseNullableGives, BranchesNullableGives, BranchNullableGives, RuleNullableGives};
 
 // Where a node stands without the NOT, negative and cast above it.
 fn stripped_at(rule: &[u8], start: usize) -> usize
@@ -145,7 +144,7 @@ fn nullable_branch(
 }
 
 // Whether the answer of a rule is marked nullable.
-pub fn nullable_of(rule: &[u8]) -> bool
+pub(crate) fn nullable_of(rule: &[u8]) -> bool
     ensures { λ r. ⌜ RuleNullableGives (now (rule .entry)) r ⌝ }
 {
     nullable_node(rule, 0, rule.len(), 8)
