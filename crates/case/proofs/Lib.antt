@@ -1,6 +1,7 @@
 -- The laws and theorems of `case`.
 pub mod CasesHold
 pub mod RunLaws
+pub mod BuilderLaws
 pub mod AnswerLaws
 pub mod RowsTyped
 pub mod DemandsHold

@@ -1,6 +1,7 @@
 -- The definitions of `case`.
 pub mod Fits
 pub mod Builder
+pub mod BuilderStruct
 pub mod Answer
 pub mod Run
 pub mod Promise

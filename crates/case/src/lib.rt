@@ -1,2 +1,3 @@
 // Evaluation of a rule over a table.
 pub mod answer;
+pub mod builder;

@@ -1,6 +1,5 @@
 // A tagged field: one-byte tag, two-byte length, content.
 use crate::number::read_u16;
-
 ghost use mathlib.Core.Path.{_≡_};
 ghost use Rattle.layout.specs.Place.{headerAt};
 

@@ -1,8 +1,8 @@
 -- What a CASE is, worked out without reading a column: its base, its branches in turn, its ELSE. Assumes nothing.
 use mathlib.Core.Path.{_≡_, refl, ap, ap₂, sym, subst, _∙_}
 use mathlib.Core.Bool.{Bool, true, false, cond}
-use mathlib.Core.List.{List, [], _∷_, _++_}
-use Prim.Native.Nat.{ℕ, zero, suc, _+_, _-_, _*_, _%_, _<_, _≤_}
+use mathlib.Core.List.{List, _++_}
+use Prim.Native.Nat.{ℕ, _+_, _-_, _*_, _%_, _<_, _≤_}
 use native.Mathlib.Omega.{arith}
 use lib.Dec.{eqb}
 use lib.ListN.{length}
@@ -11,20 +11,20 @@ use Rattle.layout.specs.Bytes.{byte}
 use Rattle.scalar.specs.declared.types.DataType.{DataType}
 use Rattle.scalar.specs.declared.value.Value.{Value}
 use Rattle.scalar.specs.declared.value.Value.the-variants.{Null, Boolean, Int32, Int64, Float64, Nan, RuleText, TableText, Failed}
-use Rattle.scalar.specs.Entry.{Entry, null, boolean, int32, int64, float64, utf8, isNull, isTrue, Outcome, entry, unfit, onEntry, onEntries}
+use Rattle.scalar.specs.Entry.{Entry, null, boolean, int32, int64, float64, isNull, Outcome, entry, unfit, onEntry, onEntries}
 use Rattle.scalar.specs.Compare.{equalEntry}
 use Rattle.scalar.specs.Cast.{isUnfit}
 use Rattle.scalar.specs.TryCast.{tryCastEntry}
 use Rattle.scalar.specs.Value.{meaning, kindOf, Gives, GivesBoth}
 use Rattle.rule.specs.Tree.{Expr, caseWhen, Branches, noMore, branch, Optional, absent, present, branchCount}
-use Rattle.rule.specs.Row.{Test, equalsTest, passes, chosen, withBase, eval, evalBranches, evalElse}
+use Rattle.rule.specs.Row.{equalsTest, chosen, withBase, eval}
 use Rattle.rule.specs.Constant.{unread}
-use Rattle.rule.specs.Nullable.{replaced, replacedBranches, replacedOptional, mayPass}
+use Rattle.rule.specs.Nullable.{replaced, replacedOptional, mayPass}
 use Rattle.rule.specs.Node.{NodeAt}
-use Rattle.rule.specs.Walks.{branchTrees, optionalTrees, childrenOf, within, Means, TreesAt, EndGives, ChildrenGives, BehindGives, TypeGives, PassGives, ConstantGives, CaseGives, baseOutcome, BaseGives, elseOutcome, ElseGives, branchesOutcome, BranchesGives, WithBaseGives}
-use Rattle.rule.proofs.NodeLaws.{node-byte, node-children, node-deeper, trees-split, trees-one, trees-none, trees-some, trees-deeper, trees-before}
-use Rattle.rule.proofs.WalkLaws.{nothing-behind}
-use Rattle.rule.proofs.TypeOfLaws.{base-flag}
+use Rattle.rule.specs.Walks.{branchTrees, optionalTrees, TreesAt, EndGives, ChildrenGives, BehindGives, TypeGives}
+use Rattle.rule.specs.ConstantWalks.{Means, PassGives, ConstantGives, CaseGives, baseOutcome, BaseGives, elseOutcome, ElseGives, branchesOutcome, BranchesGives, WithBaseGives}
+use Rattle.rule.proofs.NodeLaws.{node-byte, trees-one, trees-none, trees-some, trees-deeper, trees-before}
+use Rattle.rule.proofs.WalkLaws.{nothing-behind, first-two, base-flag, branches-length}
 use Rattle.rule.proofs.ConstantLaws.{case-outcome}
 
 -- an outcome by the kind of its value
@@ -48,12 +48,6 @@ kinded Failed rule table = aFailure
 pub kind-means : (v : Value) {k : ℕ} (rule table : List ℕ) {o : Outcome} → k ≡ kindOf v → meaning rule table v ≡ o → Kinded k o
 kind-means v {k} rule table {o} is means =
     subst (λ (x : Outcome). Kinded k x) means (subst (λ (n : ℕ). Kinded n (meaning rule table v)) (sym is) (kinded v rule table))
-
--- branches have two trees each
-pub branches-length : (bs : Branches) → length (branchTrees bs) ≡ 2 * branchCount bs
-unfolding branchCount
-branches-length noMore = refl
-branches-length (branch w t bs) = let k = branches-length bs in omega arith
 
 -- a base: true where no tree stands, else the tree's
 pub base-none : {rule target : List ℕ} {at end depth : ℕ} → at ≡ end → BaseGives rule at end target depth (Boolean true)
@@ -178,21 +172,9 @@ turn : {rule target : List ℕ} {end depth left then next place : ℕ} {to : Dat
     → Turn rule end to target depth left then next place els b (branchesOutcome cs (equalsTest b) els to target)
 unfolding branchCount replaced eval
 turn noMore els b t n some e f = absurd (omega arith)
-turn {rule} {target} {end} {depth} {left} {then} {next} {place} {to} (branch w u cs) els b t n some e f =
-    let (m, first, rest) = trees-split t in
-    let same : m ≡ then = sym (e .ends m w depth first) in
-    let (k, second, later) = trees-split (subst (λ (z : ℕ). TreesAt rule z end (u ∷ (branchTrees cs ++ optionalTrees els)) depth) same rest) in
-    let again : k ≡ next = sym (f .ends k u depth second) in
-    record {
-      when-tree = w;
-      then-tree = u;
-      more = cs;
-      when-at = subst (λ (z : ℕ). NodeAt rule place z w depth) same first;
-      then-at = subst (λ (z : ℕ). NodeAt rule then z u depth) again second;
-      more-at = subst (λ (z : ℕ). TreesAt rule z end (branchTrees cs ++ optionalTrees els) depth) again later;
-      one-less = omega arith;
-      gives = refl;
-    }
+turn (branch w u cs) els b t n some e f =
+    let (first, second, later) = first-two e f t in
+    record { when-tree = w; then-tree = u; more = cs; when-at = first; then-at = second; more-at = later; one-less = omega arith; gives = refl }
 
 -- one turn of the loop over the branches: `test` is the base beside the WHEN
 module _ {rule target : List ℕ} {at end count depth : ℕ} {base : Value} {to : DataType} {place left then next : ℕ} {when test : Value}

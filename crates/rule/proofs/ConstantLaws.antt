@@ -1,31 +1,20 @@
 -- What is worked out without reading a column, with the parts that equal some bytes as null. Assumes nothing.
-use mathlib.Core.Path.{_≡_, refl, ap, ap₂, sym, subst, _∙_}
-use mathlib.Core.Bool.{Bool, true, false, cond, Bool·beq}
-use mathlib.Core.List.{List, [], _∷_, _++_}
-use Prim.Native.Nat.{ℕ, zero, suc, _+_, _-_, _<_, _≤_}
-use native.Mathlib.Omega.{arith}
-use lib.ListN.{length}
-use Rattle.layout.specs.Bytes.{byte}
+use mathlib.Core.Path.{_≡_, refl, ap, ap₂, sym, _∙_}
+use mathlib.Core.Bool.{Bool, true, false, cond}
+use mathlib.Core.List.{List, []}
+use Prim.Native.Nat.{ℕ}
 use Rattle.layout.specs.Field.{fieldBytes}
 use Rattle.scalar.specs.declared.types.DataType.{DataType}
-use Rattle.scalar.specs.declared.types.DataType.the-variants as Of
-use Rattle.scalar.specs.declared.value.Value.{Value}
-use Rattle.scalar.specs.declared.value.Value.the-variants.{Null, Boolean, Int32, Int64, Float64, Nan, RuleText, TableText, Failed}
-use Rattle.scalar.specs.Types.{typeNumber}
-use Rattle.scalar.specs.Entry.{Entry, null, boolean, int32, int64, float64, utf8, isNull, isTrue, Outcome, entry, unfit, onEntry, onEntries, ofType, outcomeOfType}
+use Rattle.scalar.specs.Entry.{Entry, null, boolean, int32, int64, float64, utf8, Outcome, entry, unfit}
 use Rattle.scalar.specs.Text.{sameBytes}
 use Rattle.scalar.specs.Pair.{pairOf}
-use Rattle.scalar.specs.Compare.{equalEntry, lessEntry}
-use Rattle.scalar.specs.Value.{meaning, kindOf, Gives, GivesBoth}
-use Rattle.scalar.proofs.TypeLaws.{equal-typed, less-typed}
-use Rattle.rule.specs.Tree.{Expr, column, literal, negation, negative, isNotNull, cast, tryCast, equal, less, caseWhen, Branches, noMore, branch, Optional, absent, present, branchCount}
+use Rattle.rule.specs.Tree.{Expr, column, literal, negation, negative, isNotNull, cast, tryCast, equal, less, caseWhen, Branches, noMore, branch, Optional, absent, present}
 use Rattle.rule.specs.TreeBytes.{bytesOf}
 use Rattle.rule.specs.Typing.{typeOf, resultType}
-use Rattle.rule.specs.Row.{Row, Test, isTrueTest, equalsTest, passes, chosen, withBase, eval, evalBase, evalBranches, evalElse}
+use Rattle.rule.specs.Row.{Row, isTrueTest, equalsTest, passes, chosen, withBase, eval, evalBase, evalBranches, evalElse}
 use Rattle.rule.specs.Constant.{unread}
-use Rattle.rule.specs.Nullable.{replacedBy, replaced, replacedBranches, replacedOptional, mayPass}
-use Rattle.rule.specs.Node.{NodeAt}
-use Rattle.rule.specs.Walks.{within, baseOutcome, Means}
+use Rattle.rule.specs.Nullable.{replacedBy, replaced, replacedBranches, replacedOptional}
+use Rattle.rule.specs.ConstantWalks.{within, baseOutcome}
 
 -- a tree is replaced whole, or within
 replaced-by : (e : Expr) (bytes : List ℕ) → replaced e bytes ≡ replacedBy bytes e (within e bytes)

@@ -1,8 +1,8 @@
 -- What a node of a rule is, worked out without reading a column, arm by arm. Assumes nothing.
 use mathlib.Core.Path.{_≡_, refl, ap, ap₂, sym, subst, _∙_}
 use mathlib.Core.Bool.{Bool, true, false}
-use mathlib.Core.List.{List, [], _∷_, _++_}
-use Prim.Native.Nat.{ℕ, zero, suc, _+_, _-_, _<_, _≤_}
+use mathlib.Core.List.{List, [], _∷_}
+use Prim.Native.Nat.{ℕ, _+_, _-_, _<_, _≤_}
 use native.Mathlib.Omega.{arith}
 use lib.ListN.{length}
 use types.Run.{OneOf, miss}
@@ -13,8 +13,7 @@ use Rattle.scalar.specs.declared.types.DataType.{DataType}
 use Rattle.scalar.specs.declared.types.DataType.the-variants as Of
 use Rattle.scalar.specs.declared.value.Value.{Value}
 use Rattle.scalar.specs.declared.value.Value.the-variants.{Null, Boolean, Int32, Int64, Float64, Nan, RuleText, TableText, Failed}
-use Rattle.scalar.specs.Types.{typeNumber}
-use Rattle.scalar.specs.Entry.{Entry, null, boolean, int32, int64, float64, utf8, Outcome, entry, unfit, onEntry, onEntries, ofType, outcomeOfType}
+use Rattle.scalar.specs.Entry.{Entry, Outcome, entry, unfit, onEntry, onEntries, ofType, outcomeOfType}
 use Rattle.scalar.specs.Text.{sameBytes}
 use Rattle.scalar.specs.Not.{notEntry}
 use Rattle.scalar.specs.Negative.{negativeEntry}
@@ -24,15 +23,16 @@ use Rattle.scalar.specs.TryCast.{tryCastEntry}
 use Rattle.scalar.specs.Compare.{equalEntry, lessEntry}
 use Rattle.scalar.specs.Value.{meaning, Gives, GivesBoth}
 use Rattle.scalar.proofs.TypeLaws.{equal-typed, less-typed}
-use Rattle.rule.specs.Tree.{Expr, column, literal, negation, negative, isNotNull, cast, tryCast, equal, less, caseWhen}
+use Rattle.rule.specs.Tree.{Expr}
 use Rattle.rule.specs.TreeBytes.{bytesOf}
 use Rattle.rule.specs.Row.{eval}
 use Rattle.rule.specs.Constant.{unread}
 use Rattle.rule.specs.Nullable.{replaced, mayPass}
 use Rattle.rule.specs.Node.{NodeAt}
-use Rattle.rule.specs.Walks.{within, childrenOf, Means, TreesAt, EndGives, ChildrenGives, LiteralGives, NumberedGives, OneGives, TwoGives, PassGives, ConstantGives, WithinGives, CaseGives}
-use Rattle.rule.proofs.NodeLaws.{Tagged, ofColumn, ofLiteral, ofNegation, ofNegative, ofIsNotNull, ofCast, ofTryCast, ofEqual, ofLess, ofCase, node-byte, node-children, node-deep, node-deeper, trees-split, trees-one, trees-deeper}
-use Rattle.rule.proofs.WalkLaws.{nothing-behind, node-of-tag}
+use Rattle.rule.specs.Walks.{childrenOf, TreesAt, EndGives, ChildrenGives, LiteralGives, NumberedGives}
+use Rattle.rule.specs.ConstantWalks.{within, Means, OneGives, TwoGives, PassGives, ConstantGives, WithinGives, CaseGives}
+use Rattle.rule.proofs.NodeLaws.{Tagged, ofColumn, ofLiteral, ofNegation, ofNegative, ofIsNotNull, ofCast, ofTryCast, ofEqual, ofLess, ofCase, node-byte, node-deep, node-deeper, trees-one, trees-deeper}
+use Rattle.rule.proofs.WalkLaws.{nothing-behind, node-of-tag, first-tree}
 use Rattle.rule.proofs.ConstantLaws.{whole-null, not-whole}
 
 -- a value that is no text means the same whatever the table
@@ -104,6 +104,7 @@ module _ {rule target : List ℕ} {start end depth : ℕ} where
     where
       through : (f : Expr) {make : Entry → Outcome} → Gives make v r → TreesAt rule at end (f ∷ []) (depth + 1 - 1) → Means rule r (onEntry make (eval (replaced f target) unread))
       through f {make} g t table = g .means rule table ∙ ap (onEntry make) (child .means f (node-deeper depth (omega arith) (trees-one t)) table)
+
       go : {k : ℕ} {e : Expr} → Tagged k e → (k ≡ 16 → ⊥) → (k ≡ 17 → ⊥) → k < 23 → OneGives k number v r → NodeAt rule start end e (depth + 1)
           → TreesAt rule at end (childrenOf e) (depth + 1 - 1) → Means rule r (eval (within e target) unread)
       go (ofColumn c) a b l g n t = absurd (a refl)
@@ -127,9 +128,9 @@ module _ {rule target : List ℕ} {start end depth : ℕ} where
     where
       two : (x y : Expr) → TreesAt rule at end (x ∷ y ∷ []) (depth + 1 - 1) → Means rule a (eval (replaced x target) unread) × Means rule b (eval (replaced y target) unread)
       two x y t =
-          let (k, one, later) = trees-split (trees-deeper depth (omega arith) t) in
-          let same : k ≡ m = sym (ends .ends k x depth one) in
-          (first .means x (subst (λ (z : ℕ). NodeAt rule at z x depth) same one), second .means y (subst (λ (z : ℕ). NodeAt rule z end y depth) same (trees-one later)))
+          let (one, later) = first-tree ends (trees-deeper depth (omega arith) t) in
+          (first .means x one, second .means y (trees-one later))
+
       go : {k : ℕ} {e : Expr} → Tagged k e → 23 ≤ k → (k ≡ 25 → ⊥) → TwoGives rule k a b r → TreesAt rule at end (childrenOf e) (depth + 1 - 1)
           → Means rule r (eval (within e target) unread)
       go (ofColumn c) l p g t = absurd (omega arith)

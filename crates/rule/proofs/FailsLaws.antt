@@ -2,26 +2,26 @@
 use mathlib.Core.Path.{_≡_, refl, ap, ap₂, sym, subst, _∙_}
 use mathlib.Core.Bool.{Bool, true, false, not, _&&_, _||_, or-assoc, or-false}
 use mathlib.Core.List.{List, [], _∷_, _++_, append-nil, append-assoc}
-use Prim.Native.Nat.{ℕ, zero, suc, _+_, _-_, _<_, _≤_}
+use Prim.Native.Nat.{ℕ, _<_, _≤_}
 use native.Mathlib.Omega.{arith}
 use lib.Dec.{eqb}
 use lib.ListN.{length}
 use borrow.Author.Tests.{not-true, not-false}
-use Rattle.layout.specs.Bytes.{byte, part}
+use Rattle.layout.specs.Bytes.{byte}
 use Rattle.scalar.specs.declared.value.Value.{Value}
-use Rattle.scalar.specs.Entry.{Outcome, entry, unfit}
 use Rattle.scalar.specs.Cast.{isUnfit}
-use Rattle.scalar.specs.Value.{meaning, kindOf}
+use Rattle.scalar.specs.Value.{kindOf}
 use Rattle.rule.specs.Tree.{Column, Expr, column, literal, negation, negative, isNotNull, cast, tryCast, equal, less, caseWhen, Branches, noMore, branch, Optional, absent, present}
 use Rattle.rule.specs.Row.{eval}
 use Rattle.rule.specs.Constant.{columnsOf, branchesColumns, optionalColumns, isEmpty, unread, failsAlone, constantFails, branchesFail, optionalFails}
 use Rattle.rule.specs.Nullable.{replaced}
 use Rattle.rule.specs.Node.{NodeAt}
-use Rattle.rule.specs.Walks.{branchTrees, optionalTrees, childrenOf, nodeTag, failsHere, TreesAt, EndGives, ChildrenGives, ConstantGives, ColumnGives, FailsHereGives, FailsGives}
-use Rattle.rule.proofs.NodeLaws.{Tagged, ofColumn, ofLiteral, ofNegation, ofNegative, ofIsNotNull, ofCast, ofTryCast, ofEqual, ofLess, ofCase, tagged-by, trees-split, trees-none, trees-some, trees-of-node, trees-into}
-use Rattle.rule.proofs.WalkLaws.{nothing-behind, node-of-tag}
+use Rattle.rule.specs.Walks.{branchTrees, optionalTrees, childrenOf, TreesAt, EndGives, ChildrenGives}
+use Rattle.rule.specs.ConstantWalks.{failsHere, ConstantGives, ColumnGives, FailsHereGives, FailsGives}
+use Rattle.rule.proofs.NodeLaws.{Tagged, ofColumn, ofLiteral, ofNegation, ofNegative, ofIsNotNull, ofCast, ofTryCast, ofEqual, ofLess, ofCase, trees-split, trees-none, trees-some, trees-of-node, trees-into}
+use Rattle.rule.proofs.WalkLaws.{node-of-tag}
 use Rattle.rule.proofs.ConstantLaws.{replaced-none}
-use Rattle.rule.proofs.ConstantCase.{Kinded, kind-means, kind-unfit}
+use Rattle.rule.proofs.ConstantCase.{kind-means, kind-unfit}
 
 -- the columns of trees one behind the other
 abbrev treesColumns : List Expr → List Column
@@ -73,6 +73,7 @@ module _ {rule : List ℕ} {start end at : ℕ} (inv : ColumnsLeft rule start en
     where
       told : (f : Expr) (fs : List Expr) → Tagged 16 f → true ≡ not (isEmpty (treesColumns (f ∷ fs)))
       told f fs (ofColumn c) = refl
+
       go : {depth : ℕ} (es : List Expr) → TreesAt rule at end es depth → true ≡ not (isEmpty (treesColumns es))
       go [] t = absurd (let k = trees-none t in omega arith)
       go (f ∷ fs) t = told f fs (node-of-tag (trees-split t .1) is)

@@ -19,5 +19,6 @@ pub mod ConstantNode
 pub mod ConstantCase
 pub mod FailsLaws
 pub mod StrategyLaws
+pub mod NullableLaws
 pub mod ReadNode
 pub mod AnswerLaws

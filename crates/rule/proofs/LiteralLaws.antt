@@ -1,14 +1,14 @@
 -- The value of a literal out of its bytes. Assumes nothing.
 use mathlib.Core.Path.{_≡_, refl, ap, sym, subst, _∙_}
 use mathlib.Core.Bool.{Bool, true, false}
-use mathlib.Core.List.{List, [], _∷_, _++_}
-use Prim.Native.Nat.{ℕ, zero, suc, _+_, _-_, _^_, _<_, _≤_}
+use mathlib.Core.List.{List}
+use Prim.Native.Nat.{ℕ, _+_, _-_, _^_, _<_}
 use native.Mathlib.Omega.{arith}
 use lib.Dec.{eqb}
-use lib.ListN.{length, take, drop}
+use lib.ListN.{take, drop}
 use lib.Seq.{take-at}
-use borrow.Author.Tests.{ltb-true, eq-eqb}
-use Rattle.layout.specs.Bytes.{Bytes, byte, number, numberAt, numberBytes}
+use borrow.Author.Tests.{ltb-true}
+use Rattle.layout.specs.Bytes.{byte, number, numberAt, numberBytes}
 use Rattle.layout.proofs.BytesLaws.{length-numberBytes, number-numberBytes}
 use Rattle.scalar.specs.declared.types.DataType.{DataType}
 use Rattle.scalar.specs.declared.types.DataType.the-variants as Of
@@ -18,10 +18,8 @@ use Rattle.scalar.specs.Types.{typeNumber, markNumber}
 use Rattle.scalar.specs.Entry.{Entry, null, boolean, int32, int64, float64, utf8, isNull, entry, ofType}
 use Rattle.scalar.specs.Value.{meaning, Storable, floatValue}
 use Rattle.scalar.proofs.FloatLaws.{float-stores, float-means}
-use Rattle.rule.specs.Tree.{literal}
 use Rattle.rule.specs.TreeBytes.{valueBytes}
 use Rattle.rule.specs.WellFormed.{wellFormed}
-use Rattle.rule.specs.Node.{NodeAt}
 use Rattle.rule.specs.Walks.{HeldAt, LiteralGives}
 use Rattle.rule.proofs.NodeLaws.{held-byte, held-behind, node-byte, literal-held}
 
@@ -60,6 +58,11 @@ not-marked : (m : Bool) → (markNumber m ≡ 1 → ⊥) → m ≡ false
 not-marked true p = absurd (p refl)
 not-marked false p = refl
 
+-- a mark is told from its number
+pub mark-told : (m : Bool) → eqb (markNumber m) 1 ≡ m
+mark-told true = refl
+mark-told false = refl
+
 -- a number that is read back
 held-number : {rule : List ℕ} {at end : ℕ} (k n : ℕ) → n < 256 ^ k → HeldAt rule at end (numberBytes k n) → numberAt k rule at ≡ n
 held-number {rule} {at} {end} k n small h =
@@ -88,11 +91,8 @@ module _ {rule : List ℕ} {start end : ℕ} where
     pub boolean-gives : {b : ℕ} → number ≡ 1 → b ≡ byte rule at → LiteralGives rule start end (Boolean (eqb b 1))
     boolean-gives {b} one is = value-gives (Boolean (eqb b 1)) marked not-null (sym one ∙ typed) place go
       where
-        told : (m : Bool) → b ≡ markNumber m → eqb b 1 ≡ m
-        told true p = rw p
-        told false p = rw p
         go : (v : Entry) → Valued 1 v → HeldAt rule at end (valueBytes v) → ((table : List ℕ) → meaning rule table (Boolean (eqb b 1)) ≡ entry v) × Storable (Boolean (eqb b 1))
-        go v (aBoolean m) h = (λ table. ap (λ (x : Bool). entry (boolean x)) (told m (is ∙ held-byte 0 at h (omega arith) (omega arith))), tt)
+        go v (aBoolean m) h = (λ table. ap (λ (x : Bool). entry (boolean x)) (ap (λ (x : ℕ). eqb x 1) (is ∙ held-byte 0 at h (omega arith) (omega arith)) ∙ mark-told m), tt)
 
     pub int32-gives : {r : ℕ} → number ≡ 2 → r ≡ numberAt 4 rule at → LiteralGives rule start end (Int32 r)
     int32-gives {r} one is = value-gives (Int32 r) marked not-null (sym one ∙ typed) place go

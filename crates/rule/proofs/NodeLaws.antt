@@ -1,18 +1,17 @@
 -- What stands where in a node of an accepted rule. Assumes nothing.
 use mathlib.Core.Path.{_≡_, refl, ap, ap₂, sym, subst, _∙_}
-use mathlib.Core.Bool.{Bool, true, false, _&&_}
+use mathlib.Core.Bool.{Bool, true, _&&_}
 use mathlib.Core.List.{List, [], _∷_, _++_, append-nil, append-assoc}
-use Prim.Native.Nat.{ℕ, zero, suc, _+_, _-_, _<_, _≤_, max}
+use Prim.Native.Nat.{ℕ, suc, _+_, _-_, _<_, _≤_, max}
 use native.Mathlib.Omega.{arith}
 use lib.Dec.{leb, ltb}
-use lib.ListN.{length, getD, take, drop, length-append, length-take, length-drop, take-append-drop, List·getD-append}
+use lib.ListN.{length, take, drop, length-append, length-drop, take-append-drop, List·getD-append}
 use lib.Seq.{length-take-le, drop-drop, take-at, drop-at, getD-drop}
 use borrow.Author.Tests.{ltb-true, leb-true}
 use Rattle.layout.specs.declared.field.FieldPlace.{FieldPlace}
 use Rattle.layout.specs.declared.field.Header.the-variants.{Found, Cut}
-use Rattle.layout.specs.Result.{Result, ok}
 use Rattle.layout.specs.Bytes.{Bytes, byte, part, numberBytes}
-use Rattle.layout.specs.Field.{Field, header, fieldBytes}
+use Rattle.layout.specs.Field.{header, fieldBytes}
 use Rattle.layout.specs.Place.{headerOf, headerAt}
 use Rattle.layout.proofs.TestLaws.{both-hold}
 use Rattle.layout.proofs.FieldLaws.{header-field}
@@ -78,7 +77,7 @@ held-before {rule} {bytes} rest {start} {end} b few size inside p =
     record { all-bytes = b; few = few; ordered = omega arith; inside = inside; is = ap (take (end - start)) p ∙ take-at bytes rest (end - start) n }
 
 -- of two parts, the one behind the other
-pub held-split : {rule : List ℕ} (a b : List ℕ) {start end : ℕ} (m : ℕ) → m ≡ start + length a → HeldAt rule start end (a ++ b)
+held-split : {rule : List ℕ} (a b : List ℕ) {start end : ℕ} (m : ℕ) → m ≡ start + length a → HeldAt rule start end (a ++ b)
     → HeldAt rule start m a × HeldAt rule m end b
 held-split {rule} a b {start} {end} m e h =
     let size = held-size h in
@@ -316,28 +315,6 @@ node-end {start = start} {e = e} n leaf =
     let none : length (treesBytes (childrenOf e)) ≡ 0 = ap (λ (es : List Expr). length (treesBytes es)) leaf in
     omega arith
 
--- the field at the start of several trees is the first of them, and behind it stand the others
-pub record FirstAt (rule : List ℕ) (start end : ℕ) (e : Expr) (es : List Expr) (depth : ℕ) (p : FieldPlace) : Type 0 where
-  pub tag-is : p .tag ≡ nodeTag e
-  pub start-is : p .start ≡ start + 3
-  pub first : NodeAt rule start (p .end) e depth
-  pub later : TreesAt rule (p .end) end es depth
-
-pub trees-first : {rule : List ℕ} {start end depth : ℕ} {e : Expr} {es : List Expr} {p : FieldPlace} → TreesAt rule start end (e ∷ es) depth
-    → headerAt rule start ≡ Found p → FirstAt rule start end e es depth p
-trees-first {rule} {start} {end} {depth} {e} {es} {p} t h =
-    let (m, first, later) = trees-split t in
-    let (tag-is, start-is, end-is) = node-found first h in
-    record {
-      tag-is = tag-is;
-      start-is = start-is;
-      first = subst (λ (n : ℕ). NodeAt rule start n e depth) (sym end-is) first;
-      later = subst (λ (n : ℕ). TreesAt rule n end es depth) (sym end-is) later;
-    }
-
-pub trees-not-cut : {rule : List ℕ} {start end depth : ℕ} {e : Expr} {es : List Expr} → TreesAt rule start end (e ∷ es) depth → headerAt rule start ≡ Cut → ⊥
-trees-not-cut t h = node-not-cut (trees-split t .1) h
-
 -- no tree takes no room, and some take some
 pub trees-none : {rule : List ℕ} {start end depth : ℕ} → TreesAt rule start end [] depth → start ≡ end
 unfolding treesBytes
@@ -415,7 +392,7 @@ trees-join {rule} {start} {m} {end} {depth} es fs a b =
     let sum = length-append (treesBytes es) (treesBytes fs) in
     let bytes = trees-append es fs in
     let behind : drop start rule ≡ (treesBytes es ++ treesBytes fs) ++ drop end rule =
-        held-behind (a .held) ∙ ap (λ (l : List ℕ). treesBytes es ++ l) (held-behind (b .held)) ∙ sym (append-assoc (treesBytes es) (treesBytes fs) (drop end rule)) in
+    held-behind (a .held) ∙ ap (λ (l : List ℕ). treesBytes es ++ l) (held-behind (b .held)) ∙ sym (append-assoc (treesBytes es) (treesBytes fs) (drop end rule)) in
     record {
       held = subst (λ (l : List ℕ). HeldAt rule start end l) (sym bytes) (held-before (drop end rule) (a .held .all-bytes) (a .held .few) (omega arith) (b .held .inside) behind);
       deep = omega (arith, depth-append es fs, a .deep, b .deep);

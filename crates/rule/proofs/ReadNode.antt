@@ -1,5 +1,5 @@
 -- A rule that is read is a node of its tree. Assumes nothing.
-use mathlib.Core.Path.{_≡_, refl, ap, sym, subst, _∙_}
+use mathlib.Core.Path.{_≡_, refl, sym, subst, _∙_}
 use mathlib.Core.Bool.{Bool, true, false, not}
 use mathlib.Core.List.{List, []}
 use Prim.Native.Nat.{ℕ, zero, suc, _-_, _≤_, max}
@@ -86,7 +86,7 @@ kind-shallow d child ih cases aCase f seen r p =
     case-shallow d (child n) (ih n) (f .content) seen (f .rest) r got
 
 -- a field nests at most as deep as it may
-pub field-shallow : (depth cases : ℕ) → Shallow depthOf depth (readField depth cases)
+field-shallow : (depth cases : ℕ) → Shallow depthOf depth (readField depth cases)
 field-shallow zero cases bytes seen r p = let (d, f, k, deep, head, tag, got) = field-inv zero cases bytes seen r p in absurd (omega arith)
 field-shallow (suc depth) cases bytes seen r p =
     let (d, f, k, deep, head, tag, got) = field-inv (suc depth) cases bytes seen r p in

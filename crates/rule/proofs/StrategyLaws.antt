@@ -1,28 +1,28 @@
 -- The strategy of a CASE out of its bytes. Assumes nothing.
-use mathlib.Core.Path.{_≡_, refl, ap, ap₂, sym, subst, _∙_}
-use mathlib.Core.Bool.{Bool, true, false, cond, not, _&&_, _||_, and-assoc, and-true}
+use mathlib.Core.Path.{_≡_, refl, ap, ap₂, sym, _∙_}
+use mathlib.Core.Bool.{Bool, true, false, cond, not, _&&_, _||_, and-assoc}
 use mathlib.Core.List.{List, [], _∷_, _++_}
-use Prim.Native.Nat.{ℕ, zero, suc, _+_, _-_, _*_, _%_, _<_, _≤_}
+use Prim.Native.Nat.{ℕ, _+_, _-_, _*_, _%_, _<_, _≤_}
 use native.Mathlib.Omega.{arith}
 use lib.Dec.{eqb, ltb}
 use lib.ListN.{length}
 use borrow.Author.Tests.{eq-eqb, ne-eqb, le-ltb, lt-ltb}
 use Rattle.layout.specs.Bytes.{byte}
 use Rattle.scalar.specs.declared.types.DataType.{DataType}
-use Rattle.scalar.specs.Types.{typeNumber, markNumber, sameType}
-use Rattle.scalar.specs.Entry.{Entry, isNull}
+use Rattle.scalar.specs.Types.{typeNumber, sameType}
+use Rattle.scalar.specs.Entry.{isNull}
 use Rattle.rule.specs.declared.strategy.Strategy.{Strategy}
 use Rattle.rule.specs.declared.strategy.Strategy.the-variants.{NoExpression, WithExpression, InfallibleExprOrNull, ScalarOrScalar, ExpressionOrExpression, WithExprScalarLookupTable}
-use Rattle.rule.specs.Tree.{Expr, literal, caseWhen, Branches, noMore, branch, Optional, absent, present, branchCount, isNullLiteral}
+use Rattle.rule.specs.Tree.{Expr, Branches, noMore, branch, Optional, absent, present, branchCount, isNullLiteral}
 use Rattle.rule.specs.TreeBytes.{isPresent}
-use Rattle.rule.specs.Typing.{typeOf, resultType}
-use Rattle.rule.specs.Strategy.{isColumn, isLiteral, dropNull, allLiterals, someWhenValue, elseServes, tableServes, singleBranch, withoutBase, strategyOf, strategy}
+use Rattle.rule.specs.Typing.{typeOf}
+use Rattle.rule.specs.Strategy.{isColumn, isLiteral, dropNull, allLiterals, someWhenValue, elseServes, tableServes, singleBranch, strategyOf, strategy}
 use Rattle.rule.specs.Node.{NodeAt}
-use Rattle.rule.specs.Walks.{branchTrees, optionalTrees, childrenOf, nodeTag, treesLiteral, TreesAt, EndGives, BehindGives, TypeGives, NullLiteralGives, ElseThereGives, LiteralsGives, SomeWhenGives, ElseServesGives, TableServesGives, SingleGives, StrategyGives}
+use Rattle.rule.specs.Walks.{branchTrees, optionalTrees, nodeTag, TreesAt, EndGives, BehindGives, TypeGives}
+use Rattle.rule.specs.AnswerWalks.{treesLiteral, NullLiteralGives, ElseThereGives, LiteralsGives, SomeWhenGives, ElseServesGives, TableServesGives, SingleGives, StrategyGives}
 use Rattle.rule.proofs.NodeLaws.{Tagged, ofColumn, ofLiteral, ofNegation, ofNegative, ofIsNotNull, ofCast, ofTryCast, ofEqual, ofLess, ofCase, tagged-by, node-byte, node-children, case-counted, trees-split, trees-one, trees-none, trees-some}
-use Rattle.rule.proofs.WalkLaws.{nothing-behind, node-of-tag}
-use Rattle.rule.proofs.TypeOfLaws.{base-flag}
-use Rattle.rule.proofs.ConstantCase.{branches-length}
+use Rattle.rule.proofs.WalkLaws.{node-of-tag, first-tree, first-two, base-flag, branches-length}
+use Rattle.rule.proofs.LiteralLaws.{mark-told}
 
 -- a literal is told by its tag
 literal-tag : {tag : ℕ} {e : Expr} → Tagged tag e → isLiteral e ≡ eqb tag 17
@@ -76,15 +76,11 @@ null-literal e = go (tagged-by e (nodeTag e) refl)
 pub null-other : {rule : List ℕ} {at : ℕ} → (byte rule at ≡ 17 → ⊥) → NullLiteralGives rule at false
 null-other is = record { is = λ end e depth n. sym (null-literal e (no-literal n refl is)) }
 
-marked : (m : Bool) → eqb (markNumber m) 1 ≡ m
-marked true = refl
-marked false = refl
-
 pub null-mark : {rule : List ℕ} {at mark : ℕ} → byte rule at ≡ 17 → mark ≡ byte rule (at + 4) → NullLiteralGives rule at (eqb mark 1)
 null-mark {rule} {at} {mark} is read = record { is = λ end e depth n. go e (node-of-tag n is) n }
   where
     go : {end depth : ℕ} (e : Expr) → Tagged 17 e → NodeAt rule at end e depth → eqb mark 1 ≡ isNullLiteral e
-    go e (ofLiteral t v) n = ap (λ (x : ℕ). eqb x 1) (read ∙ node-byte 1 (at + 4) n (omega arith) (omega arith)) ∙ marked (isNull v)
+    go e (ofLiteral t v) n = ap (λ (x : ℕ). eqb x 1) (read ∙ node-byte 1 (at + 4) n (omega arith) (omega arith)) ∙ mark-told (isNull v)
 
 -- an ELSE that is there
 dropped : (e : Expr) (null : Bool) → isNullLiteral e ≡ null → isPresent (dropNull (present e)) ≡ not null
@@ -128,9 +124,12 @@ module _ {rule : List ℕ} {at count place left tag : ℕ} (inv : LiteralsLeft r
           → (gs : List Expr) × (length gs ≡ left - 1) × TreesAt rule next end (gs ++ rest) depth × (b ≡ treesLiteral gs)
       go [] rest size t same = absurd (omega arith)
       go {end} {depth} (f ∷ fs) rest size t same =
-          let (m, first, later) = trees-split t in
-          (fs, omega arith, subst (λ (x : ℕ). TreesAt rule x end (fs ++ rest) depth) (sym (ends .ends m f depth first)) later,
-           same ∙ ap (λ (x : Bool). x && treesLiteral fs) (is-literal first read is))
+          let (first, later) = first-tree ends t in (
+            fs,
+            omega arith,
+            later,
+            same ∙ ap (λ (x : Bool). x && treesLiteral fs) (is-literal first read is),
+          )
 
 pub literals-end : {rule : List ℕ} {at count place left : ℕ} → LiteralsLeft rule at count place left → left ≤ 0 → LiteralsGives rule at count true
 literals-end {left = left} inv none = record { is = λ end es rest depth n t. let (fs, size, trees, same) = inv .stand end es rest depth n t in go fs size ∙ sym same }
@@ -164,9 +163,12 @@ module _ {rule : List ℕ} {at count place left : ℕ} {null : Bool} (inv : When
           → (ds : Branches) × (branchCount ds ≡ left - 1) × TreesAt rule next end (branchTrees ds ++ rest) depth × (b ≡ someWhenValue ds)
       go noMore rest size t same = absurd (omega arith)
       go {end} {depth} (branch w u cs) rest size t same =
-          let (m, first, later) = trees-split t in
-          (cs, omega arith, behind .stand end (w ∷ u ∷ []) (branchTrees cs ++ rest) depth refl t,
-           same ∙ ap (λ (x : Bool). not x || someWhenValue cs) (sym (nulls .is m w depth first) ∙ is))
+          let (m, first, later) = trees-split t in (
+            cs,
+            omega arith,
+            behind .stand end (w ∷ u ∷ []) (branchTrees cs ++ rest) depth refl t,
+            same ∙ ap (λ (x : Bool). not x || someWhenValue cs) (sym (nulls .is m w depth first) ∙ is),
+          )
 
 pub whens-end : {rule : List ℕ} {at count place left : ℕ} → WhensLeft rule at count place left → left ≤ 0 → SomeWhenGives rule at count false
 unfolding someWhenValue branchCount
@@ -184,6 +186,7 @@ else-is {rule} {at} {end} {depth} theres is els t = go els t (sym (theres .is el
     kept : (e : Expr) (null : Bool) → isPresent (cond null absent (present e)) ≡ true → cond null absent (present e) ≡ present e
     kept e true p = let z : _≡_ {A = ℕ} 0 1 = cc in absurd (omega arith)
     kept e false p = refl
+
     go : (els : Optional) → TreesAt rule at end (optionalTrees els) depth → isPresent (dropNull els) ≡ true → (e : Expr) × NodeAt rule at end e depth × (dropNull els ≡ present e)
     go absent t p = let z : _≡_ {A = ℕ} 0 1 = cc in absurd (omega arith)
     go (present e) t p = (e, trees-one t, kept e (isNullLiteral e) p)
@@ -222,12 +225,7 @@ module _ {rule : List ℕ} {at then els end tag : ℕ} {there : Bool} (e : EndGi
     (read : tag ≡ byte rule then) where
   -- its THEN, and the ELSE behind it
   parts : {depth : ℕ} (w t : Expr) (o : Optional) → TreesAt rule at end (w ∷ t ∷ optionalTrees o) depth → NodeAt rule then els t depth × TreesAt rule els end (optionalTrees o) depth
-  parts {depth} w t o trees =
-      let (m, first, rest) = trees-split trees in
-      let same : m ≡ then = sym (e .ends m w depth first) in
-      let (k, second, later) = trees-split (subst (λ (z : ℕ). TreesAt rule z end (t ∷ optionalTrees o) depth) same rest) in
-      let again : k ≡ els = sym (f .ends k t depth second) in
-      (subst (λ (z : ℕ). NodeAt rule then z t depth) again second, subst (λ (z : ℕ). TreesAt rule z end (optionalTrees o) depth) again later)
+  parts w t o trees = let (first, second, later) = first-two e f trees in (second, later)
 
   pub single-first : there ≡ true → (tag ≡ 17 → ⊥) → SingleGives rule at end ExpressionOrExpression
   single-first is other = record {
@@ -320,9 +318,7 @@ module _ {rule : List ℕ} {at end count : ℕ} where
               let a : ltb 1 (branchCount (branch w u bs)) ≡ true = lt-ltb 1 (branchCount (branch w u bs)) (omega arith) in
               let b : allLiterals (branch w u bs) ≡ true = told (branch w u bs) o n t ∙ all in
               let c : someWhenValue (branch w u bs) ≡ true = sym (given-whens .is end (branch w u bs) (optionalTrees o) depth n t) ∙ some in
-              let (m, first, rest) = trees-split t in
-              let same : m ≡ then = sym (ends .ends m w depth first) in
-              let (k, second, later) = trees-split (subst (λ (z : ℕ). TreesAt rule z end (u ∷ (branchTrees bs ++ optionalTrees o)) depth) same rest) in
+              let (k, second, later) = trees-split (first-tree ends t .1) in
               let length-is = branches-length (branch w u bs) in
               let behind-is = behind .stand end (branchTrees (branch w u bs)) (optionalTrees o) depth (omega arith) t in
               rw (a, b, c) (serves .is o depth k u depth behind-is second)

@@ -1,26 +1,21 @@
 -- The type of a node out of its bytes. Assumes nothing.
-use mathlib.Core.Path.{_≡_, refl, ap, sym, subst, _∙_}
-use mathlib.Core.Bool.{Bool, true, false, cond, _&&_}
+use mathlib.Core.Path.{_≡_, refl, sym, _∙_}
 use mathlib.Core.List.{List, [], _∷_, _++_, append-assoc}
-use Prim.Native.Nat.{ℕ, zero, suc, _+_, _-_, _%_, _<_, _≤_}
+use Prim.Native.Nat.{ℕ, _+_, _-_, _%_, _<_, _≤_}
 use native.Mathlib.Omega.{arith}
-use lib.Dec.{ltb, leb}
 use lib.ListN.{length, length-append}
-use borrow.Author.Tests.{eq-eqb, ltb-true}
+use borrow.Author.Tests.{eq-eqb}
 use Rattle.layout.specs.Bytes.{byte}
-use Rattle.layout.proofs.TestLaws.{both-hold}
 use Rattle.scalar.specs.declared.types.DataType.{DataType}
 use Rattle.scalar.specs.declared.types.DataType.the-variants.{Boolean, Int32, Int64, Float64, Utf8}
 use Rattle.scalar.specs.Types.{typeNumber}
 use Rattle.scalar.proofs.TypeLaws.{sameType-eq}
-use Rattle.rule.specs.Tree.{Expr, negation, negative, caseWhen, Branches, noMore, branch, Optional, absent, present, branchCount}
-use Rattle.rule.specs.TreeBytes.{isPresent, flagsOf}
-use Rattle.rule.specs.Typing.{typeOf, nodeTyped}
-use Rattle.rule.specs.WellFormed.{countFits, wellFormed, wellFormedBranches, wellFormedOptional}
+use Rattle.rule.specs.Tree.{Expr, noMore, branch, branchCount}
+use Rattle.rule.specs.Typing.{typeOf}
 use Rattle.rule.specs.Node.{NodeAt}
-use Rattle.rule.specs.Walks.{childrenOf, headBytes, branchTrees, optionalTrees, TreesAt, BehindGives, NumberedGives, ThenGives, TypeGives}
+use Rattle.rule.specs.Walks.{headBytes, branchTrees, optionalTrees, TreesAt, BehindGives, NumberedGives, ThenGives, TypeGives}
 use Rattle.rule.proofs.NodeLaws.{Tagged, ofColumn, ofLiteral, ofNegation, ofNegative, ofIsNotNull, ofCast, ofTryCast, ofEqual, ofLess, ofCase, node-byte, node-children, trees-split, trees-one, case-counted}
-use Rattle.rule.proofs.WalkLaws.{nothing-behind, node-of-tag}
+use Rattle.rule.proofs.WalkLaws.{nothing-behind, node-of-tag, base-flag}
 
 -- a type by its number
 pub numbered : {n : ℕ} (r : DataType) → n ≡ typeNumber r → NumberedGives n r
@@ -32,13 +27,6 @@ numbered-last rest Int32 p = absurd (rest .0 .0 .1 p)
 numbered-last rest Int64 p = absurd (rest .0 .1 p)
 numbered-last rest Float64 p = absurd (rest .1 p)
 numbered-last rest Utf8 p = refl
-
--- whether a base is there is the lowest of the flags
-pub base-flag : (b e : Optional) → flagsOf b e % 2 ≡ length (optionalTrees b)
-base-flag absent absent = refl
-base-flag absent (present e) = refl
-base-flag (present b) absent = refl
-base-flag (present b) (present e) = refl
 
 -- the second of two trees, behind others
 behind-one : {rule : List ℕ} {r end depth : ℕ} (t : Expr) (rest : List Expr) → TreesAt rule r end (t ∷ rest) depth → (m : ℕ) × NodeAt rule r m t depth
@@ -104,8 +92,8 @@ module _ {rule : List ℕ} {start at : ℕ} (left : TypeLeft rule start at) wher
   type-byte {place = place} tag i typed is place-is number-is numbers =
       type-told
       (λ m f d n.
-          let (inside, own) = typed f (node-of-tag n is) in
-          numbers (typeOf f) (number-is ∙ node-byte i place n inside place-is ∙ own))
+      let (inside, own) = typed f (node-of-tag n is) in
+      numbers (typeOf f) (number-is ∙ node-byte i place n inside place-is ∙ own))
 
   -- behind the end no tree stands
   pub type-behind : {r : DataType} → length rule ≤ at → TypeGives rule start r

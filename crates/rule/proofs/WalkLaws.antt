@@ -1,20 +1,20 @@
 -- Steps from a node to its end, to its children, and over trees that stand one behind the other. Assumes nothing.
 use mathlib.Core.Path.{_≡_, refl, ap, sym, subst, _∙_}
-use mathlib.Core.List.{List, [], _∷_, _++_, append-assoc}
-use Prim.Native.Nat.{ℕ, zero, suc, _+_, _-_, _<_, _≤_, max}
+use mathlib.Core.List.{List, [], _∷_, _++_}
+use Prim.Native.Nat.{ℕ, _+_, _-_, _*_, _%_, _<_, _≤_}
 use native.Mathlib.Omega.{arith}
 use lib.ListN.{length, drop}
 use Rattle.layout.specs.declared.field.FieldPlace.{FieldPlace}
-use Rattle.layout.specs.declared.field.Header.{Header}
 use Rattle.layout.specs.declared.field.Header.the-variants.{Found, Cut}
 use Rattle.layout.specs.Result.{Result, refused, ok}
 use Rattle.layout.specs.Bytes.{byte}
 use Rattle.layout.specs.Field.{Field, header}
 use Rattle.layout.specs.Place.{headerOf, headerAt}
-use Rattle.rule.specs.Tree.{Expr, column, literal, negation, negative, isNotNull, cast, tryCast, equal, less, caseWhen}
+use Rattle.rule.specs.Tree.{Expr, Branches, noMore, branch, Optional, absent, present, branchCount}
+use Rattle.rule.specs.TreeBytes.{flagsOf}
 use Rattle.rule.specs.Node.{NodeAt}
-use Rattle.rule.specs.Walks.{childrenOf, nodeTag, headBytes, treesBytes, TreesAt, EndGives, ChildrenGives, BehindGives}
-use Rattle.rule.proofs.NodeLaws.{Tagged, ofColumn, ofLiteral, ofNegation, ofNegative, ofIsNotNull, ofCast, ofTryCast, ofEqual, ofLess, ofCase, tagged-by, node-found, node-not-cut, node-tag, node-children, node-size, node-end, trees-first, trees-split}
+use Rattle.rule.specs.Walks.{branchTrees, optionalTrees, childrenOf, headBytes, TreesAt, EndGives, ChildrenGives, BehindGives}
+use Rattle.rule.proofs.NodeLaws.{Tagged, ofColumn, ofLiteral, ofNegation, ofNegative, ofIsNotNull, ofCast, ofTryCast, ofEqual, ofLess, ofCase, tagged-by, node-found, node-not-cut, node-tag, node-children, node-size, node-end, trees-split}
 
 -- a field that is found takes at least its header
 found-size : (l : List ℕ) (at : ℕ) (p : FieldPlace) → headerAt l at ≡ Found p → at + 3 ≤ p .end
@@ -94,6 +94,22 @@ tryCast-head e (ofTryCast t f) = refl
 pub case-head : (e : Expr) → Tagged 25 e → length (headBytes e) ≡ 2
 case-head e (ofCase b bs els) = refl
 
+-- the first of several trees up to its end, and those behind it
+pub first-tree : {rule : List ℕ} {place next end depth : ℕ} {e : Expr} {es : List Expr} → EndGives rule place next → TreesAt rule place end (e ∷ es) depth
+    → NodeAt rule place next e depth × TreesAt rule next end es depth
+first-tree {rule} {place} {next} {end} {depth} {e} {es} ends t =
+    let (m, first, later) = trees-split t in
+    let same : m ≡ next = sym (ends .ends m e depth first) in
+    (subst (λ (x : ℕ). NodeAt rule place x e depth) same first, subst (λ (x : ℕ). TreesAt rule x end es depth) same later)
+
+-- the first two
+pub first-two : {rule : List ℕ} {place then next end depth : ℕ} {w t : Expr} {es : List Expr} → EndGives rule place then → EndGives rule then next → TreesAt rule place end (w ∷ t ∷ es) depth
+    → NodeAt rule place then w depth × NodeAt rule then next t depth × TreesAt rule next end es depth
+first-two e f trees =
+    let (first, rest) = first-tree e trees in
+    let (second, later) = first-tree f rest in
+    (first, second, later)
+
 -- over so many trees: as many as are left stand at the place
 abbrev pub Stepping : List ℕ → ℕ → ℕ → ℕ → ℕ → Type 0
 Stepping rule at count place left =
@@ -108,14 +124,13 @@ stepping-starts rule at count = (omega arith, λ end es rest depth n t. (es, n, 
 one-behind : {rule : List ℕ} {place next end depth left : ℕ} (fs rest : List Expr) → length fs ≡ left → 0 < left → EndGives rule place next → TreesAt rule place end (fs ++ rest) depth
     → (gs : List Expr) × (length gs ≡ left - 1) × TreesAt rule next end (gs ++ rest) depth
 one-behind [] rest n some ends t = absurd (omega arith)
-one-behind {rule} {place} {next} {end} {depth} {left} (f ∷ fs) rest n some ends t =
-    let (m, first, later) = trees-split t in
-    (fs, omega arith, subst (λ (x : ℕ). TreesAt rule x end (fs ++ rest) depth) (sym (ends .ends m f depth first)) later)
+one-behind (f ∷ fs) rest n some ends t = (fs, omega arith, first-tree ends t .1)
 
 pub stepping-goes : {rule : List ℕ} {at count place left next : ℕ} → Stepping rule at count place left → 0 < left → EndGives rule place next → Stepping rule at count next (left - 1)
-stepping-goes {left = left} s some ends =
-    (omega (arith, s .0, ends .onward),
-     λ end es rest depth n t. let (fs, size, trees) = s .1 end es rest depth n t in one-behind fs rest size some ends trees)
+stepping-goes {left = left} s some ends = (
+  omega (arith, s .0, ends .onward),
+  λ end es rest depth n t. let (fs, size, trees) = s .1 end es rest depth n t in one-behind fs rest size some ends trees,
+)
 
 none-left : {rule : List ℕ} {place end depth : ℕ} (fs rest : List Expr) → length fs ≡ 0 → TreesAt rule place end (fs ++ rest) depth → TreesAt rule place end rest depth
 none-left [] rest n t = t
@@ -127,3 +142,16 @@ stepping-ends {left = left} s none =
       stand = λ end es rest depth n t. let (fs, size, trees) = s .1 end es rest depth n t in none-left fs rest (omega arith) trees;
       onward = s .0;
     }
+
+-- whether a base is there is the lowest of the flags
+pub base-flag : (b e : Optional) → flagsOf b e % 2 ≡ length (optionalTrees b)
+base-flag absent absent = refl
+base-flag absent (present e) = refl
+base-flag (present b) absent = refl
+base-flag (present b) (present e) = refl
+
+-- branches have two trees each
+pub branches-length : (bs : Branches) → length (branchTrees bs) ≡ 2 * branchCount bs
+unfolding branchCount
+branches-length noMore = refl
+branches-length (branch w t bs) = let k = branches-length bs in omega arith

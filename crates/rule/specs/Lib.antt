@@ -15,3 +15,5 @@ pub mod Projection
 pub mod Nullable
 pub mod Answers
 pub mod Walks
+pub mod ConstantWalks
+pub mod AnswerWalks

@@ -1,30 +1,21 @@
--- Walks over the bytes of an accepted rule: trees that stand one behind the other at a place, and what a node's bytes are before its children.
+-- Walks over the bytes of an accepted rule: trees that stand one behind the other at a place, what a node's bytes are before its children,
+-- and what the steps from place to place promise.
 use mathlib.Core.Path.{_≡_}
-use mathlib.Core.Bool.{Bool, true, false, not, _&&_}
+use mathlib.Core.Bool.{Bool, true, _&&_}
 use mathlib.Core.List.{List, [], _∷_, _++_}
-use Prim.Native.Nat.{ℕ, _+_, _-_, _<_, _≤_, max}
+use Prim.Native.Nat.{ℕ, _-_, _<_, _≤_, max}
 use lib.ListN.{length}
 use Rattle.layout.specs.Bytes.{Bytes, part}
 use Rattle.scalar.specs.Types.{typeNumber, markNumber}
 use Rattle.scalar.specs.declared.types.DataType.{DataType}
 use Rattle.scalar.specs.declared.value.Value.{Value}
-use Rattle.scalar.specs.Entry.{Entry, boolean, isNull, Outcome, entry, onEntries}
-use Rattle.scalar.specs.Not.{notEntry}
-use Rattle.scalar.specs.Negative.{negativeEntry}
-use Rattle.scalar.specs.IsNotNull.{isNotNullEntry}
-use Rattle.scalar.specs.Cast.{castEntry}
-use Rattle.scalar.specs.TryCast.{tryCastEntry}
-use Rattle.scalar.specs.Compare.{equalEntry, lessEntry}
-use Rattle.scalar.specs.Value.{meaning, Storable, Gives}
-use Rattle.rule.specs.Tree.{Column, Expr, column, literal, negation, negative, isNotNull, cast, tryCast, equal, less, caseWhen, Branches, noMore, branch, Optional, absent, present, branchCount, isNullLiteral}
-use Rattle.rule.specs.TreeBytes.{valueBytes, isPresent, flagsOf, bytesOf}
+use Rattle.scalar.specs.Entry.{Entry, isNull, entry}
+use Rattle.scalar.specs.Value.{meaning, Storable}
+use Rattle.rule.specs.Tree.{Expr, column, literal, negation, negative, isNotNull, cast, tryCast, equal, less, caseWhen, Branches, noMore, branch, Optional, absent, present, branchCount}
+use Rattle.rule.specs.TreeBytes.{valueBytes, flagsOf, bytesOf}
 use Rattle.rule.specs.WellFormed.{wellFormed}
 use Rattle.rule.specs.Typing.{typeOf}
-use Rattle.rule.specs.Row.{Test, equalsTest, withBase, eval, evalBranches, evalElse}
-use Rattle.rule.specs.Constant.{columnsOf, isEmpty, unread, failsAlone, constantFails}
-use Rattle.rule.specs.Nullable.{replaced, replacedBranches, replacedOptional, mayPass}
-use Rattle.rule.specs.declared.strategy.Strategy.{Strategy}
-use Rattle.rule.specs.Strategy.{isLiteral, dropNull, someWhenValue, elseServes, tableServes, singleBranch, strategy}
+use Rattle.rule.specs.Nullable.{nullable}
 use Rattle.rule.specs.Node.{NodeAt, depthOf}
 
 -- the trees of branches, WHEN and THEN in turn
@@ -138,139 +129,3 @@ pub record ThenGives (rule : List ℕ) (at r : ℕ) : Type 0 where
 -- the type of whatever node stands at a place
 abbrev pub TypeGives : List ℕ → ℕ → DataType → Type 0
 TypeGives rule start r = (end : ℕ) (e : Expr) (depth : ℕ) → NodeAt rule start end e depth → r ≡ typeOf e
-
--- a tree whose parts that equal the bytes are replaced, itself kept
-abbrev pub within : Expr → List ℕ → Expr
-within (column c) bytes = column c
-within (literal t v) bytes = literal t v
-within (negation e) bytes = negation (replaced e bytes)
-within (negative e) bytes = negative (replaced e bytes)
-within (isNotNull e) bytes = isNotNull (replaced e bytes)
-within (cast t e) bytes = cast t (replaced e bytes)
-within (tryCast t e) bytes = tryCast t (replaced e bytes)
-within (equal a b) bytes = equal (replaced a bytes) (replaced b bytes)
-within (less a b) bytes = less (replaced a bytes) (replaced b bytes)
-within (caseWhen b bs e) bytes = caseWhen (replacedOptional b bytes) (replacedBranches bs bytes) (replacedOptional e bytes)
-
--- a value means an outcome, whatever the table
-abbrev pub Means : List ℕ → Value → Outcome → Type 0
-Means rule r o = (table : List ℕ) → meaning rule table r ≡ o
-
--- what a node of one child makes of it, by its tag and its type byte
-pub record OneGives (tag number : ℕ) (v r : Value) : Type 0 where
-  pub ofNot : tag ≡ 18 → Gives (λ e. entry (notEntry e)) v r
-  pub ofNegative : tag ≡ 19 → Gives (λ e. entry (negativeEntry e)) v r
-  pub ofIsNotNull : tag ≡ 20 → Gives (λ e. entry (isNotNullEntry e)) v r
-  pub ofCast : tag ≡ 21 → (t : DataType) → number ≡ typeNumber t → Gives (castEntry t) v r
-  pub ofTryCast : tag ≡ 22 → (t : DataType) → number ≡ typeNumber t → Gives (λ e. entry (tryCastEntry t e)) v r
-
--- what a comparison makes of two values, by its tag
-pub record TwoGives (rule : List ℕ) (tag : ℕ) (a b r : Value) : Type 0 where
-  pub ofEqual : tag ≡ 23 → (x y : Outcome) → Means rule a x → Means rule b y → Means rule r (onEntries equalEntry x y)
-  pub ofLess : tag ≡ 24 → (x y : Outcome) → Means rule a x → Means rule b y → Means rule r (onEntries lessEntry x y)
-
--- whether a WHEN passes or failed
-abbrev pub PassGives : Value → Bool → Type 0
-PassGives v r = (rule table : List ℕ) → r ≡ mayPass (meaning rule table v)
-
--- on the row of which no column can be read, with the parts that equal the target's bytes as null: whatever node stands at a place,
-pub record ConstantGives (rule : List ℕ) (start end : ℕ) (target : List ℕ) (depth : ℕ) (r : Value) : Type 0 where
-  pub means : (e : Expr) → NodeAt rule start end e depth → Means rule r (eval (replaced e target) unread)
-
--- the same of a node that doesn't equal them, whose children nest at most so deep,
-pub record WithinGives (rule : List ℕ) (start end : ℕ) (target : List ℕ) (depth : ℕ) (r : Value) : Type 0 where
-  pub means : (e : Expr) → NodeAt rule start end e (depth + 1) → Means rule r (eval (within e target) unread)
-
--- of a CASE,
-pub record CaseGives (rule : List ℕ) (start end : ℕ) (target : List ℕ) (depth : ℕ) (r : Value) : Type 0 where
-  pub means : (b : Optional) (bs : Branches) (els : Optional) → NodeAt rule start end (caseWhen b bs els) (depth + 1)
-      → Means rule r (eval (within (caseWhen b bs els) target) unread)
-
--- of a base, which is true where there is none,
-abbrev pub baseOutcome : Optional → Outcome
-baseOutcome absent = entry (boolean true)
-baseOutcome (present b) = eval b unread
-
-pub record BaseGives (rule : List ℕ) (at end : ℕ) (target : List ℕ) (depth : ℕ) (r : Value) : Type 0 where
-  pub means : (b : Optional) → TreesAt rule at end (optionalTrees b) depth → Means rule r (baseOutcome (replacedOptional b target))
-
--- of ELSE,
-abbrev pub elseOutcome : Optional → DataType → List ℕ → Outcome
-elseOutcome els to target = evalElse (replacedOptional els target) unread to
-
-pub record ElseGives (rule : List ℕ) (at end : ℕ) (to : DataType) (target : List ℕ) (depth : ℕ) (r : Value) : Type 0 where
-  pub means : (els : Optional) → TreesAt rule at end (optionalTrees els) depth → Means rule r (elseOutcome els to target)
-
--- of branches and ELSE behind them, by a base,
-abbrev pub branchesOutcome : Branches → Test → Optional → DataType → List ℕ → Outcome
-branchesOutcome bs test els to target = evalBranches (replacedBranches bs target) unread test (elseOutcome els to target)
-
-pub record BranchesGives (rule : List ℕ) (at end count : ℕ) (base : Value) (to : DataType) (target : List ℕ) (depth : ℕ) (r : Value) : Type 0 where
-  pub means : (bs : Branches) (els : Optional) (b : Entry) → TreesAt rule at end (branchTrees bs ++ optionalTrees els) depth → branchCount bs ≡ count → Means rule base (entry b)
-      → Means rule r (branchesOutcome bs (equalsTest b) els to target)
-
--- by a base that may be null or have failed
-pub record WithBaseGives (rule : List ℕ) (at end count : ℕ) (base : Value) (to : DataType) (target : List ℕ) (depth : ℕ) (r : Value) : Type 0 where
-  pub means : (bs : Branches) (els : Optional) (o : Outcome) → TreesAt rule at end (branchTrees bs ++ optionalTrees els) depth → branchCount bs ≡ count → Means rule base o
-      → Means rule r (withBase o (λ test. branchesOutcome bs test els to target) (elseOutcome els to target))
-
--- a cast with no column under it whose value doesn't fit; no other node is
-abbrev pub failsHere : Expr → Bool
-failsHere (column c) = false
-failsHere (literal t v) = false
-failsHere (negation e) = false
-failsHere (negative e) = false
-failsHere (isNotNull e) = false
-failsHere (cast t e) = failsAlone (cast t e)
-failsHere (tryCast t e) = false
-failsHere (equal a b) = false
-failsHere (less a b) = false
-failsHere (caseWhen b bs e) = false
-
--- whether whatever node stands at a place names a column,
-pub record ColumnGives (rule : List ℕ) (start end : ℕ) (r : Bool) : Type 0 where
-  pub is : (e : Expr) (depth : ℕ) → NodeAt rule start end e depth → r ≡ not (isEmpty (columnsOf e))
-
--- fails here,
-pub record FailsHereGives (rule : List ℕ) (start : ℕ) (r : Bool) : Type 0 where
-  pub is : (end : ℕ) (e : Expr) → NodeAt rule start end e 8 → r ≡ failsHere e
-
--- or holds a constant cast that fails
-pub record FailsGives (rule : List ℕ) (r : Bool) : Type 0 where
-  pub is : (e : Expr) → NodeAt rule 0 (length rule) e 8 → r ≡ constantFails e
-
--- whether whatever node stands at a place is a null literal,
-pub record NullLiteralGives (rule : List ℕ) (at : ℕ) (r : Bool) : Type 0 where
-  pub is : (end : ℕ) (e : Expr) (depth : ℕ) → NodeAt rule at end e depth → r ≡ isNullLiteral e
-
--- whether an ELSE is there that is not dropped,
-pub record ElseThereGives (rule : List ℕ) (at end : ℕ) (r : Bool) : Type 0 where
-  pub is : (els : Optional) (depth : ℕ) → TreesAt rule at end (optionalTrees els) depth → r ≡ isPresent (dropNull els)
-
--- whether so many trees are all literals,
-abbrev pub treesLiteral : List Expr → Bool
-treesLiteral [] = true
-treesLiteral (e ∷ es) = isLiteral e && treesLiteral es
-
-pub record LiteralsGives (rule : List ℕ) (at count : ℕ) (r : Bool) : Type 0 where
-  pub is : (end : ℕ) (es rest : List Expr) (depth : ℕ) → length es ≡ count → TreesAt rule at end (es ++ rest) depth → r ≡ treesLiteral es
-
--- whether a WHEN of so many branches isn't a null literal,
-pub record SomeWhenGives (rule : List ℕ) (at count : ℕ) (r : Bool) : Type 0 where
-  pub is : (end : ℕ) (bs : Branches) (rest : List Expr) (depth : ℕ) → branchCount bs ≡ count → TreesAt rule at end (branchTrees bs ++ rest) depth → r ≡ someWhenValue bs
-
--- whether an ELSE serves beside a THEN,
-pub record ElseServesGives (rule : List ℕ) (at end then : ℕ) (r : Bool) : Type 0 where
-  pub is : (els : Optional) (depth : ℕ) (m : ℕ) (t : Expr) (d : ℕ) → TreesAt rule at end (optionalTrees els) depth → NodeAt rule then m t d → r ≡ elseServes (typeOf t) (dropNull els)
-
--- whether a lookup table serves so many branches and what is behind them,
-pub record TableServesGives (rule : List ℕ) (at end count : ℕ) (r : Bool) : Type 0 where
-  pub is : (bs : Branches) (els : Optional) (depth : ℕ) → branchCount bs ≡ count → TreesAt rule at end (branchTrees bs ++ optionalTrees els) depth → r ≡ tableServes bs (dropNull els)
-
--- the strategy of one branch and what is behind it,
-pub record SingleGives (rule : List ℕ) (at end : ℕ) (r : Strategy) : Type 0 where
-  pub is : (w t : Expr) (els : Optional) (depth : ℕ) → TreesAt rule at end (w ∷ t ∷ optionalTrees els) depth → r ≡ singleBranch t (dropNull els)
-
--- and of the rule
-pub record StrategyGives (rule : List ℕ) (r : Strategy) : Type 0 where
-  pub is : (e : Expr) → NodeAt rule 0 (length rule) e 8 → r ≡ strategy e

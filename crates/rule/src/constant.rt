@@ -19,8 +19,7 @@ use scalar::try_cast::try_cast;
 use scalar::types::DataType;
 use scalar::value::Value;
 use scalar::value::kind;
-
-ghost use Rattle.rule.specs.Walks.{OneGives, TwoGives, PassGives, ConstantGives, WithinGives, CaseGives, BaseGives, ElseGives, BranchesGives, WithBaseGives};
+ghost use Rattle.rule.specs.ConstantWalks.{OneGives, TwoGives, PassGives, ConstantGives, WithinGives, CaseGives, BaseGives, ElseGives, BranchesGives, WithBaseGives};
 
 // What NOT, negative, IS NOT NULL and the casts make of a value, by tag and type byte.
 fn one(tag: u8, number: u8, v: Value) -> Value
@@ -47,7 +46,7 @@ fn two(rule: &[u8], tag: u8, a: Value, b: Value) -> Value
 }
 
 // Whether a WHEN is true or failed.
-pub fn may_pass(v: Value) -> bool
+pub(crate) fn may_pass(v: Value) -> bool
     ensures { λ r. ⌜ PassGives v r ⌝ }
 {
     match v {
@@ -58,7 +57,7 @@ pub fn may_pass(v: Value) -> bool
 }
 
 // A node; null where it equals the target.
-pub fn constant(rule: &[u8], start: usize, end: usize, target: &[u8], depth: usize) -> Value
+pub(crate) fn constant(rule: &[u8], start: usize, end: usize, target: &[u8], depth: usize) -> Value
     ensures { λ r. ⌜ ConstantGives (now (rule .entry)) start end (now (target .entry)) depth r ⌝ }
 {
     if depth == 0 {

@@ -4,11 +4,10 @@ use crate::walk::children_at;
 use crate::walk::field_end;
 use layout::part::part_of;
 use scalar::value::kind;
-
-ghost use Rattle.rule.specs.Walks.{ColumnGives, FailsHereGives, FailsGives};
+ghost use Rattle.rule.specs.ConstantWalks.{ColumnGives, FailsHereGives, FailsGives};
 
 // Whether the node at a place is a column or has one under it.
-pub fn names_column(rule: &[u8], start: usize, end: usize) -> bool
+fn names_column(rule: &[u8], start: usize, end: usize) -> bool
     ensures { λ r. ⌜ ColumnGives (now (rule .entry)) start end r ⌝ }
 {
     if rule.len() < end {
@@ -43,7 +42,7 @@ fn fails_here(rule: &[u8], start: usize) -> bool
 }
 
 // Whether a cast with no column under it fails, anywhere in the rule.
-pub fn constant_fails(rule: &[u8]) -> bool
+pub(crate) fn constant_fails(rule: &[u8]) -> bool
     ensures { λ r. ⌜ FailsGives (now (rule .entry)) r ⌝ }
 {
     let mut at = 0;

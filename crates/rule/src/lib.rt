@@ -5,6 +5,7 @@ pub mod fails;
 pub(crate) mod leaf;
 pub mod literal;
 pub(crate) mod node;
+pub mod nullable;
 pub(crate) mod projection;
 pub(crate) mod read;
 pub(crate) mod seen;

@@ -4,7 +4,6 @@ use layout::number::read_u32;
 use layout::number::read_u64;
 use scalar::value::Value;
 use scalar::value::float_value;
-
 ghost use Rattle.rule.specs.Walks.{LiteralGives};
 
 // The value of the literal at a place. A text is its place in the rule.

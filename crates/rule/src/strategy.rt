@@ -4,8 +4,7 @@ use crate::type_of::type_of;
 use crate::walk::behind_fields;
 use crate::walk::field_end;
 use layout::number::byte_at;
-
-ghost use Rattle.rule.specs.Walks.{NullLiteralGives, ElseThereGives, LiteralsGives, SomeWhenGives, ElseServesGives, TableServesGives, SingleGives, StrategyGives};
+ghost use Rattle.rule.specs.AnswerWalks.{NullLiteralGives, ElseThereGives, LiteralsGives, SomeWhenGives, ElseServesGives, TableServesGives, SingleGives, StrategyGives};
 
 pub enum Strategy {
     NoExpression,
@@ -131,7 +130,7 @@ fn single_branch(rule: &[u8], at: usize, end: usize) -> Strategy
 }
 
 // The root CASE's strategy.
-pub fn strategy_of(rule: &[u8]) -> Strategy
+pub(crate) fn strategy_of(rule: &[u8]) -> Strategy
     ensures { λ r. ⌜ StrategyGives (now (rule .entry)) r ⌝ }
 {
     if byte_at(rule, 0) != 25 {

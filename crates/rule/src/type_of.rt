@@ -2,13 +2,12 @@
 use crate::walk::behind_fields;
 use layout::number::byte_at;
 use scalar::types::DataType;
-
 ghost use mathlib.Core.Path.{_≡_};
 ghost use Rattle.scalar.specs.Types.{typeNumber};
 ghost use Rattle.rule.specs.Walks.{NumberedGives, ThenGives, TypeGives};
 
 // The type of a number.
-pub fn type_numbered(n: u8) -> DataType
+pub(crate) fn type_numbered(n: u8) -> DataType
     ensures { λ r. ⌜ NumberedGives n r ⌝ }
 {
     match n {
@@ -21,7 +20,7 @@ pub fn type_numbered(n: u8) -> DataType
 }
 
 // The number of a type.
-pub fn type_number(t: DataType) -> u8
+pub(crate) fn type_number(t: DataType) -> u8
     ensures { λ r. ⌜ r ≡ typeNumber t ⌝ }
 {
     match t {
@@ -34,7 +33,7 @@ pub fn type_number(t: DataType) -> u8
 }
 
 // Where the first THEN of the CASE at a place stands: behind the base, if there is one, and a WHEN.
-pub fn first_then(rule: &[u8], at: usize) -> usize
+fn first_then(rule: &[u8], at: usize) -> usize
     ensures { λ r. ⌜ ThenGives (now (rule .entry)) at r ⌝ }
 {
     if rule.len() <= at {
@@ -45,7 +44,7 @@ pub fn first_then(rule: &[u8], at: usize) -> usize
 }
 
 // The type of the node at a place: its own byte, its child's, or that of the first THEN.
-pub fn type_of(rule: &[u8], start: usize) -> DataType
+pub(crate) fn type_of(rule: &[u8], start: usize) -> DataType
     ensures { λ r. ⌜ TypeGives (now (rule .entry)) start r ⌝ }
 {
     let mut at = start;

@@ -1,7 +1,6 @@
 // Steps over the fields of a rule. On a place that holds no field each goes on, to anywhere.
 use layout::field::Header;
 use layout::field::field_at;
-
 ghost use Rattle.rule.specs.Walks.{EndGives, ChildrenGives, BehindGives};
 
 // Where the field at a place ends.

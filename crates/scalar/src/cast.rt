@@ -1,7 +1,6 @@
 // Cast: a value that doesn't fit fails. Each type to itself, any pair among Boolean, Int32 and Int64, and Int32 to Float64.
 use crate::types::DataType;
 use crate::value::Value;
-
 ghost use mathlib.Core.Path.{_≡_};
 ghost use lib.Ieee.{binary64, ofInt};
 ghost use Rattle.scalar.specs.Cast.{toBoolean, toInt32, toInt64, toFloat64, toUtf8, castEntry};

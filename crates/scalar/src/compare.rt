@@ -2,7 +2,6 @@
 use crate::order::Order;
 use crate::order::order_of;
 use crate::value::Value;
-
 ghost use mathlib.Core.Path.{_≡_};
 ghost use Rattle.scalar.specs.Compare.{equalEntry, lessEntry};
 ghost use Rattle.scalar.specs.Value.{GivesBoth};

@@ -1,6 +1,5 @@
 // IS NOT NULL: Boolean, never null.
 use crate::value::Value;
-
 ghost use mathlib.Core.Path.{_≡_};
 ghost use Rattle.scalar.specs.Entry.{entry};
 ghost use Rattle.scalar.specs.IsNotNull.{isNotNullEntry};

@@ -2,7 +2,6 @@
 use crate::value::Value;
 use crate::value::float_bits;
 use crate::value::float_value;
-
 ghost use mathlib.Core.Path.{_≡_};
 ghost use Rattle.scalar.specs.Entry.{entry};
 ghost use Rattle.scalar.specs.Float.{signTurned};

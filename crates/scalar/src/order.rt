@@ -5,7 +5,6 @@ use crate::text::same_bytes;
 use crate::text::text_less;
 use crate::value::Value;
 use crate::value::float_bits;
-
 ghost use mathlib.Core.Path.{_≡_};
 ghost use Rattle.scalar.specs.Float.{signTurned, totalKey};
 ghost use Rattle.scalar.specs.Order.{orderOf, keyOf, textIn, textOrder, numberOrder, keyOrder};
@@ -58,7 +57,11 @@ pub fn key_of(v: Value) -> Key
 {
     match v {
         Value::Null => Key::Null,
-        Value::Boolean(b) => if b { Key::Number(1, 1) } else { Key::Number(1, 0) },
+        Value::Boolean(b) => if b {
+            Key::Number(1, 1)
+        } else {
+            Key::Number(1, 0)
+        },
         Value::Int32(n) => Key::Number(2, int32_key(n)),
         Value::Int64(n) => Key::Number(3, sign_turned(n)),
         Value::Float64(f) => Key::Number(4, float_key(float_bits(f))),
@@ -102,7 +105,11 @@ fn number_beside(kind: u8, x: u64, other: Key) -> Order
     match other {
         Key::Null => Order::SomeNull,
         Key::Failed => Order::SomeFailed,
-        Key::Number(k, y) => if kind == k { number_order(x, y) } else { Order::Unlike },
+        Key::Number(k, y) => if kind == k {
+            number_order(x, y)
+        } else {
+            Order::Unlike
+        },
         Key::Text => Order::Unlike,
     }
 }

@@ -1,6 +1,5 @@
 // Text: the bytes of a place, and the order of bytes.
 use layout::part::part_of;
-
 ghost use mathlib.Core.Path.{_≡_};
 ghost use Rattle.scalar.specs.Text.{sameBytes, textLess};
 ghost use Rattle.scalar.specs.Value.{placeText};

@@ -2,7 +2,6 @@
 use crate::cast::cast;
 use crate::types::DataType;
 use crate::value::Value;
-
 ghost use mathlib.Core.Path.{_≡_};
 ghost use Rattle.scalar.specs.Entry.{entry};
 ghost use Rattle.scalar.specs.TryCast.{tryCastEntry};

@@ -24,105 +24,279 @@ fn show(label: &[u8], v: Value) {
     io::write_all(STDOUT_FILENO, b"\n");
 }
 
-fn nots() {
+fn nots_1() {
     show(b"NOT null", not_value(Value::Null));
     show(b"NOT true", not_value(Value::Boolean(true)));
     show(b"NOT false", not_value(Value::Boolean(false)));
     show(b"NOT failed", not_value(Value::Failed));
+}
+
+fn nots_2() {
     show(b"null IS NOT NULL", is_not_null(Value::Null));
     show(b"0.0 IS NOT NULL", is_not_null(float_value(0)));
     show(b"failed IS NOT NULL", is_not_null(Value::Failed));
 }
 
-fn negatives() {
+fn negatives_1() {
     show(b"- 1:Int32", negative(Value::Int32(1)));
     show(b"- -2147483648:Int32", negative(Value::Int32(0x8000_0000)));
     show(b"- 2147483647:Int32", negative(Value::Int32(0x7fff_ffff)));
-    show(b"- lowest Int64", negative(Value::Int64(0x8000_0000_0000_0000)));
+    show(
+        b"- lowest Int64",
+        negative(Value::Int64(0x8000_0000_0000_0000)),
+    );
+}
+
+fn negatives_2() {
     show(b"- 0:Int64", negative(Value::Int64(0)));
     show(b"- 0.0", negative(float_value(0)));
     show(b"- -0.0", negative(float_value(0x8000_0000_0000_0000)));
     show(b"- infinity", negative(float_value(0x7ff0_0000_0000_0000)));
+}
+
+fn negatives_3() {
     show(b"- NaN", negative(float_value(0x7ff8_0000_0000_0001)));
     show(b"- -NaN", negative(float_value(0xfff8_0000_0000_0001)));
     show(b"- null", negative(Value::Null));
 }
 
-fn casts() {
-    show(b"2147483647:Int64 to Int32", cast(DataType::Int32, Value::Int64(0x7fff_ffff)));
-    show(b"2147483648:Int64 to Int32", cast(DataType::Int32, Value::Int64(0x8000_0000)));
-    show(b"-2147483648:Int64 to Int32", cast(DataType::Int32, Value::Int64(0xffff_ffff_8000_0000)));
-    show(b"-2147483649:Int64 to Int32", cast(DataType::Int32, Value::Int64(0xffff_ffff_7fff_ffff)));
-    show(b"-1:Int32 to Int64", cast(DataType::Int64, Value::Int32(0xffff_ffff)));
-    show(b"-1:Int32 to Float64", cast(DataType::Float64, Value::Int32(0xffff_ffff)));
-    show(b"-2147483648:Int32 to Float64", cast(DataType::Float64, Value::Int32(0x8000_0000)));
-    show(b"7:Int32 to Boolean", cast(DataType::Boolean, Value::Int32(7)));
-    show(b"0:Int64 to Boolean", cast(DataType::Boolean, Value::Int64(0)));
-    show(b"true to Int64", cast(DataType::Int64, Value::Boolean(true)));
-    show(b"NaN to Float64", cast(DataType::Float64, float_value(0xfff8_0000_0000_0001)));
-    show(b"null to Int32", cast(DataType::Int32, Value::Null));
-    show(b"try 2147483648:Int64 to Int32", try_cast(DataType::Int32, Value::Int64(0x8000_0000)));
-    show(b"try 5:Int64 to Int32", try_cast(DataType::Int32, Value::Int64(5)));
-    show(b"try failed to Int32", try_cast(DataType::Int32, Value::Failed));
+fn casts_1() {
+    show(
+        b"2147483647:Int64 to Int32",
+        cast(DataType::Int32, Value::Int64(0x7fff_ffff)),
+    );
+    show(
+        b"2147483648:Int64 to Int32",
+        cast(DataType::Int32, Value::Int64(0x8000_0000)),
+    );
+    show(
+        b"-2147483648:Int64 to Int32",
+        cast(DataType::Int32, Value::Int64(0xffff_ffff_8000_0000)),
+    );
+    show(
+        b"-2147483649:Int64 to Int32",
+        cast(DataType::Int32, Value::Int64(0xffff_ffff_7fff_ffff)),
+    );
 }
 
-fn equals() {
+fn casts_2() {
+    show(
+        b"-1:Int32 to Int64",
+        cast(DataType::Int64, Value::Int32(0xffff_ffff)),
+    );
+    show(
+        b"-1:Int32 to Float64",
+        cast(DataType::Float64, Value::Int32(0xffff_ffff)),
+    );
+    show(
+        b"-2147483648:Int32 to Float64",
+        cast(DataType::Float64, Value::Int32(0x8000_0000)),
+    );
+    show(
+        b"7:Int32 to Boolean",
+        cast(DataType::Boolean, Value::Int32(7)),
+    );
+}
+
+fn casts_3() {
+    show(
+        b"0:Int64 to Boolean",
+        cast(DataType::Boolean, Value::Int64(0)),
+    );
+    show(
+        b"true to Int64",
+        cast(DataType::Int64, Value::Boolean(true)),
+    );
+    show(
+        b"NaN to Float64",
+        cast(DataType::Float64, float_value(0xfff8_0000_0000_0001)),
+    );
+    show(b"null to Int32", cast(DataType::Int32, Value::Null));
+}
+
+fn casts_4() {
+    show(
+        b"try 2147483648:Int64 to Int32",
+        try_cast(DataType::Int32, Value::Int64(0x8000_0000)),
+    );
+    show(
+        b"try 5:Int64 to Int32",
+        try_cast(DataType::Int32, Value::Int64(5)),
+    );
+    show(
+        b"try failed to Int32",
+        try_cast(DataType::Int32, Value::Failed),
+    );
+}
+
+fn equals_1() {
     let none = b"";
-    show(b"0.0 = -0.0", equal(none, none, float_value(0), float_value(0x8000_0000_0000_0000)));
+    show(
+        b"0.0 = -0.0",
+        equal(
+            none,
+            none,
+            float_value(0),
+            float_value(0x8000_0000_0000_0000),
+        ),
+    );
     show(
         b"NaN = the same NaN",
-        equal(none, none, float_value(0x7ff8_0000_0000_0001), float_value(0x7ff8_0000_0000_0001)),
+        equal(
+            none,
+            none,
+            float_value(0x7ff8_0000_0000_0001),
+            float_value(0x7ff8_0000_0000_0001),
+        ),
     );
     show(
         b"NaN = another NaN",
-        equal(none, none, float_value(0x7ff8_0000_0000_0001), float_value(0x7ff8_0000_0000_0002)),
+        equal(
+            none,
+            none,
+            float_value(0x7ff8_0000_0000_0001),
+            float_value(0x7ff8_0000_0000_0002),
+        ),
     );
     show(b"null = null", equal(none, none, Value::Null, Value::Null));
-    show(b"7 = null", equal(none, none, Value::Int32(7), Value::Null));
-    show(b"7 = 7", equal(none, none, Value::Int32(7), Value::Int32(7)));
-    show(b"7:Int32 = 7:Int64", equal(none, none, Value::Int32(7), Value::Int64(7)));
-    show(b"failed = null", equal(none, none, Value::Failed, Value::Null));
 }
 
-fn lesses() {
+fn equals_2() {
     let none = b"";
-    show(b"-0.0 < 0.0", less(none, none, float_value(0x8000_0000_0000_0000), float_value(0)));
+    show(b"7 = null", equal(none, none, Value::Int32(7), Value::Null));
+    show(
+        b"7 = 7",
+        equal(none, none, Value::Int32(7), Value::Int32(7)),
+    );
+    show(
+        b"7:Int32 = 7:Int64",
+        equal(none, none, Value::Int32(7), Value::Int64(7)),
+    );
+    show(
+        b"failed = null",
+        equal(none, none, Value::Failed, Value::Null),
+    );
+}
+
+fn lesses_1() {
+    let none = b"";
+    show(
+        b"-0.0 < 0.0",
+        less(
+            none,
+            none,
+            float_value(0x8000_0000_0000_0000),
+            float_value(0),
+        ),
+    );
     show(
         b"infinity < NaN",
-        less(none, none, float_value(0x7ff0_0000_0000_0000), float_value(0x7ff8_0000_0000_0001)),
+        less(
+            none,
+            none,
+            float_value(0x7ff0_0000_0000_0000),
+            float_value(0x7ff8_0000_0000_0001),
+        ),
     );
     show(
         b"-NaN < -infinity",
-        less(none, none, float_value(0xfff8_0000_0000_0001), float_value(0xfff0_0000_0000_0000)),
+        less(
+            none,
+            none,
+            float_value(0xfff8_0000_0000_0001),
+            float_value(0xfff0_0000_0000_0000),
+        ),
     );
-    show(b"-1 < 1", less(none, none, Value::Int32(0xffff_ffff), Value::Int32(1)));
+    show(
+        b"-1 < 1",
+        less(none, none, Value::Int32(0xffff_ffff), Value::Int32(1)),
+    );
+}
+
+fn lesses_2() {
+    let none = b"";
     show(
         b"lowest < highest Int64",
-        less(none, none, Value::Int64(0x8000_0000_0000_0000), Value::Int64(0x7fff_ffff_ffff_ffff)),
+        less(
+            none,
+            none,
+            Value::Int64(0x8000_0000_0000_0000),
+            Value::Int64(0x7fff_ffff_ffff_ffff),
+        ),
     );
-    show(b"1 < -1", less(none, none, Value::Int64(1), Value::Int64(0xffff_ffff_ffff_ffff)));
-    show(b"false < true", less(none, none, Value::Boolean(false), Value::Boolean(true)));
-    show(b"true < true", less(none, none, Value::Boolean(true), Value::Boolean(true)));
+    show(
+        b"1 < -1",
+        less(
+            none,
+            none,
+            Value::Int64(1),
+            Value::Int64(0xffff_ffff_ffff_ffff),
+        ),
+    );
+    show(
+        b"false < true",
+        less(none, none, Value::Boolean(false), Value::Boolean(true)),
+    );
+    show(
+        b"true < true",
+        less(none, none, Value::Boolean(true), Value::Boolean(true)),
+    );
 }
 
 // The rule's bytes hold "boat", the table's "boats buoy".
-fn texts() {
+fn texts_1() {
     let rule = b"boat";
     let table = b"boats buoy";
-    show(b"boat = boat", equal(rule, table, Value::RuleText(0, 4), Value::TableText(0, 4)));
-    show(b"boat < boats", less(rule, table, Value::RuleText(0, 4), Value::TableText(0, 5)));
-    show(b"boats < boat", less(rule, table, Value::TableText(0, 5), Value::RuleText(0, 4)));
-    show(b"boat < buoy", less(rule, table, Value::RuleText(0, 4), Value::TableText(6, 4)));
-    show(b"empty < boat", less(rule, table, Value::RuleText(0, 0), Value::RuleText(0, 4)));
-    show(b"empty = empty", equal(rule, table, Value::RuleText(2, 0), Value::TableText(9, 0)));
-    show(b"past the end = empty", equal(rule, table, Value::RuleText(9, 4), Value::TableText(0, 0)));
+    show(
+        b"boat = boat",
+        equal(rule, table, Value::RuleText(0, 4), Value::TableText(0, 4)),
+    );
+    show(
+        b"boat < boats",
+        less(rule, table, Value::RuleText(0, 4), Value::TableText(0, 5)),
+    );
+    show(
+        b"boats < boat",
+        less(rule, table, Value::TableText(0, 5), Value::RuleText(0, 4)),
+    );
+    show(
+        b"boat < buoy",
+        less(rule, table, Value::RuleText(0, 4), Value::TableText(6, 4)),
+    );
+}
+
+// The rule's bytes hold "boat", the table's "boats buoy".
+fn texts_2() {
+    let rule = b"boat";
+    let table = b"boats buoy";
+    show(
+        b"empty < boat",
+        less(rule, table, Value::RuleText(0, 0), Value::RuleText(0, 4)),
+    );
+    show(
+        b"empty = empty",
+        equal(rule, table, Value::RuleText(2, 0), Value::TableText(9, 0)),
+    );
+    show(
+        b"past the end = empty",
+        equal(rule, table, Value::RuleText(9, 4), Value::TableText(0, 0)),
+    );
 }
 
 fn main() {
-    nots();
-    negatives();
-    casts();
-    equals();
-    lesses();
-    texts();
+    nots_1();
+    nots_2();
+    negatives_1();
+    negatives_2();
+    negatives_3();
+    casts_1();
+    casts_2();
+    casts_3();
+    casts_4();
+    equals_1();
+    equals_2();
+    lesses_1();
+    lesses_2();
+    texts_1();
+    texts_2();
 }
