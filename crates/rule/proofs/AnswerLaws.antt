@@ -11,14 +11,16 @@ use Rattle.rule.specs.declared.node.NodeRead.{NodeRead}
 use Rattle.rule.specs.declared.strategy.Strategy.{Strategy}
 use Rattle.rule.specs.declared.answer.RuleAnswer.the-variants as OfRule
 use Rattle.rule.specs.declared.answer.StrategyAnswer.the-variants as OfStrategy
+use Rattle.rule.specs.declared.answer.NullableAnswer.the-variants as OfNullable
 use Rattle.rule.specs.Tree.{Column}
 use Rattle.rule.specs.Constant.{constantFails}
 use Rattle.rule.specs.Reading.{readTree, readRule}
 use Rattle.rule.specs.Projection.{indexes}
-use Rattle.rule.specs.Answers.{ruleAnswer, strategyAnswer, columnsIn256, projectionAnswer}
+use Rattle.rule.specs.Answers.{ruleAnswer, strategyAnswer, nullableAnswer, columnsIn256, projectionAnswer}
 use Rattle.rule.specs.Seen.{SeenIs}
 use Rattle.rule.specs.Steps.{Gives, ReadGives, RuleRead}
-use Rattle.rule.specs.Walks.{FailsGives, StrategyGives}
+use Rattle.rule.specs.ConstantWalks.{FailsGives}
+use Rattle.rule.specs.AnswerWalks.{StrategyGives, RuleNullableGives}
 use Rattle.rule.proofs.ReadNode.{read-node, accepted-node}
 use Rattle.rule.proofs.StepLaws.{gives-read, was-refused, was-read, on-ok, on-refused, behind-refused}
 use Rattle.rule.proofs.ReadColumns.{tree-projection}
@@ -66,6 +68,11 @@ module _ (rule : List ℕ) (a : NodeRead) (h : Gives (RuleRead a) (readRule rule
     strategy-answer b r s =
         let (e, is, g) = was-read (readRule rule) h z in
         ap OfStrategy.By (s .is e (accepted-node rule e b is)) ∙ ap strategyAnswer (sym is)
+
+    pub nullable-answer : Bytes rule → (r : Bool) → RuleNullableGives rule r → OfNullable.Nullable r ≡ nullableAnswer (readRule rule)
+    nullable-answer b r s =
+        let (e, is, g) = was-read (readRule rule) h z in
+        ap OfNullable.Nullable (s .is e (accepted-node rule e b is)) ∙ ap nullableAnswer (sym is)
 
     pub projection-answer : (count : ℕ) (columns : List ℕ)
         → ((cols : List Column) → SeenIs cols (a .seen) → (count ≡ length (indexes cols)) × (columns ≡ columnsIn256 (indexes cols)))

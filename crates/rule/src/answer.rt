@@ -1,4 +1,5 @@
 // The public answers about a rule: each is a refusal number or what was asked.
+use crate::nullable::nullable_of;
 use crate::projection::projected;
 use crate::read::read_rule;
 use crate::strategy::Strategy;
@@ -6,7 +7,7 @@ use crate::strategy::strategy_of;
 use scalar::types::DataType;
 ghost use mathlib.Core.Path.{_≡_};
 ghost use Rattle.rule.specs.Reading.{readRule};
-ghost use Rattle.rule.specs.Answers.{ruleAnswer, strategyAnswer, projectionAnswer};
+ghost use Rattle.rule.specs.Answers.{ruleAnswer, strategyAnswer, nullableAnswer, projectionAnswer};
 
 // The reading of a rule: the result's type.
 pub enum RuleAnswer {
@@ -54,6 +55,17 @@ pub fn strategy(rule: &[u8]) -> StrategyAnswer
         return StrategyAnswer::Refused(r.refused);
     }
     StrategyAnswer::By(strategy_of(rule))
+}
+
+// Whether the answer of a rule is marked nullable.
+pub fn nullable(rule: &[u8]) -> NullableAnswer
+    ensures { λ r. ⌜ r ≡ nullableAnswer (readRule (now (rule .entry))) ⌝ }
+{
+    let r = read_rule(rule);
+    if r.refused != 0 {
+        return NullableAnswer::Refused(r.refused);
+    }
+    NullableAnswer::Nullable(nullable_of(rule))
 }
 
 // The projection of a rule.

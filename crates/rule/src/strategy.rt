@@ -1,6 +1,6 @@
 // How a CASE is evaluated, named as in the Rust.
-use crate::type_of::type_number;
 use crate::type_of::type_of;
+use crate::types::type_number;
 use crate::walk::behind_fields;
 use crate::walk::field_end;
 use layout::number::byte_at;

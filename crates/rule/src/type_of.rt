@@ -2,8 +2,6 @@
 use crate::walk::behind_fields;
 use layout::number::byte_at;
 use scalar::types::DataType;
-ghost use mathlib.Core.Path.{_≡_};
-ghost use Rattle.scalar.specs.Types.{typeNumber};
 ghost use Rattle.rule.specs.Walks.{NumberedGives, ThenGives, TypeGives};
 
 // The type of a number.
@@ -16,19 +14,6 @@ pub(crate) fn type_numbered(n: u8) -> DataType
         3 => DataType::Int64,
         4 => DataType::Float64,
         _ => DataType::Utf8,
-    }
-}
-
-// The number of a type.
-pub(crate) fn type_number(t: DataType) -> u8
-    ensures { λ r. ⌜ r ≡ typeNumber t ⌝ }
-{
-    match t {
-        DataType::Boolean => 1,
-        DataType::Int32 => 2,
-        DataType::Int64 => 3,
-        DataType::Float64 => 4,
-        DataType::Utf8 => 5,
     }
 }
 
