@@ -38,7 +38,7 @@ closed : (tag : ℕ) (content rest : List ℕ) (seen : List Column) (e : Expr) (
 closed tag content rest seen e r p q = (p ∙ ap (λ (x : Read Expr). bytesOf (x .tree)) (sym q), ap (λ (x : Read Expr). x .rest) q)
 
 -- with nothing behind it, a part is the whole
-alone : (bytes part rest : List ℕ) → bytes ≡ part ++ rest → rest ≡ [] → bytes ≡ part
+pub alone : (bytes part rest : List ℕ) → bytes ≡ part ++ rest → rest ≡ [] → bytes ≡ part
 alone bytes part rest p q = p ∙ ap (λ (l : List ℕ). part ++ l) q ∙ append-nil part
 
 -- three parts, one behind the other

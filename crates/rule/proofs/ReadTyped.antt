@@ -57,11 +57,11 @@ marked-typed true t value v h p = subst (λ (x : Entry). ofType t x ≡ true) (o
 marked-typed false t value v h p = value-typed t value v h p
 
 -- what is read is well-typed, and behind it are bytes
-abbrev Good : {A : Type 0} → (A → Bool) → Read A → Type 0
+abbrev pub Good : {A : Type 0} → (A → Bool) → Read A → Type 0
 Good typed r = (typed (r .tree) ≡ true) × Bytes (r .rest)
 
 -- a reader that reads well-typed trees out of bytes
-abbrev Typed : {A : Type 0} → (A → Bool) → Reader A → Type 0
+abbrev pub Typed : {A : Type 0} → (A → Bool) → Reader A → Type 0
 Typed typed read = (bytes : List ℕ) (seen : List Column) (r : Read _) → Bytes bytes → read bytes seen ≡ ok r → Good typed r
 
 -- a column or a literal
@@ -155,7 +155,7 @@ kind-good child ih cases aCase f seen r c h p =
     case-good (child (i .0)) (ih (i .0)) (f .content) c seen (f .rest) h r (i .2)
 
 -- a field
-field-good : (depth cases : ℕ) → Typed wellFormed (readField depth cases)
+pub field-good : (depth cases : ℕ) → Typed wellFormed (readField depth cases)
 field-good zero cases bytes seen r h p = let i = field-inv zero cases bytes seen r p in absurd (omega arith)
 field-good (suc depth) cases bytes seen r h p =
     let i = field-inv (suc depth) cases bytes seen r p in

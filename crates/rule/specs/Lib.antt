@@ -8,7 +8,12 @@ pub mod Typing
 pub mod WellFormed
 pub mod Node
 pub mod Reading
+pub mod Seen
+pub mod Steps
 pub mod Strategy
 pub mod Projection
 pub mod Nullable
 pub mod Answers
+pub mod Walks
+pub mod ConstantWalks
+pub mod AnswerWalks

@@ -1,0 +1,157 @@
+-- What the steps of the reading promise beside their definitions.
+use mathlib.Core.Path.{_≡_}
+use mathlib.Core.Bool.{Bool, true, false, cond, not, _&&_, _||_}
+use mathlib.Core.List.{List, _∷_}
+use Prim.Native.Nat.{ℕ, _<_}
+use lib.Dec.{eqb, ltb}
+use lib.ListN.{drop}
+use Rattle.layout.specs.Result.{Result, refused, ok, _>>=_, require}
+use Rattle.layout.specs.Field.{Field}
+use Rattle.scalar.specs.declared.types.DataType.{DataType}
+use Rattle.scalar.specs.declared.types.DataType.the-variants.{Boolean}
+use Rattle.scalar.specs.Types.{sameType, markNumbered}
+use Rattle.scalar.specs.Entry.{Entry, isNull}
+use Rattle.scalar.specs.Cast.{listed}
+use Rattle.rule.specs.declared.types.TypeAnswer.{TypeAnswer}
+use Rattle.rule.specs.declared.types.TypeAnswer.the-variants.{Known, Unknown}
+use Rattle.rule.specs.declared.seen.Seen.{Seen}
+use Rattle.rule.specs.declared.node.NodeRead.{NodeRead}
+use Rattle.rule.specs.declared.node.BranchesRead.{BranchesRead}
+use Rattle.rule.specs.Tree.{Column, Expr, column, negation, negative, isNotNull, cast, tryCast, equal, less, Branches, branch, Optional, isNullLiteral}
+use Rattle.rule.specs.Typing.{typeOf, resultType, whenType, branchesTyped, elseTyped}
+use Rattle.rule.specs.Projection.{indexes, projection}
+use Rattle.rule.specs.Reading.{Read, Reader, unlikeEarlier, markedValue, readColumn, readLiteral, readUnary, readCast, readBinary, readBranches, readLimitedCase}
+use Rattle.rule.specs.Seen.{SeenIs}
+
+-- the type of a number, or its refusal
+abbrev pub typeResult : TypeAnswer → Result DataType
+typeResult (Known t) = ok t
+typeResult Unknown = refused 3
+
+-- a type that is known, or else another
+abbrev pub typeOr : TypeAnswer → DataType → DataType
+typeOr (Known t) d = t
+typeOr Unknown d = d
+
+-- answers
+abbrev pub refusal : ℕ → Seen → NodeRead
+refusal n seen = record { refused = n; result = Boolean; null = false; next = 0; seen = seen }
+
+abbrev pub accepted : DataType → Bool → ℕ → Seen → NodeRead
+accepted t n next seen = record { refused = 0; result = t; null = n; next = next; seen = seen }
+
+-- a node behind its last child: bytes left over (3), then types that don't fit (7)
+abbrev pub closed : NodeRead → ℕ → Bool → DataType → ℕ → NodeRead
+closed last size fits t end =
+    cond (eqb (last .refused) 0)
+    (cond (ltb (last .next) size) (refusal 3 (last .seen)) (cond fits (accepted t false end (last .seen)) (refusal 7 (last .seen))))
+    last
+
+-- no branch, and one before later ones
+abbrev pub unbranched : TypeAnswer → ℕ → Seen → BranchesRead
+unbranched earlier next seen = record { refused = 0; result = typeOr earlier Boolean; fits = true; next = next; seen = seen }
+
+abbrev pub branched : DataType → DataType → DataType → BranchesRead → BranchesRead
+branched w when t later = record { refused = later .refused; result = later .result; fits = sameType w when && sameType t (later .result) && later .fits; next = later .next; seen = later .seen }
+
+-- the number of a refusal, or 0 and what was read
+pub record Gives {A : Type 0} (good : A → Type 0) (definition : Result A) (number : ℕ) : Type 0 where
+  pub refuses : (n : ℕ) → definition ≡ refused n → (number ≡ n) × (0 < n)
+  pub reads : (x : A) → definition ≡ ok x → (number ≡ 0) × good x
+
+-- where it ends, and the columns met
+pub record Behind {A : Type 0} (bytes : List ℕ) (next : ℕ) (seen : Seen) (x : Read A) : Type 0 where
+  pub rest-is : x .rest ≡ drop next bytes
+  pub seen-are : SeenIs (x .seen) seen
+
+-- a field: its type, and whether it is a null literal
+pub record FieldRead (bytes : List ℕ) (r : NodeRead) (x : Read Expr) : Type 0 where
+  pub type-is : r .result ≡ typeOf (x .tree)
+  pub null-is : r .null ≡ isNullLiteral (x .tree)
+  pub behind : Behind bytes (r .next) (r .seen) x
+
+abbrev pub ReadGives : List ℕ → Result (Read Expr) → NodeRead → Type 0
+ReadGives bytes definition r = Gives (FieldRead bytes r) definition (r .refused)
+
+-- a rule: its type, and that the columns met are those that it names
+pub record RuleRead (r : NodeRead) (e : Expr) : Type 0 where
+  pub type-is : r .result ≡ typeOf e
+  pub columns : List Column
+  pub columns-are : indexes columns ≡ projection e
+  pub seen-are : SeenIs columns (r .seen)
+
+-- a part that may be absent: a WHEN's type if it is a base, and whether it fits as an ELSE
+pub record OptionalRead (bytes : List ℕ) (r : NodeRead) (x : Read Optional) : Type 0 where
+  pub when-is : r .result ≡ whenType (x .tree)
+  pub else-is : (t : DataType) → (r .null || listed (r .result) t) ≡ elseTyped t (x .tree)
+  pub behind : Behind bytes (r .next) (r .seen) x
+
+-- branches: the type of their THENs, which may be known from earlier ones, and whether all types fit
+pub record BranchesAre (bytes : List ℕ) (when : DataType) (earlier : TypeAnswer) (r : BranchesRead) (x : Read Branches) : Type 0 where
+  pub result-is : r .result ≡ typeOr earlier (resultType (x .tree))
+  pub fits-is : r .fits ≡ branchesTyped when (r .result) (x .tree)
+  pub behind : Behind bytes (r .next) (r .seen) x
+
+-- a step promises this whatever columns the marks are of: one that reads a field, a part that may be absent, branches,
+abbrev pub FieldGives : List ℕ → Seen → (List Column → Result (Read Expr)) → NodeRead → Type 0
+FieldGives bytes seen definition r = (cols : List Column) → SeenIs cols seen → ReadGives bytes (definition cols) r
+
+abbrev pub OptionalGives : List ℕ → Seen → (List Column → Result (Read Optional)) → NodeRead → Type 0
+OptionalGives bytes seen definition r = (cols : List Column) → SeenIs cols seen → Gives (OptionalRead bytes r) (definition cols) (r .refused)
+
+abbrev pub BranchesGive : List ℕ → Seen → DataType → TypeAnswer → (List Column → Result (Read Branches)) → BranchesRead → Type 0
+BranchesGive bytes seen when earlier definition r = (cols : List Column) → SeenIs cols seen → Gives (BranchesAre bytes when earlier r) (definition cols) (r .refused)
+
+-- or the content of a field, which ends at a place of whatever its parent's bytes are
+abbrev pub NodeGives : ℕ → Seen → (List Column → List ℕ → Result (Read Expr)) → NodeRead → Type 0
+NodeGives end seen definition r = (cols : List Column) (outer : List ℕ) → SeenIs cols seen → ReadGives outer (definition cols (drop end outer)) r
+
+-- and a branch behind a WHEN that was read
+abbrev pub BranchGives : List ℕ → NodeRead → DataType → TypeAnswer → (Read Expr → Result (Read Branches)) → BranchesRead → Type 0
+BranchGives bytes w when earlier definition r = (x : Read Expr) → FieldRead bytes w x → Gives (BranchesAre bytes when earlier r) (definition x) (r .refused)
+
+-- a column behind its type: nullable, and that it is like the earlier ones
+unfoldable pub meetColumn : ℕ → DataType → ℕ → List Column → List ℕ → Result (Read Expr)
+meetColumn index t mark seen rest = do
+  n ← markNumbered 3 mark
+  let c : Column = record { index = index; type = t; nullable = n }
+  _ ← require (not (unlikeEarlier c seen)) 7
+  ok (record { tree = column c; seen = c ∷ seen; rest = rest })
+
+-- a literal's value behind its type, by its null mark
+unfoldable pub valueOf : DataType → ℕ → List ℕ → Result Entry
+valueOf t mark value = do
+  m ← markNumbered 3 mark
+  markedValue m t value
+
+-- whether the value is as it has to be; a null mark makes it null
+pub record ValueGives (mark : ℕ) (definition : Result Entry) (r : Bool) : Type 0 where
+  pub fitting : r ≡ true → (v : Entry) × (definition ≡ ok v) × (eqb mark 1 ≡ isNull v)
+  pub unfitting : r ≡ false → definition ≡ refused 3
+
+-- a branch behind its WHEN, and the later ones
+unfoldable pub readThen : Reader Expr → Expr → ℕ → Reader Branches
+readThen child w n bytes seen = do
+  t ← child bytes seen
+  bs ← readBranches child n (t .rest) (t .seen)
+  ok (record { tree = branch w (t .tree) (bs .tree); seen = bs .seen; rest = bs .rest })
+
+-- nodes by their tags
+abbrev pub unaryOf : ℕ → Expr → Expr
+unaryOf tag e = cond (eqb tag 18) (negation e) (cond (eqb tag 19) (negative e) (isNotNull e))
+
+abbrev pub castOf : ℕ → DataType → Expr → Expr
+castOf tag t e = cond (eqb tag 21) (cast t e) (tryCast t e)
+
+abbrev pub binaryOf : ℕ → Expr → Expr → Expr
+binaryOf tag a b = cond (eqb tag 23) (equal a b) (less a b)
+
+-- a field of a tag between 16 and 25
+unfoldable pub readTagged : (ℕ → Reader Expr) → ℕ → Field → List Column → Result (Read Expr)
+readTagged child cases f seen =
+    cond (eqb (f .tag) 16) (readColumn f seen)
+    (cond (eqb (f .tag) 17) (readLiteral f seen)
+    (cond (ltb (f .tag) 21) (readUnary (unaryOf (f .tag)) (child cases) (f .content) seen (f .rest))
+    (cond (ltb (f .tag) 23) (readCast (castOf (f .tag)) (child cases) (f .content) seen (f .rest))
+    (cond (ltb (f .tag) 25) (readBinary (binaryOf (f .tag)) (child cases) (f .content) seen (f .rest))
+    (readLimitedCase child cases (f .content) seen (f .rest))))))

@@ -1,0 +1,175 @@
+// What reading a field found, and a node behind its children.
+use crate::seen::Seen;
+use crate::types::TypeAnswer;
+use crate::types::is_listed;
+use crate::types::is_number;
+use crate::types::same_type;
+use crate::types::type_or;
+use scalar::types::DataType;
+ghost use mathlib.Core.Path.{_≡_};
+ghost use mathlib.Core.Bool.{_&&_, _||_};
+ghost use Rattle.scalar.specs.Types.{sameType};
+ghost use Rattle.scalar.specs.Cast.{listed};
+ghost use Rattle.rule.specs.Tree.{Expr};
+ghost use Rattle.rule.specs.Typing.{typeOf, nodeTyped};
+ghost use Rattle.rule.specs.Steps.{refusal, accepted, closed, unbranched, branched, unaryOf};
+
+// What reading a field found: the number with which it is refused (0: none), its type, whether it is a null literal, where it ends in
+// the slice, and the columns met.
+pub(crate) struct NodeRead {
+    pub(crate) refused: u8,
+    pub(crate) result: DataType,
+    pub(crate) null: bool,
+    pub(crate) next: usize,
+    pub(crate) seen: Seen,
+}
+
+// What reading branches found: the number with which they are refused (0: none), the type of their THENs, whether all types fit, where
+// they end, and the columns met.
+pub(crate) struct BranchesRead {
+    pub(crate) refused: u8,
+    pub(crate) result: DataType,
+    pub(crate) fits: bool,
+    pub(crate) next: usize,
+    pub(crate) seen: Seen,
+}
+
+// A refusal.
+pub(crate) fn refuse(n: u8, seen: Seen) -> NodeRead
+    ensures { λ r. ⌜ r ≡ refusal n seen ⌝ }
+{
+    NodeRead {
+        refused: n,
+        result: DataType::Boolean,
+        null: false,
+        next: 0,
+        seen,
+    }
+}
+
+// A field of a type that ends at a place.
+pub(crate) fn accept(result: DataType, null: bool, next: usize, seen: Seen) -> NodeRead
+    ensures { λ r. ⌜ r ≡ accepted result null next seen ⌝ }
+{
+    NodeRead {
+        refused: 0,
+        result,
+        null,
+        next,
+        seen,
+    }
+}
+
+// A node behind its last child, of so many bytes of content: bytes left over, then types that don't fit.
+pub(crate) fn close(
+    last: NodeRead,
+    size: usize,
+    fits: bool,
+    result: DataType,
+    end: usize,
+) -> NodeRead
+    ensures { λ r. ⌜ r ≡ closed last size fits result end ⌝ }
+{
+    if last.refused != 0 {
+        return last;
+    }
+    let seen = last.seen;
+    if last.next < size {
+        return refuse(3, seen);
+    }
+    if fits {
+        return accept(result, false, end, seen);
+    }
+    refuse(7, seen)
+}
+
+// Whether NOT, negative or IS NOT NULL takes a type.
+pub(crate) fn unary_fits(tag: u8, child: DataType) -> bool
+    ensures { λ r. ⌜ ((e : Expr) → child ≡ typeOf e → r ≡ nodeTyped (unaryOf tag e)) ⌝ }
+{
+    if tag == 18 {
+        return same_type(child, DataType::Boolean);
+    }
+    if tag == 19 {
+        return is_number(child);
+    }
+    true
+}
+
+// The type that it gives.
+pub(crate) fn unary_type(tag: u8, child: DataType) -> DataType
+    ensures { λ r. ⌜ ((e : Expr) → child ≡ typeOf e → r ≡ typeOf (unaryOf tag e)) ⌝ }
+{
+    if tag == 19 { child } else { DataType::Boolean }
+}
+
+// Whether a CASE's branches and its ELSE fit: a null literal fits any type.
+pub(crate) fn case_fits(branches: bool, null: bool, from: DataType, to: DataType) -> bool
+    ensures { λ r. ⌜ r ≡ (branches && (null || listed from to)) ⌝ }
+{
+    if branches {
+        if null {
+            return true;
+        }
+        return is_listed(from, to);
+    }
+    false
+}
+
+// Branches that are refused.
+pub(crate) fn refuse_branches(n: u8, seen: Seen) -> BranchesRead
+    ensures { λ r. ⌜ r .refused ≡ n ⌝ }
+{
+    BranchesRead {
+        refused: n,
+        result: DataType::Boolean,
+        fits: false,
+        next: 0,
+        seen,
+    }
+}
+
+// No branch.
+pub(crate) fn no_branches(earlier: TypeAnswer, next: usize, seen: Seen) -> BranchesRead
+    ensures { λ r. ⌜ r ≡ unbranched earlier next seen ⌝ }
+{
+    BranchesRead {
+        refused: 0,
+        result: type_or(earlier, DataType::Boolean),
+        fits: true,
+        next,
+        seen,
+    }
+}
+
+// Whether a branch fits, before later ones that do or don't.
+fn branch_fits(w: DataType, when: DataType, t: DataType, result: DataType, later: bool) -> bool
+    ensures { λ r. ⌜ r ≡ (sameType w when && sameType t result && later) ⌝ }
+{
+    if same_type(w, when) {
+        if same_type(t, result) {
+            return later;
+        }
+    }
+    false
+}
+
+// A branch before later ones.
+pub(crate) fn add_branch(
+    w: DataType,
+    when: DataType,
+    t: DataType,
+    later: BranchesRead,
+) -> BranchesRead
+    ensures { λ r. ⌜ r ≡ branched w when t later ⌝ }
+{
+    let result = later.result;
+    let seen = later.seen;
+    BranchesRead {
+        refused: later.refused,
+        result,
+        fits: branch_fits(w, when, t, result, later.fits),
+        next: later.next,
+        seen,
+    }
+}

@@ -1,0 +1,347 @@
+// Reading a rule, front to back. Each function follows a definition of specs/Reading.antt and needs no buffer.
+use crate::fails::constant_fails;
+use crate::leaf::read_column;
+use crate::leaf::read_literal;
+use crate::node::BranchesRead;
+use crate::node::NodeRead;
+use crate::node::accept;
+use crate::node::add_branch;
+use crate::node::case_fits;
+use crate::node::close;
+use crate::node::no_branches;
+use crate::node::refuse;
+use crate::node::refuse_branches;
+use crate::node::unary_fits;
+use crate::node::unary_type;
+use crate::seen::Seen;
+use crate::seen::none_seen;
+use crate::types::TypeAnswer;
+use crate::types::is_listed;
+use crate::types::same_type;
+use crate::types::type_numbered;
+use crate::types::type_or;
+use layout::field::Header;
+use layout::field::field_at;
+use layout::part::part_of;
+use scalar::types::DataType;
+ghost use lib.ListN.{drop};
+ghost use Rattle.rule.specs.Reading.{readUnary, readCast, readBinary, readLimitedCase, readParts, readOptional, readBranches, readField, readRoot, readTree, readRule};
+ghost use Rattle.rule.specs.Steps.{Gives, ReadGives, RuleRead, FieldGives, OptionalGives, BranchesGive, NodeGives, BranchGives, readThen, unaryOf, castOf, binaryOf, readTagged};
+
+// The field at a place of a slice; so much depth and so many CASEs are left on the path.
+fn read_field(s: &[u8], at: usize, depth: usize, cases: usize, seen: Seen) -> NodeRead
+    ensures { λ r. ⌜ FieldGives (now (s .entry)) seen (readField depth cases (drop at (now (s .entry)))) r ⌝ }
+{
+    match field_at(s, at) {
+        Header::Found(f) => {
+            let tag = f.tag;
+            if tag < 16 {
+                return refuse(3, seen);
+            }
+            if 25 < tag {
+                return refuse(3, seen);
+            }
+            if depth == 0 {
+                return refuse(4, seen);
+            }
+            let content = part_of(s, f.start, f.end);
+            read_kind(content, tag, f.end, depth - 1, cases, seen)
+        }
+        Header::Cut => refuse(2, seen),
+    }
+}
+
+// A field of a tag from 16 to 25 by its content; it ends at a place of its parent.
+fn read_kind(
+    content: &[u8],
+    tag: u8,
+    end: usize,
+    depth: usize,
+    cases: usize,
+    seen: Seen,
+) -> NodeRead
+    ensures { λ r. ⌜ NodeGives end seen (λ cols rest. readTagged (readField depth) cases (record { tag = tag; content = now (content .entry); rest = rest }) cols) r ⌝ }
+{
+    if tag == 16 {
+        return read_column(content, end, seen);
+    }
+    if tag == 17 {
+        return read_literal(content, end, seen);
+    }
+    if tag < 21 {
+        return read_unary(content, tag, end, depth, cases, seen);
+    }
+    if tag < 23 {
+        return read_cast(content, tag, end, depth, cases, seen);
+    }
+    if tag < 25 {
+        return read_binary(content, tag, end, depth, cases, seen);
+    }
+    read_case(content, end, depth, cases, seen)
+}
+
+// NOT, negative or IS NOT NULL: one child.
+fn read_unary(
+    content: &[u8],
+    tag: u8,
+    end: usize,
+    depth: usize,
+    cases: usize,
+    seen: Seen,
+) -> NodeRead
+    ensures { λ r. ⌜ NodeGives end seen (readUnary (unaryOf tag) (readField depth cases) (now (content .entry))) r ⌝ }
+{
+    let a = read_field(content, 0, depth, cases, seen);
+    let t = a.result;
+    close(
+        a,
+        content.len(),
+        unary_fits(tag, t),
+        unary_type(tag, t),
+        end,
+    )
+}
+
+// Cast or try-cast: target type byte, one child.
+fn read_cast(
+    content: &[u8],
+    tag: u8,
+    end: usize,
+    depth: usize,
+    cases: usize,
+    seen: Seen,
+) -> NodeRead
+    ensures { λ r. ⌜ NodeGives end seen (readCast (castOf tag) (readField depth cases) (now (content .entry))) r ⌝ }
+{
+    if content.len() == 0 {
+        return refuse(3, seen);
+    }
+    match type_numbered(content[0]) {
+        TypeAnswer::Known(t) => {
+            let a = read_field(content, 1, depth, cases, seen);
+            let from = a.result;
+            close(a, content.len(), is_listed(from, t), t, end)
+        }
+        TypeAnswer::Unknown => refuse(3, seen),
+    }
+}
+
+// Equal or less: two children.
+fn read_binary(
+    content: &[u8],
+    tag: u8,
+    end: usize,
+    depth: usize,
+    cases: usize,
+    seen: Seen,
+) -> NodeRead
+    ensures { λ r. ⌜ NodeGives end seen (readBinary (binaryOf tag) (readField depth cases) (now (content .entry))) r ⌝ }
+{
+    let a = read_field(content, 0, depth, cases, seen);
+    if a.refused != 0 {
+        return a;
+    }
+    let met = a.seen;
+    let b = read_field(content, a.next, depth, cases, met);
+    let first = a.result;
+    let second = b.result;
+    close(
+        b,
+        content.len(),
+        same_type(first, second),
+        DataType::Boolean,
+        end,
+    )
+}
+
+// CASE: flags and branch count, then its parts.
+fn read_case(content: &[u8], end: usize, depth: usize, cases: usize, seen: Seen) -> NodeRead
+    ensures { λ r. ⌜ NodeGives end seen (readLimitedCase (readField depth) cases (now (content .entry))) r ⌝ }
+{
+    if cases == 0 {
+        return refuse(4, seen);
+    }
+    if content.len() < 2 {
+        return refuse(3, seen);
+    }
+    let flags = content[0];
+    let count = content[1];
+    if 3 < flags {
+        return refuse(3, seen);
+    }
+    if count == 0 {
+        return refuse(5, seen);
+    }
+    if 32 < count {
+        return refuse(6, seen);
+    }
+    read_parts(content, flags, count, end, depth, cases - 1, seen)
+}
+
+// The parts of a CASE: base, WHEN and THEN in turn, ELSE.
+fn read_parts(
+    content: &[u8],
+    flags: u8,
+    count: u8,
+    end: usize,
+    depth: usize,
+    cases: usize,
+    seen: Seen,
+) -> NodeRead
+    ensures { λ r. ⌜ NodeGives end seen (readParts (readField depth cases) flags count (drop 2 (now (content .entry)))) r ⌝ }
+{
+    let b = read_optional(content, 2, flags % 2 == 1, depth, cases, seen);
+    if b.refused != 0 {
+        return b;
+    }
+    let when = b.result;
+    let before = b.seen;
+    let bs = read_branches(
+        content,
+        b.next,
+        count,
+        when,
+        TypeAnswer::Unknown,
+        depth,
+        cases,
+        before,
+    );
+    let met = bs.seen;
+    if bs.refused != 0 {
+        return refuse(bs.refused, met);
+    }
+    let e = read_optional(content, bs.next, 2 <= flags, depth, cases, met);
+    let from = e.result;
+    let result = bs.result;
+    close(
+        e,
+        content.len(),
+        case_fits(bs.fits, e.null, from, result),
+        result,
+        end,
+    )
+}
+
+// A part that may be absent: absent, it is as a null literal of type Boolean.
+fn read_optional(
+    s: &[u8],
+    at: usize,
+    there: bool,
+    depth: usize,
+    cases: usize,
+    seen: Seen,
+) -> NodeRead
+    ensures { λ r. ⌜ OptionalGives (now (s .entry)) seen (readOptional there (readField depth cases) (drop at (now (s .entry)))) r ⌝ }
+{
+    if there {
+        return read_field(s, at, depth, cases, seen);
+    }
+    accept(DataType::Boolean, true, at, seen)
+}
+
+// So many branches; the type of a THEN may be known from earlier ones.
+fn read_branches(
+    s: &[u8],
+    at: usize,
+    count: u8,
+    when: DataType,
+    earlier: TypeAnswer,
+    depth: usize,
+    cases: usize,
+    seen: Seen,
+) -> BranchesRead
+    ensures { λ r. ⌜ BranchesGive (now (s .entry)) seen when earlier (readBranches (readField depth cases) count (drop at (now (s .entry)))) r ⌝ }
+{
+    if count == 0 {
+        return no_branches(earlier, at, seen);
+    }
+    let w = read_field(s, at, depth, cases, seen);
+    if w.refused != 0 {
+        return refuse_branches(w.refused, seen);
+    }
+    read_then(s, w, count - 1, when, earlier, depth, cases)
+}
+
+// A branch behind its WHEN, and so many later ones.
+fn read_then(
+    s: &[u8],
+    w: NodeRead,
+    count: u8,
+    when: DataType,
+    earlier: TypeAnswer,
+    depth: usize,
+    cases: usize,
+) -> BranchesRead
+    ensures { λ r. ⌜ BranchGives (now (s .entry)) w when earlier (λ x. readThen (readField depth cases) (x .tree) count (x .rest) (x .seen)) r ⌝ }
+{
+    let before = w.seen;
+    let t = read_field(s, w.next, depth, cases, before);
+    let met = t.seen;
+    if t.refused != 0 {
+        return refuse_branches(t.refused, met);
+    }
+    let own = t.result;
+    let result = type_or(earlier, own);
+    let later = read_branches(
+        s,
+        t.next,
+        count,
+        when,
+        TypeAnswer::Known(result),
+        depth,
+        cases,
+        met,
+    );
+    let tested = w.result;
+    add_branch(tested, when, own, later)
+}
+
+// The root of a rule: a CASE.
+fn read_root(rule: &[u8]) -> NodeRead
+    ensures { λ r. ⌜ ReadGives (now (rule .entry)) (readRoot (now (rule .entry))) r ⌝ }
+{
+    let seen = none_seen();
+    match field_at(rule, 0) {
+        Header::Found(f) => {
+            if f.tag != 25 {
+                return refuse(3, seen);
+            }
+            read_field(rule, 0, 8, 3, seen)
+        }
+        Header::Cut => refuse(2, seen),
+    }
+}
+
+// A rule but for its constant casts: one CASE field of at most 4,096 bytes, with no byte after it.
+pub(crate) fn read_tree(rule: &[u8]) -> NodeRead
+    ensures { λ r. ⌜ ReadGives (now (rule .entry)) (readTree (now (rule .entry))) r ⌝ }
+{
+    if rule.len() == 0 {
+        return refuse(1, none_seen());
+    }
+    if 4096 < rule.len() {
+        return refuse(1, none_seen());
+    }
+    let r = read_root(rule);
+    if r.refused != 0 {
+        return r;
+    }
+    if r.next < rule.len() {
+        return refuse(3, none_seen());
+    }
+    r
+}
+
+// A rule: its tree, and that no constant cast fails.
+pub(crate) fn read_rule(rule: &[u8]) -> NodeRead
+    ensures { λ r. ⌜ Gives (RuleRead r) (readRule (now (rule .entry))) (r .refused) ⌝ }
+{
+    let r = read_tree(rule);
+    if r.refused != 0 {
+        return r;
+    }
+    if constant_fails(rule) {
+        return refuse(8, none_seen());
+    }
+    r
+}

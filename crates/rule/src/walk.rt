@@ -1,0 +1,47 @@
+// Steps over the fields of a rule. On a place that holds no field each goes on, to anywhere.
+use layout::field::Header;
+use layout::field::field_at;
+ghost use Rattle.rule.specs.Walks.{EndGives, ChildrenGives, BehindGives};
+
+// Where the field at a place ends.
+pub fn field_end(rule: &[u8], at: usize) -> usize
+    ensures { λ r. ⌜ EndGives (now (rule .entry)) at r ⌝ }
+{
+    if rule.len() <= at {
+        return at;
+    }
+    match field_at(rule, at) {
+        Header::Found(p) => p.end,
+        Header::Cut => rule.len(),
+    }
+}
+
+// Where a node's children stand: behind its header, a type byte of a cast, flags and count of a CASE; a leaf has none.
+pub fn children_at(rule: &[u8], at: usize) -> usize
+    ensures { λ r. ⌜ ChildrenGives (now (rule .entry)) at r ⌝ }
+{
+    if rule.len() <= at {
+        return at;
+    }
+    match rule[at] {
+        16 => field_end(rule, at),
+        17 => field_end(rule, at),
+        21 => at + 4,
+        22 => at + 4,
+        25 => at + 5,
+        _ => at + 3,
+    }
+}
+
+// What stands behind so many fields.
+pub fn behind_fields(rule: &[u8], at: usize, count: usize) -> usize
+    ensures { λ r. ⌜ BehindGives (now (rule .entry)) at count r ⌝ }
+{
+    let mut place = at;
+    let mut left = count;
+    while left > 0 {
+        place = field_end(rule, place);
+        left -= 1;
+    }
+    place
+}
