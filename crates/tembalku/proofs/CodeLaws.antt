@@ -1,0 +1,35 @@
+-- Answers as one number. Assumes nothing.
+use mathlib.Core.Path.{_≡_, refl, sym, ap, _∙_}
+use Prim.Native.Nat.{ℕ, _+_, _≤_}
+use native.Mathlib.Omega.{arith}
+use Rattle.layout.specs.Result.{Result, refused, ok}
+use Rattle.scalar.specs.declared.types.DataType.{DataType}
+use Rattle.scalar.specs.declared.types.DataType.the-variants.{Boolean, Int32, Int64, Float64, Utf8}
+use Rattle.scalar.specs.Types.{typeNumber}
+use Rattle.rule.specs.declared.answer.RuleAnswer.{RuleAnswer}
+use Rattle.rule.specs.declared.answer.RuleAnswer.the-variants.{Accepted, Refused}
+use Rattle.rule.specs.Tree.{Expr}
+use Rattle.rule.specs.Answers.{ruleAnswer}
+use Rattle.tembalku.specs.Codes.{ruleCode}
+
+-- a type's number is small
+pub type-small : (t : DataType) → typeNumber t ≤ 5
+type-small Boolean = omega arith
+type-small Int32 = omega arith
+type-small Int64 = omega arith
+type-small Float64 = omega arith
+type-small Utf8 = omega arith
+
+-- a rule that is refused
+pub code-refused : (d : Result Expr) (n : ℕ) → Refused n ≡ ruleAnswer d → n ≡ ruleCode d
+code-refused (refused m) n e = cc
+code-refused (ok x) n e = let z : _≡_ {A = ℕ} 0 1 = cc in absurd (omega arith)
+
+-- one type
+accepted-injective : {a b : DataType} → Accepted a ≡ Accepted b → a ≡ b
+accepted-injective q = cc
+
+-- a rule that is accepted
+pub code-accepted : (d : Result Expr) (t : DataType) (k : ℕ) → Accepted t ≡ ruleAnswer d → k ≡ typeNumber t → 256 + k ≡ ruleCode d
+code-accepted (refused m) t k e p = let z : _≡_ {A = ℕ} 0 1 = cc in absurd (omega arith)
+code-accepted (ok x) t k e p = ap (λ (n : ℕ). 256 + n) (p ∙ ap typeNumber (accepted-injective e))

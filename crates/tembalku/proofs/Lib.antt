@@ -1,0 +1,2 @@
+-- The laws of `tembalku`.
+pub mod CodeLaws

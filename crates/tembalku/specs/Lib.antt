@@ -1,0 +1,2 @@
+-- The definitions of `tembalku`.
+pub mod Codes
