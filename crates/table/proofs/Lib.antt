@@ -1,3 +1,4 @@
 -- The laws of `table`.
 pub mod TableInversions
 pub mod TableTyped
+pub mod PartsLaws

@@ -1,0 +1,55 @@
+-- What the answers of the reading's steps say, given the table's bytes.
+use mathlib.Core.Path.{_≡_}
+use mathlib.Core.List.{List}
+use Prim.Native.Nat.{ℕ, zero, suc, _≤_}
+use lib.ListN.{length, drop}
+use lib.Dec.{eqb}
+use Rattle.layout.specs.Result.{Result, refused, ok, _>>=_, require}
+use Rattle.layout.specs.Bytes.{part}
+use Rattle.layout.specs.Field.{Field}
+use Rattle.table.specs.declared.part.PartAnswer.{PartAnswer}
+use Rattle.table.specs.declared.part.PartAnswer.the-variants.{At, Refused}
+use Rattle.table.specs.declared.column.ColumnAnswer.{ColumnAnswer}
+use Rattle.table.specs.Column.{TableColumn}
+use Rattle.table.specs.Reading.{Part, tagged}
+use Rattle.table.specs.Places.{columnIn, Inside, ColumnInside}
+
+-- a field of a tag by its place
+abbrev pub fieldMeans : List ℕ → ℕ → PartAnswer → Result Field
+fieldMeans bytes tag (At start end) = ok (record { tag = tag; content = part bytes start end; rest = drop end bytes })
+fieldMeans bytes tag (Refused n) = refused n
+
+-- a part by its place
+abbrev pub partMeans : List ℕ → PartAnswer → Result (Part (List ℕ))
+partMeans bytes (At start end) = ok (record { part = part bytes start end; rest = drop end bytes })
+partMeans bytes (Refused n) = refused n
+
+-- the place lies in the bytes
+abbrev pub PartInside : ℕ → PartAnswer → Type 0
+PartInside size (At start end) = Inside size start end
+PartInside size (Refused n) = Unit {0}
+
+pub record FieldGives (bytes : List ℕ) (tag : ℕ) (definition : Result Field) (r : PartAnswer) : Type 0 where
+  pub says : fieldMeans bytes tag r ≡ definition
+  pub inside : PartInside (length bytes) r
+
+pub record PartGives (bytes : List ℕ) (definition : Result (Part (List ℕ))) (r : PartAnswer) : Type 0 where
+  pub says : partMeans bytes r ≡ definition
+  pub inside : PartInside (length bytes) r
+
+-- a column by its places: 0 is read, any other number a refusal
+abbrev pub columnMeans : List ℕ → ℕ → ColumnAnswer → Result (Part TableColumn)
+columnMeans bytes zero r = ok (record { part = columnIn bytes (r .place); rest = drop (r .next) bytes })
+columnMeans bytes (suc n) r = refused (suc n)
+
+pub record ColumnGives (bytes : List ℕ) (definition : Result (Part TableColumn)) (r : ColumnAnswer) : Type 0 where
+  pub says : columnMeans bytes (r .refused) r ≡ definition
+  pub inside : r .refused ≡ 0 → ColumnInside (length bytes) (r .place)
+  pub ends : r .refused ≡ 0 → r .next ≤ length bytes
+
+-- tag 4 of a length, else 11
+unfoldable pub valuesOfLength : ℕ → List ℕ → Result (Part (List ℕ))
+valuesOfLength size bytes = do
+  f ← tagged 4 bytes
+  _ ← require (eqb (length (f .content)) size) 11
+  ok (record { part = f .content; rest = f .rest })
