@@ -81,3 +81,66 @@ module _ (l : List ℕ) (at tag : ℕ) (r : PartAnswer) (g : FieldGives l tag (t
       let i = field-inside l tag (tagged tag (drop at l)) r g start end e in
       let size : length (part l start end) ≡ 2 → ⊥ = λ q. n (sym (inside-length l start end i) ∙ q) in
       record { says = sym (behind-field l tag (tagged tag (drop at l)) r g _ start end e ∙ simp (ne-eqb _ _ size)); inside = tt }
+
+-- ---- parts
+
+-- a part of a column behind its tag, if its length passes a test
+abbrev partBehind : (ℕ → Bool) → Field → Result (Part (List ℕ))
+partBehind test f = require (test (length (f .content))) 11 >>= λ _. ok (record { part = f .content; rest = f .rest })
+
+module _ (l : List ℕ) (at tag : ℕ) (r : PartAnswer) (g : FieldGives l tag (tagged tag (drop at l)) r) (test : ℕ → Bool)
+    (definition : Result (Part (List ℕ))) (is : definition ≡ (tagged tag (drop at l) >>= partBehind test)) where
+  part-refused : (n : ℕ) → r ≡ Refused n → PartGives l definition (Refused n)
+  part-refused n e = record { says = sym (is ∙ behind-refused l tag (tagged tag (drop at l)) r g _ n e); inside = tt }
+
+  part-taken : (begin end : ℕ) → r ≡ At begin end → test (end - begin) ≡ true → PartGives l definition (At begin end)
+  part-taken begin end e t =
+      let i = field-inside l tag (tagged tag (drop at l)) r g begin end e in
+      let t′ : test (length (part l begin end)) ≡ true = ap test (inside-length l begin end i) ∙ t in
+      record { says = sym (is ∙ behind-field l tag (tagged tag (drop at l)) r g _ begin end e ∙ simp t′); inside = i }
+
+  part-left : (begin end : ℕ) → r ≡ At begin end → test (end - begin) ≡ false → PartGives l definition (Refused 11)
+  part-left begin end e t =
+      let i = field-inside l tag (tagged tag (drop at l)) r g begin end e in
+      let t′ : test (length (part l begin end)) ≡ false = ap test (inside-length l begin end i) ∙ t in
+      record { says = sym (is ∙ behind-field l tag (tagged tag (drop at l)) r g _ begin end e ∙ simp t′); inside = tt }
+
+-- tag 3
+abbrev validityTest : ℕ → ℕ → Bool
+validityTest rows n = eqb n 0 || eqb n (bitmapLength rows)
+
+module _ (l : List ℕ) (at rows : ℕ) (r : PartAnswer) (g : FieldGives l 3 (tagged 3 (drop at l)) r) where
+  validity-is : readValidity rows (drop at l) ≡ (tagged 3 (drop at l) >>= partBehind (validityTest rows))
+  unfolding readValidity
+  validity-is = refl
+
+  pub validity-refused : (n : ℕ) → r ≡ Refused n → PartGives l (readValidity rows (drop at l)) (Refused n)
+  validity-refused = part-refused l at 3 r g (validityTest rows) (readValidity rows (drop at l)) validity-is
+
+  pub validity-none : (begin end : ℕ) → r ≡ At begin end → end - begin ≡ 0 → PartGives l (readValidity rows (drop at l)) (At begin end)
+  validity-none begin end e z = part-taken l at 3 r g (validityTest rows) (readValidity rows (drop at l)) validity-is begin end e (simp (eq-eqb _ _ z))
+
+  pub validity-bits : (begin end : ℕ) → r ≡ At begin end → (end - begin ≡ 0 → ⊥) → end - begin ≡ bitmapLength rows
+      → PartGives l (readValidity rows (drop at l)) (At begin end)
+  validity-bits begin end e n q =
+      part-taken l at 3 r g (validityTest rows) (readValidity rows (drop at l)) validity-is begin end e (simp (ne-eqb _ _ n, eq-eqb _ _ q))
+
+  pub validity-other : (begin end : ℕ) → r ≡ At begin end → (end - begin ≡ 0 → ⊥) → (end - begin ≡ bitmapLength rows → ⊥)
+      → PartGives l (readValidity rows (drop at l)) (Refused 11)
+  validity-other begin end e n m =
+      part-left l at 3 r g (validityTest rows) (readValidity rows (drop at l)) validity-is begin end e (simp (ne-eqb _ _ n, ne-eqb _ _ m))
+
+-- tag 4
+module _ (l : List ℕ) (at size : ℕ) (r : PartAnswer) (g : FieldGives l 4 (tagged 4 (drop at l)) r) where
+  values-is : valuesOfLength size (drop at l) ≡ (tagged 4 (drop at l) >>= partBehind (λ n. eqb n size))
+  unfolding valuesOfLength
+  values-is = refl
+
+  pub values-refused : (n : ℕ) → r ≡ Refused n → PartGives l (valuesOfLength size (drop at l)) (Refused n)
+  values-refused = part-refused l at 4 r g (λ n. eqb n size) (valuesOfLength size (drop at l)) values-is
+
+  pub values-taken : (begin end : ℕ) → r ≡ At begin end → end - begin ≡ size → PartGives l (valuesOfLength size (drop at l)) (At begin end)
+  values-taken begin end e q = part-taken l at 4 r g (λ n. eqb n size) (valuesOfLength size (drop at l)) values-is begin end e (eq-eqb _ _ q)
+
+  pub values-other : (begin end : ℕ) → r ≡ At begin end → (end - begin ≡ size → ⊥) → PartGives l (valuesOfLength size (drop at l)) (Refused 11)
+  values-other begin end e n = part-left l at 4 r g (λ n. eqb n size) (valuesOfLength size (drop at l)) values-is begin end e (ne-eqb _ _ n)

@@ -34,8 +34,8 @@ pub(crate) fn tagged_pair(bytes: &[u8], at: usize, tag: u8) -> PartAnswer
 {
     match tagged_field(bytes, at, tag) {
         PartAnswer::Refused(n) => PartAnswer::Refused(n),
-        PartAnswer::At(start, end) => if end - start == 2 {
-            PartAnswer::At(start, end)
+        PartAnswer::At(begin, end) => if end - begin == 2 {
+            PartAnswer::At(begin, end)
         } else {
             PartAnswer::Refused(9)
         },
@@ -48,13 +48,13 @@ pub(crate) fn validity_part(bytes: &[u8], at: usize, rows: usize) -> PartAnswer
 {
     match tagged_field(bytes, at, 3) {
         PartAnswer::Refused(n) => PartAnswer::Refused(n),
-        PartAnswer::At(start, end) => {
-            let size = end - start;
+        PartAnswer::At(begin, end) => {
+            let size = end - begin;
             if size == 0 {
-                return PartAnswer::At(start, end);
+                return PartAnswer::At(begin, end);
             }
             if size == bitmap_length(rows) {
-                PartAnswer::At(start, end)
+                PartAnswer::At(begin, end)
             } else {
                 PartAnswer::Refused(11)
             }
@@ -89,16 +89,16 @@ pub(crate) fn text_offsets_part(bytes: &[u8], at: usize, rows: usize) -> PartAns
 {
     match tagged_field(bytes, at, 5) {
         PartAnswer::Refused(n) => PartAnswer::Refused(n),
-        PartAnswer::At(start, end) => {
-            if end - start != 4 * (rows + 1) {
+        PartAnswer::At(begin, end) => {
+            if end - begin != 4 * (rows + 1) {
                 return PartAnswer::Refused(11);
             }
-            let offsets = &bytes[start..end];
+            let offsets = &bytes[begin..end];
             if read_u32(offsets, 0) != 0 {
                 return PartAnswer::Refused(11);
             }
             if never_falls(offsets, rows) {
-                PartAnswer::At(start, end)
+                PartAnswer::At(begin, end)
             } else {
                 PartAnswer::Refused(11)
             }
@@ -140,8 +140,8 @@ pub(crate) fn values_part(bytes: &[u8], at: usize, size: usize) -> PartAnswer
 {
     match tagged_field(bytes, at, 4) {
         PartAnswer::Refused(n) => PartAnswer::Refused(n),
-        PartAnswer::At(start, end) => if end - start == size {
-            PartAnswer::At(start, end)
+        PartAnswer::At(begin, end) => if end - begin == size {
+            PartAnswer::At(begin, end)
         } else {
             PartAnswer::Refused(11)
         },

@@ -1,3 +1,7 @@
+use mathlib.Core.Path.{_≡_, refl, sym, ap, subst, _∙_}
+use native.Mathlib.Omega.{arith}
+use denote.Ref.{now}
+use Rattle.table.proofs.PartsLaws.{field-cut, field-found, field-other}
 use borrow.Author.Needs.{needs}
 use Rattle.table.proofs.part.tagged_field.Statement.{statement}
 use Rattle.table.proofs.part.tagged_field.Tie as tie
@@ -19,15 +23,15 @@ enum-known-f c = search needs
 
 -- src/part.rt:22:1
 returns : tie.Need-returns
-returns c = ?
+returns c = field-cut (now (c .before .before .before .before .args .bytes)) (c .before .before .before .before .args .at) (c .before .before .before .before .args .tag) (sym (c .before .before .field-at .ensures) ∙ c .enum-told .given .1)
 
 -- src/part.rt:22:1
 returns-2 : tie.Need-returns-2
-returns-2 c = ?
+returns-2 c = field-found (now (c .before .before .before .before .before .before .before .args .bytes)) (c .before .before .before .before .before .before .before .args .at) (c .before .before .before .before .before .before .before .args .tag) (c .before .before .before .f .given .0 .0) (sym (c .before .before .before .before .before .field-at .ensures) ∙ c .before .before .before .f .given .1) (c .if1 .taken)
 
 -- src/part.rt:22:1
 returns-3 : tie.Need-returns-3
-returns-3 c = ?
+returns-3 c = field-other (now (c .before .before .before .before .before .before .before .args .bytes)) (c .before .before .before .before .before .before .before .args .at) (c .before .before .before .before .before .before .before .args .tag) (c .before .before .before .f .given .0 .0) (sym (c .before .before .before .before .before .field-at .ensures) ∙ c .before .before .before .f .given .1) (c .if1 .left)
 
 pub tagged-field-spec : {M : Type 1} → statement M
 tagged-field-spec =
