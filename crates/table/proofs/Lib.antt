@@ -1,4 +1,5 @@
 -- The laws of `table`.
 pub mod TableInversions
 pub mod TableTyped
+pub mod OffsetLaws
 pub mod PartsLaws
