@@ -17,7 +17,9 @@ use Rattle.layout.proofs.PlaceLaws.{FieldThere, place-cut, place-found}
 use Rattle.layout.proofs.PartLaws.{length-part}
 use Rattle.table.specs.declared.part.PartAnswer.{PartAnswer}
 use Rattle.table.specs.declared.part.PartAnswer.the-variants.{At, Refused}
-use Rattle.table.specs.Reading.{Part, tagged, taggedPair, readValidity}
+use Rattle.scalar.specs.declared.types.DataType.{DataType}
+use Rattle.table.specs.Column.{offsetAt}
+use Rattle.table.specs.Reading.{Part, tagged, taggedPair, readValidity, neverFalls, readTextOffsets, readOffsets}
 use Rattle.table.specs.Places.{Inside}
 use Rattle.table.specs.Parts.{FieldGives, PartGives, fieldMeans, partMeans, PartInside, valuesOfLength}
 
@@ -144,3 +146,61 @@ module _ (l : List ℕ) (at size : ℕ) (r : PartAnswer) (g : FieldGives l 4 (ta
 
   pub values-other : (begin end : ℕ) → r ≡ At begin end → (end - begin ≡ size → ⊥) → PartGives l (valuesOfLength size (drop at l)) (Refused 11)
   values-other begin end e n = part-left l at 4 r g (λ n. eqb n size) (valuesOfLength size (drop at l)) values-is begin end e (ne-eqb _ _ n)
+
+-- tag 5
+abbrev offsetsBehind : ℕ → Field → Result (Part (List ℕ))
+offsetsBehind rows f =
+    require (eqb (length (f .content)) (4 * suc rows)) 11 >>= λ _. require (eqb (offsetAt (f .content) 0) 0) 11
+    >>= λ _. require (neverFalls rows (f .content)) 11 >>= λ _. ok (record { part = f .content; rest = f .rest })
+
+module _ (l : List ℕ) (at rows : ℕ) (r : PartAnswer) (g : FieldGives l 5 (tagged 5 (drop at l)) r) where
+  offsets-is : readTextOffsets rows (drop at l) ≡ (tagged 5 (drop at l) >>= offsetsBehind rows)
+  unfolding readTextOffsets
+  offsets-is = refl
+
+  pub offsets-refused : (n : ℕ) → r ≡ Refused n → PartGives l (readTextOffsets rows (drop at l)) (Refused n)
+  offsets-refused n e = record { says = sym (offsets-is ∙ behind-refused l 5 (tagged 5 (drop at l)) r g _ n e); inside = tt }
+
+  module _ (begin end : ℕ) (e : r ≡ At begin end) where
+    -- what the tests behind tag 5 say
+    offsets-behind : (d : Result (Part (List ℕ))) → offsetsBehind rows (record { tag = 5; content = part l begin end; rest = drop end l }) ≡ d
+        → d ≡ readTextOffsets rows (drop at l)
+    offsets-behind d q = sym (offsets-is ∙ behind-field l 5 (tagged 5 (drop at l)) r g _ begin end e ∙ q)
+
+    offsets-size : length (part l begin end) ≡ end - begin
+    offsets-size = inside-length l begin end (field-inside l 5 (tagged 5 (drop at l)) r g begin end e)
+
+    pub offsets-length : (end - begin ≡ 4 * (rows + 1) → ⊥) → PartGives l (readTextOffsets rows (drop at l)) (Refused 11)
+    offsets-length n =
+        let n′ : length (part l begin end) ≡ 4 * suc rows → ⊥ = λ q. n (sym offsets-size ∙ q ∙ omega arith) in
+        record { says = offsets-behind (refused 11) (simp (ne-eqb _ _ n′)); inside = tt }
+
+    module _ (size : end - begin ≡ 4 * (rows + 1)) where
+      long : length (part l begin end) ≡ 4 * suc rows
+      long = offsets-size ∙ size ∙ omega arith
+
+      pub offsets-first : (offsetAt (part l begin end) 0 ≡ 0 → ⊥) → PartGives l (readTextOffsets rows (drop at l)) (Refused 11)
+      offsets-first n = record { says = offsets-behind (refused 11) (simp (eq-eqb _ _ long, ne-eqb _ _ n)); inside = tt }
+
+      pub offsets-fall : offsetAt (part l begin end) 0 ≡ 0 → neverFalls rows (part l begin end) ≡ false → PartGives l (readTextOffsets rows (drop at l)) (Refused 11)
+      offsets-fall z f = record { says = offsets-behind (refused 11) (simp (eq-eqb _ _ long, eq-eqb _ _ z, f)); inside = tt }
+
+      pub offsets-taken : offsetAt (part l begin end) 0 ≡ 0 → neverFalls rows (part l begin end) ≡ true → PartGives l (readTextOffsets rows (drop at l)) (At begin end)
+      offsets-taken z f = record {
+          says = offsets-behind _ (simp (eq-eqb _ _ long, eq-eqb _ _ z, f));
+          inside = field-inside l 5 (tagged 5 (drop at l)) r g begin end e;
+        }
+
+-- a column that has no tag 5
+pub offsets-none : (l : List ℕ) (at : ℕ) → at ≤ length l → PartGives l (ok (record { part = []; rest = drop at l })) (At at at)
+offsets-none l at h =
+    let none : at - at ≡ 0 = omega arith in
+    record {
+      says = λ i. ok (record { part = take (none i) (drop at l); rest = drop at l });
+      inside = record { ordered = omega arith; in-bytes = h };
+    }
+
+-- by the type
+pub part-of-type : (l : List ℕ) (rows at : ℕ) (t d : DataType) (r : PartAnswer) → t ≡ d → PartGives l (readOffsets d rows (drop at l)) r
+    → PartGives l (readOffsets t rows (drop at l)) r
+part-of-type l rows at t d r e g = subst (λ (x : DataType). PartGives l (readOffsets x rows (drop at l)) r) (sym e) g

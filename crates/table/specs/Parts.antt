@@ -1,5 +1,6 @@
 -- What the answers of the reading's steps say, given the table's bytes.
 use mathlib.Core.Path.{_≡_}
+use mathlib.Core.Bool.{Bool}
 use mathlib.Core.List.{List}
 use Prim.Native.Nat.{ℕ, zero, suc, _≤_}
 use lib.ListN.{length, drop}
@@ -11,7 +12,9 @@ use Rattle.table.specs.declared.part.PartAnswer.{PartAnswer}
 use Rattle.table.specs.declared.part.PartAnswer.the-variants.{At, Refused}
 use Rattle.table.specs.declared.column.ColumnAnswer.{ColumnAnswer}
 use Rattle.table.specs.Column.{TableColumn}
-use Rattle.table.specs.Reading.{Part, tagged}
+use Rattle.scalar.specs.declared.types.DataType.{DataType}
+use Rattle.scalar.specs.Types.{typeNumbered, markNumbered}
+use Rattle.table.specs.Reading.{Part, tagged, readValidity, readOffsets, valuesLength}
 use Rattle.table.specs.Places.{columnIn, Inside, ColumnInside}
 
 -- a field of a tag by its place
@@ -53,3 +56,30 @@ valuesOfLength size bytes = do
   f ← tagged 4 bytes
   _ ← require (eqb (length (f .content)) size) 11
   ok (record { part = f .content; rest = f .rest })
+
+-- ---- the reading of a column, step by step: `readBody` from its values backwards
+
+unfoldable pub valuesStep : DataType → Bool → List ℕ → List ℕ → ℕ → List ℕ → Result (Part TableColumn)
+valuesStep t n validity offsets rows bytes = do
+  values ← valuesOfLength (valuesLength t rows offsets) bytes
+  ok (record { part = record { type = t; nullable = n; validity = validity; offsets = offsets; values = values .part }; rest = values .rest })
+
+unfoldable pub offsetsStep : DataType → Bool → List ℕ → ℕ → List ℕ → Result (Part TableColumn)
+offsetsStep t n validity rows bytes = do
+  offsets ← readOffsets t rows bytes
+  valuesStep t n validity (offsets .part) rows (offsets .rest)
+
+unfoldable pub validityStep : DataType → Bool → ℕ → List ℕ → Result (Part TableColumn)
+validityStep t n rows bytes = do
+  validity ← readValidity rows bytes
+  offsetsStep t n (validity .part) rows (validity .rest)
+
+unfoldable pub headStep : ℕ → ℕ → ℕ → List ℕ → Result (Part TableColumn)
+headStep kind mark rows bytes = do
+  t ← typeNumbered 11 kind
+  n ← markNumbered 11 mark
+  validityStep t n rows bytes
+
+-- a refusal, with a number that isn't 0 wherever the definition refuses
+pub record Refuses (n : ℕ) (r : ColumnAnswer) : Type 0 where
+  pub number : r .refused ≡ n

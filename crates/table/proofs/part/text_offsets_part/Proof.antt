@@ -1,3 +1,7 @@
+use mathlib.Core.Path.{_≡_, refl, sym, ap, subst, _∙_}
+use native.Mathlib.Omega.{arith}
+use denote.Ref.{now}
+use Rattle.table.proofs.PartsLaws.{field-inside, offsets-refused, offsets-length, offsets-first, offsets-fall, offsets-taken}
 use borrow.Author.Needs.{needs}
 use Rattle.table.proofs.part.text_offsets_part.Statement.{statement}
 use Rattle.table.proofs.part.text_offsets_part.Tie as tie
@@ -21,7 +25,7 @@ enum-known-begin c = search needs
 
 -- src/part.rt:93:16
 sub-if1 : tie.Need-sub-if1
-sub-if1 c = ?
+sub-if1 c = field-inside (now (c .before .before .before .before .before .args .bytes)) 5 _ (c .before .before .before .tagged-field .result) (c .before .before .before .tagged-field .ensures) (c .before .begin .given .0 .0) (c .before .begin .given .0 .1 .0) (c .before .begin .given .1) .ordered
 
 -- src/part.rt:93:36
 add-if1 : tie.Need-add-if1
@@ -33,7 +37,7 @@ mul-if1 c = search needs
 
 -- src/part.rt:94:17
 returns : tie.Need-returns
-returns c = ?
+returns c = offsets-length (now (c .before .before .before .before .before .before .args .bytes)) (c .before .before .before .before .before .before .args .at) (c .before .before .before .before .before .before .args .rows) (c .before .before .before .before .tagged-field .result) (c .before .before .before .before .tagged-field .ensures) (c .before .before .begin .given .0 .0) (c .before .before .begin .given .0 .1 .0) (c .before .before .begin .given .1) (c .if1 .taken)
 
 -- src/part.rt:96:27
 sub-offsets : tie.Need-sub-offsets
@@ -45,7 +49,7 @@ part-offsets-start c = search needs
 
 -- src/part.rt:96:27
 part-offsets-end : tie.Need-part-offsets-end
-part-offsets-end c = ?
+part-offsets-end c = field-inside (now (c .before .before .before .before .before .before .args .bytes)) 5 _ (c .before .before .before .before .tagged-field .result) (c .before .before .before .before .tagged-field .ensures) (c .before .before .begin .given .0 .0) (c .before .before .begin .given .0 .1 .0) (c .before .before .begin .given .1) .in-bytes
 
 -- src/part.rt:97:16
 read-u32-requires : tie.Need-read-u32-requires
@@ -53,7 +57,7 @@ read-u32-requires c κs = search needs
 
 -- src/part.rt:98:17
 returns-2 : tie.Need-returns-2
-returns-2 c = ?
+returns-2 c = offsets-first (now (c .before .before .before .before .before .before .before .before .before .args .bytes)) (c .before .before .before .before .before .before .before .before .before .args .at) (c .before .before .before .before .before .before .before .before .before .args .rows) (c .before .before .before .before .before .before .before .tagged-field .result) (c .before .before .before .before .before .before .before .tagged-field .ensures) (c .before .before .before .before .before .begin .given .0 .0) (c .before .before .before .before .before .begin .given .0 .1 .0) (c .before .before .before .before .before .begin .given .1) (c .before .before .before .if1 .left) (λ z. c .if2 .taken (c .before .read-u32 .ensures ∙ z))
 
 -- src/part.rt:100:16
 never-falls-requires : tie.Need-never-falls-requires
@@ -61,15 +65,15 @@ never-falls-requires c κs = search needs
 
 -- src/part.rt:86:1
 returns-3 : tie.Need-returns-3
-returns-3 c = ?
+returns-3 c = offsets-refused (now (c .before .before .before .before .before .args .bytes)) (c .before .before .before .before .before .args .at) (c .before .before .before .before .before .args .rows) (c .before .before .before .tagged-field .result) (c .before .before .before .tagged-field .ensures) (c .before .n .given .0 .0) (c .before .n .given .1)
 
 -- src/part.rt:86:1
 returns-4 : tie.Need-returns-4
-returns-4 c = ?
+returns-4 c = offsets-taken (now (c .before .before .before .before .before .before .before .before .before .before .before .args .bytes)) (c .before .before .before .before .before .before .before .before .before .before .before .args .at) (c .before .before .before .before .before .before .before .before .before .before .before .args .rows) (c .before .before .before .before .before .before .before .before .before .tagged-field .result) (c .before .before .before .before .before .before .before .before .before .tagged-field .ensures) (c .before .before .before .before .before .before .before .begin .given .0 .0) (c .before .before .before .before .before .before .before .begin .given .0 .1 .0) (c .before .before .before .before .before .before .before .begin .given .1) (c .before .before .before .before .before .if1 .left) (sym (c .before .before .before .read-u32 .ensures) ∙ c .before .before .if2 .left) (sym (c .before .never-falls .ensures) ∙ c .if3 .taken)
 
 -- src/part.rt:86:1
 returns-5 : tie.Need-returns-5
-returns-5 c = ?
+returns-5 c = offsets-fall (now (c .before .before .before .before .before .before .before .before .before .before .before .args .bytes)) (c .before .before .before .before .before .before .before .before .before .before .before .args .at) (c .before .before .before .before .before .before .before .before .before .before .before .args .rows) (c .before .before .before .before .before .before .before .before .before .tagged-field .result) (c .before .before .before .before .before .before .before .before .before .tagged-field .ensures) (c .before .before .before .before .before .before .before .begin .given .0 .0) (c .before .before .before .before .before .before .before .begin .given .0 .1 .0) (c .before .before .before .before .before .before .before .begin .given .1) (c .before .before .before .before .before .if1 .left) (sym (c .before .before .before .read-u32 .ensures) ∙ c .before .before .if2 .left) (sym (c .before .never-falls .ensures) ∙ c .if3 .left)
 
 pub text-offsets-part-spec : {M : Type 1} → statement M
 text-offsets-part-spec =

@@ -1,3 +1,8 @@
+use mathlib.Core.Path.{_≡_, refl, sym, ap, subst, _∙_}
+use native.Mathlib.Omega.{arith}
+use denote.Ref.{now}
+use Rattle.scalar.specs.declared.types.DataType.{DataType}
+use Rattle.table.specs.Reading.{valuesLength}
 use borrow.Author.Needs.{needs}
 use Rattle.table.proofs.part.values_length.Statement.{statement}
 use Rattle.table.proofs.part.values_length.Tie as tie
@@ -56,23 +61,23 @@ cast-result c = search needs
 
 -- src/part.rt:124:1
 returns : tie.Need-returns
-returns c = ?
+returns c = c .bitmap-length .ensures ∙ ap (λ (t : DataType). valuesLength t (c .before .before .before .before .args .rows) (now (c .before .before .before .before .args .offsets))) (sym (c .before .enum-told .given .1))
 
 -- src/part.rt:124:1
 returns-2 : tie.Need-returns-2
-returns-2 c = ?
+returns-2 c = ap (λ (t : DataType). valuesLength t (c .before .before .before .args .rows) (now (c .before .before .before .args .offsets))) (sym (c .enum-told2 .given .1))
 
 -- src/part.rt:124:1
 returns-3 : tie.Need-returns-3
-returns-3 c = ?
+returns-3 c = ap (λ (t : DataType). valuesLength t (c .before .before .before .args .rows) (now (c .before .before .before .args .offsets))) (sym (c .enum-told3 .given .1))
 
 -- src/part.rt:124:1
 returns-4 : tie.Need-returns-4
-returns-4 c = ?
+returns-4 c = ap (λ (t : DataType). valuesLength t (c .before .before .before .args .rows) (now (c .before .before .before .args .offsets))) (sym (c .enum-told4 .given .1))
 
 -- src/part.rt:124:1
 returns-5 : tie.Need-returns-5
-returns-5 c = ?
+returns-5 c = c .read-u32 .ensures ∙ ap (λ (t : DataType). valuesLength t (c .before .before .before .before .args .rows) (now (c .before .before .before .before .args .offsets))) (sym (c .before .enum-told5 .given .1))
 
 pub values-length-spec : {M : Type 1} → statement M
 values-length-spec =

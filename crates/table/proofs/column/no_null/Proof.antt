@@ -1,0 +1,58 @@
+use Rattle.table.proofs.column.no_null.Statement.{statement}
+use Rattle.table.proofs.column.no_null.Tie as tie
+use Rattle.table.proofs.column.no_null.Reads as reads
+use Rattle.table.proofs.column.no_null.Lts as lts
+use Rattle.layout.proofs.bits.bit_at.Reads as bit-at-reads
+
+abbrev Inv-loop : tie.InvT-loop
+Inv-loop validity rows i₀ i = ?
+
+abbrev μ-loop : tie.MeasureT-loop
+μ-loop validity rows i₀ i = ?
+
+-- src/column.rt:140:9
+returns : tie.Need-returns Inv-loop μ-loop
+returns c = ?
+
+-- src/column.rt:143:5
+loop-holds : tie.Need-loop-holds Inv-loop μ-loop
+loop-holds c = ?
+
+-- src/column.rt:144:9
+sub-i : tie.Need-sub-i Inv-loop μ-loop
+sub-i c = ?
+
+-- src/column.rt:145:13
+bit-at-requires : tie.Need-bit-at-requires Inv-loop μ-loop
+bit-at-requires c κs = ?
+
+-- src/column.rt:146:13
+returns-2 : tie.Need-returns-2 Inv-loop μ-loop
+returns-2 c = ?
+
+-- src/column.rt:143:5
+loop-less : tie.Need-loop-less Inv-loop μ-loop
+loop-less c = ?
+
+-- src/column.rt:143:5
+loop-again : tie.Need-loop-again Inv-loop μ-loop
+loop-again c = ?
+
+-- src/column.rt:136:1
+returns-3 : tie.Need-returns-3 Inv-loop μ-loop
+returns-3 c = ?
+
+pub no-null-spec : {M : Type 1} → statement M
+no-null-spec =
+    tie.close
+    (tie.spec
+    Inv-loop
+    μ-loop
+    returns
+    loop-holds
+    sub-i
+    bit-at-requires
+    returns-2
+    loop-less
+    loop-again
+    returns-3)

@@ -1,0 +1,58 @@
+use borrow.Author.Needs.{needs}
+use Rattle.table.proofs.column.with_head.Statement.{statement}
+use Rattle.table.proofs.column.with_head.Tie as tie
+use Rattle.table.proofs.column.with_head.Reads as reads
+use Rattle.table.proofs.column.with_head.Lts as lts
+use Rattle.scalar.proofs.types.type_numbered.Reads as type-numbered-reads
+use Rattle.table.proofs.column.refuse.Reads as refuse-reads
+use Rattle.table.proofs.column.with_type.Reads as with-type-reads
+
+-- src/column.rt:110:11
+type-numbered-requires : tie.Need-type-numbered-requires
+type-numbered-requires c κs = search needs
+
+-- src/column.rt:111:32
+enum-told : tie.Need-enum-told
+enum-told c = search needs
+
+-- src/column.rt:111:32
+refuse-requires : tie.Need-refuse-requires
+refuse-requires c κs = search needs
+
+-- src/column.rt:112:27
+enum-known-t : tie.Need-enum-known-t
+enum-known-t c = search needs
+
+-- src/column.rt:114:17
+refuse-requires-2 : tie.Need-refuse-requires-2
+refuse-requires-2 c κs = search needs
+
+-- src/column.rt:114:17
+returns : tie.Need-returns
+returns c = ?
+
+-- src/column.rt:116:13
+with-type-requires : tie.Need-with-type-requires
+with-type-requires c κs = search needs
+
+-- src/column.rt:106:1
+returns-2 : tie.Need-returns-2
+returns-2 c = ?
+
+-- src/column.rt:106:1
+returns-3 : tie.Need-returns-3
+returns-3 c = ?
+
+pub with-head-spec : {M : Type 1} → statement M
+with-head-spec =
+    tie.close
+    (tie.spec
+    type-numbered-requires
+    enum-told
+    refuse-requires
+    enum-known-t
+    refuse-requires-2
+    returns
+    with-type-requires
+    returns-2
+    returns-3)
