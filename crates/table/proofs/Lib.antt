@@ -3,3 +3,4 @@ pub mod TableInversions
 pub mod TableTyped
 pub mod OffsetLaws
 pub mod PartsLaws
+pub mod ColumnLaws

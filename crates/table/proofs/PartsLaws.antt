@@ -27,7 +27,7 @@ use Rattle.table.specs.Parts.{FieldGives, PartGives, fieldMeans, partMea
 
 pub field-cut : (l : List ℕ) (at tag : ℕ) → headerAt l at ≡ Cut → FieldGives l tag (tagged tag (drop at l)) (Refused 9)
 unfolding tagged
-field-cut l at tag p = record { says = sym (ap (λ (r : Result Field). r >>= λ f. require (eqb (f .tag) tag) 9 >>= λ _. ok f) (place-cut l at p 9)); inside = tt }
+field-cut l at tag p = record { says = sym (ap (λ (r : Result Field). r >>= λ f. require (eqb (f .tag) tag) 9 >>= λ _. ok f) (place-cut l at p 9)); inside = omega arith }
 
 -- what a field that was found gives behind its header
 tagged-is : (l : List ℕ) (at tag : ℕ) (p : FieldPlace) → headerAt l at ≡ Found p
@@ -42,7 +42,7 @@ field-found l at tag p h e = record {
   }
 
 pub field-other : (l : List ℕ) (at tag : ℕ) (p : FieldPlace) → headerAt l at ≡ Found p → (p .tag ≡ tag → ⊥) → FieldGives l tag (tagged tag (drop at l)) (Refused 9)
-field-other l at tag p h n = record { says = sym (tagged-is l at tag p h ∙ simp (ne-eqb _ _ n)); inside = tt }
+field-other l at tag p h n = record { says = sym (tagged-is l at tag p h ∙ simp (ne-eqb _ _ n)); inside = omega arith }
 
 -- ---- a step behind the field of a tag
 
@@ -59,6 +59,10 @@ module _ (l : List ℕ) (tag : ℕ) (definition : Result Field) (r : PartAnswer)
   pub field-inside : (start end : ℕ) → r ≡ At start end → Inside (length l) start end
   field-inside start end e = subst (PartInside (length l)) e (g .inside)
 
+  -- a refusal isn't 0
+  pub field-some : (n : ℕ) → r ≡ Refused n → 0 < n
+  field-some n e = subst (PartInside (length l)) e (g .inside)
+
 -- the length of a part that lies in the bytes
 pub inside-length : (l : List ℕ) (start end : ℕ) → Inside (length l) start end → length (part l start end) ≡ end - start
 inside-length l start end i = length-part l start end ∙ omega (arith, i .ordered, i .in-bytes)
@@ -68,7 +72,7 @@ inside-length l start end i = length-part l start end ∙ omega (arith, i .order
 module _ (l : List ℕ) (at tag : ℕ) (r : PartAnswer) (g : FieldGives l tag (tagged tag (drop at l)) r) where
   pub pair-refused : (n : ℕ) → r ≡ Refused n → FieldGives l tag (taggedPair tag (drop at l)) (Refused n)
   unfolding taggedPair
-  pair-refused n e = record { says = sym (behind-refused l tag (tagged tag (drop at l)) r g _ n e); inside = tt }
+  pair-refused n e = record { says = sym (behind-refused l tag (tagged tag (drop at l)) r g _ n e); inside = field-some l tag (tagged tag (drop at l)) r g n e }
 
   pub pair-two : (start end : ℕ) → r ≡ At start end → end - start ≡ 2 → FieldGives l tag (taggedPair tag (drop at l)) (At start end)
   unfolding taggedPair
@@ -82,7 +86,7 @@ module _ (l : List ℕ) (at tag : ℕ) (r : PartAnswer) (g : FieldGives l tag (t
   pair-other start end e n =
       let i = field-inside l tag (tagged tag (drop at l)) r g start end e in
       let size : length (part l start end) ≡ 2 → ⊥ = λ q. n (sym (inside-length l start end i) ∙ q) in
-      record { says = sym (behind-field l tag (tagged tag (drop at l)) r g _ start end e ∙ simp (ne-eqb _ _ size)); inside = tt }
+      record { says = sym (behind-field l tag (tagged tag (drop at l)) r g _ start end e ∙ simp (ne-eqb _ _ size)); inside = omega arith }
 
 -- ---- parts
 
@@ -93,7 +97,7 @@ partBehind test f = require (test (length (f .content))) 11 >>= λ _. ok (record
 module _ (l : List ℕ) (at tag : ℕ) (r : PartAnswer) (g : FieldGives l tag (tagged tag (drop at l)) r) (test : ℕ → Bool)
     (definition : Result (Part (List ℕ))) (is : definition ≡ (tagged tag (drop at l) >>= partBehind test)) where
   part-refused : (n : ℕ) → r ≡ Refused n → PartGives l definition (Refused n)
-  part-refused n e = record { says = sym (is ∙ behind-refused l tag (tagged tag (drop at l)) r g _ n e); inside = tt }
+  part-refused n e = record { says = sym (is ∙ behind-refused l tag (tagged tag (drop at l)) r g _ n e); inside = field-some l tag (tagged tag (drop at l)) r g n e }
 
   part-taken : (begin end : ℕ) → r ≡ At begin end → test (end - begin) ≡ true → PartGives l definition (At begin end)
   part-taken begin end e t =
@@ -105,7 +109,7 @@ module _ (l : List ℕ) (at tag : ℕ) (r : PartAnswer) (g : FieldGives l tag (t
   part-left begin end e t =
       let i = field-inside l tag (tagged tag (drop at l)) r g begin end e in
       let t′ : test (length (part l begin end)) ≡ false = ap test (inside-length l begin end i) ∙ t in
-      record { says = sym (is ∙ behind-field l tag (tagged tag (drop at l)) r g _ begin end e ∙ simp t′); inside = tt }
+      record { says = sym (is ∙ behind-field l tag (tagged tag (drop at l)) r g _ begin end e ∙ simp t′); inside = omega arith }
 
 -- tag 3
 abbrev validityTest : ℕ → ℕ → Bool
@@ -159,7 +163,7 @@ module _ (l : List ℕ) (at rows : ℕ) (r : PartAnswer) (g : FieldGives l 5 (ta
   offsets-is = refl
 
   pub offsets-refused : (n : ℕ) → r ≡ Refused n → PartGives l (readTextOffsets rows (drop at l)) (Refused n)
-  offsets-refused n e = record { says = sym (offsets-is ∙ behind-refused l 5 (tagged 5 (drop at l)) r g _ n e); inside = tt }
+  offsets-refused n e = record { says = sym (offsets-is ∙ behind-refused l 5 (tagged 5 (drop at l)) r g _ n e); inside = field-some l 5 (tagged 5 (drop at l)) r g n e }
 
   module _ (begin end : ℕ) (e : r ≡ At begin end) where
     -- what the tests behind tag 5 say
@@ -173,17 +177,17 @@ module _ (l : List ℕ) (at rows : ℕ) (r : PartAnswer) (g : FieldGives l 5 (ta
     pub offsets-length : (end - begin ≡ 4 * (rows + 1) → ⊥) → PartGives l (readTextOffsets rows (drop at l)) (Refused 11)
     offsets-length n =
         let n′ : length (part l begin end) ≡ 4 * suc rows → ⊥ = λ q. n (sym offsets-size ∙ q ∙ omega arith) in
-        record { says = offsets-behind (refused 11) (simp (ne-eqb _ _ n′)); inside = tt }
+        record { says = offsets-behind (refused 11) (simp (ne-eqb _ _ n′)); inside = omega arith }
 
     module _ (size : end - begin ≡ 4 * (rows + 1)) where
       long : length (part l begin end) ≡ 4 * suc rows
       long = offsets-size ∙ size ∙ omega arith
 
       pub offsets-first : (offsetAt (part l begin end) 0 ≡ 0 → ⊥) → PartGives l (readTextOffsets rows (drop at l)) (Refused 11)
-      offsets-first n = record { says = offsets-behind (refused 11) (simp (eq-eqb _ _ long, ne-eqb _ _ n)); inside = tt }
+      offsets-first n = record { says = offsets-behind (refused 11) (simp (eq-eqb _ _ long, ne-eqb _ _ n)); inside = omega arith }
 
       pub offsets-fall : offsetAt (part l begin end) 0 ≡ 0 → neverFalls rows (part l begin end) ≡ false → PartGives l (readTextOffsets rows (drop at l)) (Refused 11)
-      offsets-fall z f = record { says = offsets-behind (refused 11) (simp (eq-eqb _ _ long, eq-eqb _ _ z, f)); inside = tt }
+      offsets-fall z f = record { says = offsets-behind (refused 11) (simp (eq-eqb _ _ long, eq-eqb _ _ z, f)); inside = omega arith }
 
       pub offsets-taken : offsetAt (part l begin end) 0 ≡ 0 → neverFalls rows (part l begin end) ≡ true → PartGives l (readTextOffsets rows (drop at l)) (At begin end)
       offsets-taken z f = record {

@@ -2,7 +2,7 @@
 use mathlib.Core.Path.{_≡_}
 use mathlib.Core.Bool.{Bool}
 use mathlib.Core.List.{List}
-use Prim.Native.Nat.{ℕ, zero, suc, _≤_}
+use Prim.Native.Nat.{ℕ, zero, suc, _<_, _≤_}
 use lib.ListN.{length, drop}
 use lib.Dec.{eqb}
 use Rattle.layout.specs.Result.{Result, refused, ok, _>>=_, require}
@@ -27,10 +27,10 @@ abbrev pub partMeans : List ℕ → PartAnswer → Result (Part (List ℕ))
 partMeans bytes (At start end) = ok (record { part = part bytes start end; rest = drop end bytes })
 partMeans bytes (Refused n) = refused n
 
--- the place lies in the bytes
+-- the place lies in the bytes, and a refusal isn't 0
 abbrev pub PartInside : ℕ → PartAnswer → Type 0
 PartInside size (At start end) = Inside size start end
-PartInside size (Refused n) = Unit {0}
+PartInside size (Refused n) = 0 < n
 
 pub record FieldGives (bytes : List ℕ) (tag : ℕ) (definition : Result Field) (r : PartAnswer) : Type 0 where
   pub says : fieldMeans bytes tag r ≡ definition
@@ -80,6 +80,6 @@ headStep kind mark rows bytes = do
   n ← markNumbered 11 mark
   validityStep t n rows bytes
 
--- a refusal, with a number that isn't 0 wherever the definition refuses
+-- a refusal with a number
 pub record Refuses (n : ℕ) (r : ColumnAnswer) : Type 0 where
   pub number : r .refused ≡ n

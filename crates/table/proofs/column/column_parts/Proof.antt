@@ -1,3 +1,6 @@
+use denote.Ref.{now}
+use Rattle.table.proofs.ColumnLaws.{parts-refused, parts-behind}
+use Rattle.table.proofs.PartsLaws.{field-inside}
 use borrow.Author.Needs.{needs}
 use Rattle.table.proofs.column.column_parts.Statement.{statement}
 use Rattle.table.proofs.column.column_parts.Tie as tie
@@ -26,15 +29,15 @@ enum-known-begin c = search needs
 
 -- src/column.rt:129:24
 sub-pair : tie.Need-sub-pair
-sub-pair c = ?
+sub-pair c = field-inside (now (c .before .before .before .before .before .args .bytes)) 2 _ (c .before .before .before .tagged-pair .result) (c .before .before .before .tagged-pair .ensures) (c .before .begin .given .0 .0) (c .before .begin .given .0 .1 .0) (c .before .begin .given .1) .ordered
 
 -- src/column.rt:129:24
 part-pair-start : tie.Need-part-pair-start
-part-pair-start c = ?
+part-pair-start c = field-inside (now (c .before .before .before .before .before .args .bytes)) 2 _ (c .before .before .before .tagged-pair .result) (c .before .before .before .tagged-pair .ensures) (c .before .begin .given .0 .0) (c .before .begin .given .0 .1 .0) (c .before .begin .given .1) .ordered
 
 -- src/column.rt:129:24
 part-pair-end : tie.Need-part-pair-end
-part-pair-end c = ?
+part-pair-end c = field-inside (now (c .before .before .before .before .before .args .bytes)) 2 _ (c .before .before .before .tagged-pair .result) (c .before .before .before .tagged-pair .ensures) (c .before .begin .given .0 .0) (c .before .begin .given .0 .1 .0) (c .before .begin .given .1) .in-bytes
 
 -- src/column.rt:130:30
 byte-at-requires : tie.Need-byte-at-requires
@@ -50,11 +53,11 @@ with-head-requires c κs = search needs
 
 -- src/column.rt:122:1
 returns : tie.Need-returns
-returns c = ?
+returns c = parts-refused (now (c .before .before .before .before .before .before .args .bytes)) (c .before .before .before .before .before .before .args .at) (c .before .before .before .before .before .before .args .rows) (c .before .before .before .before .tagged-pair .result) (c .before .before .before .before .tagged-pair .ensures) (c .refuse .result) (c .before .before .n .given .0 .0) (c .before .before .n .given .1) (c .refuse .ensures)
 
 -- src/column.rt:122:1
 returns-2 : tie.Need-returns-2
-returns-2 c = ?
+returns-2 c = parts-behind (now (c .before .before .before .before .before .before .before .before .before .args .bytes)) (c .before .before .before .before .before .before .before .before .before .args .at) (c .before .before .before .before .before .before .before .before .before .args .rows) (c .before .before .before .before .before .before .before .tagged-pair .result) (c .before .before .before .before .before .before .before .tagged-pair .ensures) (c .with-head .result) (c .before .before .before .before .before .begin .given .0 .0) (c .before .before .before .before .before .begin .given .0 .1 .0) (c .before .before .byte-at .result) (c .before .byte-at2 .result) (c .before .before .before .before .before .begin .given .1) (c .before .before .byte-at .ensures) (c .before .byte-at2 .ensures) (c .with-head .ensures)
 
 pub column-parts-spec : {M : Type 1} → statement M
 column-parts-spec =

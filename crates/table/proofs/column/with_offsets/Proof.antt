@@ -1,3 +1,5 @@
+use denote.Ref.{now}
+use Rattle.table.proofs.ColumnLaws.{whole-refused, whole-column}
 use borrow.Author.Needs.{needs}
 use Rattle.table.proofs.column.with_offsets.Statement.{statement}
 use Rattle.table.proofs.column.with_offsets.Tie as tie
@@ -41,11 +43,11 @@ enum-known-begin c = search needs
 
 -- src/column.rt:59:1
 returns : tie.Need-returns
-returns c = ?
+returns c = whole-refused (now (c .before .before .before .before .before .before .before .before .args .bytes)) (c .before .before .before .before .before .before .before .before .args .kind) (c .before .before .before .before .before .before .before .before .args .nullable) (c .before .before .before .before .before .before .before .before .args .vs) (c .before .before .before .before .before .before .before .before .args .ve) (c .before .before .before .before .before .before .before .before .args .os) (c .before .before .before .before .before .before .before .before .args .oe) (c .before .before .before .before .before .before .before .before .args .rows) (c .before .before .before .before .before .values-length .result) (c .before .before .before .before .before .values-length .ensures) (c .before .before .before .before .values-part .result) (c .before .before .before .before .values-part .ensures) (c .before .before .n .given .0 .0) (c .refuse .result) (c .before .before .n .given .1) (c .refuse .ensures)
 
 -- src/column.rt:59:1
 returns-2 : tie.Need-returns-2
-returns-2 c = ?
+returns-2 c = whole-column (now (c .before .before .before .before .before .before .before .args .bytes)) (c .before .before .before .before .before .before .before .args .kind) (c .before .before .before .before .before .before .before .args .nullable) (c .before .before .before .before .before .before .before .args .vs) (c .before .before .before .before .before .before .before .args .ve) (c .before .before .before .before .before .before .before .args .os) (c .before .before .before .before .before .before .before .args .oe) (c .before .before .before .before .before .before .before .args .rows) (c .before .before .before .before .values-length .result) (c .before .before .before .before .values-length .ensures) (c .before .before .before .values-part .result) (c .before .before .before .values-part .ensures) (c .before .before .before .before .before .before .before .pre .1) (c .before .before .before .before .before .before .before .pre .2) (c .before .begin .given .0 .0) (c .before .begin .given .0 .1 .0) (c .before .begin .given .1)
 
 pub with-offsets-spec : {M : Type 1} → statement M
 with-offsets-spec =

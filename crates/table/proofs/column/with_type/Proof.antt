@@ -1,3 +1,5 @@
+use denote.Ref.{now}
+use Rattle.table.proofs.ColumnLaws.{part-inside, behind-type-refused, behind-type}
 use borrow.Author.Needs.{needs}
 use Rattle.table.proofs.column.with_type.Statement.{statement}
 use Rattle.table.proofs.column.with_type.Tie as tie
@@ -25,15 +27,15 @@ enum-known-begin c = search needs
 
 -- src/column.rt:101:39
 with-validity-requires : tie.Need-with-validity-requires
-with-validity-requires c κs = ?
+with-validity-requires c κs = (c .before .before .before .before .before .pre, part-inside (now (c .before .before .before .before .before .args .bytes)) _ (c .before .before .before .validity-part .result) (c .before .before .before .validity-part .ensures) (c .before .begin .given .0 .0) (c .before .begin .given .0 .1 .0) (c .before .begin .given .1))
 
 -- src/column.rt:95:1
 returns : tie.Need-returns
-returns c = ?
+returns c = behind-type-refused (now (c .before .before .before .before .before .before .args .bytes)) (c .before .before .before .before .before .before .args .kind) (c .before .before .before .before .before .before .args .nullable) (c .before .before .before .before .before .before .args .at) (c .before .before .before .before .before .before .args .rows) (c .before .before .before .before .validity-part .result) (c .before .before .before .before .validity-part .ensures) (c .before .before .n .given .0 .0) (c .refuse .result) (c .before .before .n .given .1) (c .refuse .ensures)
 
 -- src/column.rt:95:1
 returns-2 : tie.Need-returns-2
-returns-2 c = ?
+returns-2 c = behind-type (now (c .before .before .before .before .before .before .args .bytes)) (c .before .before .before .before .before .before .args .kind) (c .before .before .before .before .before .before .args .nullable) (c .before .before .before .before .before .before .args .at) (c .before .before .before .before .before .before .args .rows) (c .before .before .before .before .validity-part .result) (c .before .before .before .before .validity-part .ensures) (c .before .before .begin .given .0 .0) (c .before .before .begin .given .0 .1 .0) (c .with-validity .result) (c .before .before .begin .given .1) (c .with-validity .ensures)
 
 pub with-type-spec : {M : Type 1} → statement M
 with-type-spec =
