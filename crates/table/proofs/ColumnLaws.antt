@@ -6,6 +6,7 @@ use Prim.Native.Nat.{ℕ, zero, suc, _+_, _-_, _<_, _≤_}
 use native.Mathlib.Omega.{arith}
 use lib.Dec.{eqb}
 use lib.ListN.{length, drop}
+use borrow.Author.Tests.{not-true, not-false}
 use Rattle.layout.specs.Result.{Result, refused, ok, _>>=_, require}
 use Rattle.layout.specs.Bytes.{byte, part, bitAt}
 use Rattle.layout.specs.Field.{Field}
@@ -183,12 +184,10 @@ module _ (validity : List ℕ) (i k : ℕ) (e : i ≡ suc k) (h : length validit
   null-is = ap (noNull validity) e ∙ ap (λ (b : Bool). b && noNull validity k) (valid-bit validity k h)
 
   pub null-next : (b : Bool) → b ≡ bitAt validity k → not b ≡ false → noNull validity i ≡ noNull validity k
-  null-next true p q = null-is ∙ simp (← p)
-  null-next false p q = let z : _≡_ {A = ℕ} 0 1 = cc in absurd (omega arith)
+  null-next b p q = null-is ∙ ap (λ (x : Bool). x && noNull validity k) (sym p ∙ not-false b q)
 
   pub null-here : (b : Bool) → b ≡ bitAt validity k → not b ≡ true → noNull validity i ≡ false
-  null-here true p q = let z : _≡_ {A = ℕ} 0 1 = cc in absurd (omega arith)
-  null-here false p q = null-is ∙ simp (← p)
+  null-here b p q = null-is ∙ ap (λ (x : Bool). x && noNull validity k) (sym p ∙ not-true b q)
 
 pub no-rows : (validity : List ℕ) (i : ℕ) → i ≡ 0 → noNull validity i ≡ true
 unfolding noNull

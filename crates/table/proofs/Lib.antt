@@ -4,3 +4,4 @@ pub mod TableTyped
 pub mod OffsetLaws
 pub mod PartsLaws
 pub mod ColumnLaws
+pub mod ReadLaws

@@ -3,7 +3,7 @@ use mathlib.Core.Path.{_≡_}
 use mathlib.Core.Bool.{Bool}
 use mathlib.Core.List.{List}
 use Prim.Native.Nat.{ℕ, zero, suc, _<_, _≤_}
-use lib.ListN.{length, drop}
+use lib.ListN.{length, getD, drop}
 use lib.Dec.{eqb}
 use Rattle.layout.specs.Result.{Result, refused, ok, _>>=_, require}
 use Rattle.layout.specs.Bytes.{part}
@@ -11,11 +11,12 @@ use Rattle.layout.specs.Field.{Field}
 use Rattle.table.specs.declared.part.PartAnswer.{PartAnswer}
 use Rattle.table.specs.declared.part.PartAnswer.the-variants.{At, Refused}
 use Rattle.table.specs.declared.column.ColumnAnswer.{ColumnAnswer}
+use Rattle.table.specs.declared.places.TableAnswer.{TableAnswer}
 use Rattle.table.specs.Column.{TableColumn}
 use Rattle.scalar.specs.declared.types.DataType.{DataType}
 use Rattle.scalar.specs.Types.{typeNumbered, markNumbered}
-use Rattle.table.specs.Reading.{Part, tagged, readValidity, readOffsets, valuesLength}
-use Rattle.table.specs.Places.{columnIn, Inside, ColumnInside}
+use Rattle.table.specs.Reading.{Part, tagged, taggedPair, readValidity, readOffsets, valuesLength, readColumns, columnsMost, Table}
+use Rattle.table.specs.Places.{columnIn, Inside, ColumnInside, noPlace, readingIn}
 
 -- a field of a tag by its place
 abbrev pub fieldMeans : List ℕ → ℕ → PartAnswer → Result Field
@@ -83,3 +84,26 @@ headStep kind mark rows bytes = do
 -- a refusal with a number
 pub record Refuses (n : ℕ) (r : ColumnAnswer) : Type 0 where
   pub number : r .refused ≡ n
+
+-- ---- the columns
+
+-- a table by its places, beside what a step gives
+pub record TableGives (bytes : List ℕ) (definition : Result Table) (r : TableAnswer) : Type 0 where
+  pub says : readingIn bytes (r .refused) (r .table) ≡ definition
+  pub few : r .table .count ≤ 16
+  pub inside : r .refused ≡ 0 → (i : ℕ) → i < r .table .count → ColumnInside (length bytes) (getD (r .table .columns) i noPlace)
+
+-- a refusal with a number
+pub record TableRefuses (n : ℕ) (r : TableAnswer) : Type 0 where
+  pub number : r .refused ≡ n
+  pub none : r .table .count ≡ 0
+
+-- bytes behind the last column that a table may have
+unfoldable pub oneMore : List ℕ → Result Table
+oneMore bytes = taggedPair 2 bytes >>= λ _. refused 10
+
+-- the columns of a table of so many rows
+unfoldable pub columnsStep : ℕ → List ℕ → Result Table
+columnsStep rows bytes = do
+  cs ← readColumns rows columnsMost bytes
+  ok (record { rows = rows; columns = cs })

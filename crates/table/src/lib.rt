@@ -3,3 +3,4 @@ pub mod answer;
 pub mod column;
 pub mod part;
 pub mod places;
+pub mod read;
