@@ -5,3 +5,4 @@ pub mod OffsetLaws
 pub mod PartsLaws
 pub mod ColumnLaws
 pub mod ReadLaws
+pub mod PlaceLaws

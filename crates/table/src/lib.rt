@@ -4,3 +4,4 @@ pub mod column;
 pub mod part;
 pub mod places;
 pub mod read;
+pub mod slices;
