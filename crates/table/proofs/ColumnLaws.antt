@@ -173,7 +173,7 @@ no-bits [] n e = sym (none-null n)
 no-bits (b ∷ v) n e = absurd (omega arith)
 
 -- a validity that isn't empty says it by its bits
-valid-bit : (validity : List ℕ) (i : ℕ) → (length validity ≡ 0 → ⊥) → validIn validity i ≡ bitAt validity i
+pub valid-bit : (validity : List ℕ) (i : ℕ) → (length validity ≡ 0 → ⊥) → validIn validity i ≡ bitAt validity i
 valid-bit [] i h = absurd (h refl)
 valid-bit (b ∷ v) i h = refl
 

@@ -6,3 +6,4 @@ pub mod PartsLaws
 pub mod ColumnLaws
 pub mod ReadLaws
 pub mod PlaceLaws
+pub mod EntryLaws

@@ -1,8 +1,8 @@
 -- What the answers of the reading's steps say, given the table's bytes.
 use mathlib.Core.Path.{_≡_}
 use mathlib.Core.Bool.{Bool}
-use mathlib.Core.List.{List}
-use Prim.Native.Nat.{ℕ, zero, suc, _<_, _≤_}
+use mathlib.Core.List.{List, []}
+use Prim.Native.Nat.{ℕ, zero, suc, _^_, _<_, _≤_}
 use lib.ListN.{length, getD, drop}
 use lib.Dec.{eqb}
 use Rattle.layout.specs.Result.{Result, refused, ok, _>>=_, require}
@@ -14,6 +14,9 @@ use Rattle.table.specs.declared.column.ColumnAnswer.{ColumnAnswer}
 use Rattle.table.specs.declared.places.TableAnswer.{TableAnswer}
 use Rattle.table.specs.Column.{TableColumn}
 use Rattle.scalar.specs.declared.types.DataType.{DataType}
+use Rattle.scalar.specs.declared.value.Value.{Value}
+use Rattle.scalar.specs.Entry.{Entry, entry}
+use Rattle.scalar.specs.Value.{meaning, Storable}
 use Rattle.scalar.specs.Types.{typeNumbered, markNumbered}
 use Rattle.table.specs.Reading.{Part, tagged, taggedPair, readValidity, readOffsets, valuesLength, readColumns, columnsMost, Table}
 use Rattle.table.specs.Places.{columnIn, Inside, ColumnInside, noPlace, readingIn}
@@ -107,3 +110,10 @@ unfoldable pub columnsStep : ℕ → List ℕ → Result Table
 columnsStep rows bytes = do
   cs ← readColumns rows columnsMost bytes
   ok (record { rows = rows; columns = cs })
+
+-- ---- an entry
+
+-- a value beside an entry: what it means with the table's bytes, and that it can be stored where they are fewer than 2 ^ 32
+pub record ValueGives (bytes : List ℕ) (e : Entry) (v : Value) : Type 0 where
+  pub says : meaning [] bytes v ≡ entry e
+  pub stores : length bytes < 2 ^ 32 → Storable v

@@ -1,6 +1,7 @@
 // Reading a table: where each column's parts stand, and the entry of a column at a row. Every public function takes every argument.
 pub mod answer;
 pub mod column;
+pub mod entry;
 pub mod part;
 pub mod places;
 pub mod read;
