@@ -1,13 +1,14 @@
 -- Types and marks by their numbers. Each operation keeps types: what it gives is null or a value of its type, within its bits. Assumes nothing.
 use mathlib.Core.Bool.{Bool, true, false, false≢true, cond}
-use mathlib.Core.Path.{_≡_, refl, ap}
+use mathlib.Core.Path.{_≡_, refl, sym, ap, subst}
 use Prim.Native.Nat.{ℕ, zero, suc}
 use borrow.Author.Tests.{ltb-true, eqb-true, lt-ltb}
-use Rattle.layout.specs.Result.{ok}
+use Rattle.layout.specs.Result.{refused, ok}
 use Rattle.layout.proofs.ResultLaws.{refused-not-ok, ok-injective}
 use Rattle.scalar.specs.declared.types.DataType.{DataType}
+use Rattle.scalar.specs.declared.types.TypeAnswer.the-variants.{Known, Unknown}
 use Rattle.scalar.specs.declared.types.DataType.the-variants.{Boolean, Int32, Int64, Float64, Utf8}
-use Rattle.scalar.specs.Types.{typeNumber, sameType, typeNumbered, markNumber, markNumbered}
+use Rattle.scalar.specs.Types.{typeNumber, sameType, typeNumbered, TypeGives, markNumber, markNumbered}
 use Rattle.scalar.specs.Integer.{signed, bitsOf, inRange}
 use Rattle.scalar.specs.Entry.{Entry, null, boolean, int32, int64, float64, utf8, Outcome, entry, unfit, ofType, outcomeOfType}
 use Rattle.scalar.specs.Pair.{Pair, bothNull, oneNull, unlike, booleans, int32s, int64s, float64s, texts, pairOf}
@@ -164,3 +165,34 @@ less-typed a b = go (pairOf a b)
   where
     go : (p : Pair) → ofType Boolean (lessPair p) ≡ true
     go p = elim p [ bothNull ↦ refl | oneNull ↦ refl | unlike ↦ refl | booleans x y ↦ refl | int32s x y ↦ refl | int64s x y ↦ refl | float64s x y ↦ refl | texts x y ↦ refl ]
+
+-- ---- the type of a number, in a `match`
+
+-- a number that is none of the types'
+abbrev pub NoType : ℕ → Type 0
+NoType k = (((((Unit {0} × (k ≡ 1 → ⊥)) × (k ≡ 2 → ⊥)) × (k ≡ 3 → ⊥)) × (k ≡ 4 → ⊥)) × (k ≡ 5 → ⊥))
+
+pub no-type : (k : ℕ) → NoType k → TypeGives k Unknown
+unfolding typeNumbered
+no-type k h = record { says = λ n. go n k h }
+  where
+    go : (n k : ℕ) → NoType k → refused n ≡ typeNumbered n k
+    go n zero h = refl
+    go n (suc zero) h = absurd (h .0 .0 .0 .0 .1 refl)
+    go n (suc (suc zero)) h = absurd (h .0 .0 .0 .1 refl)
+    go n (suc (suc (suc zero))) h = absurd (h .0 .0 .1 refl)
+    go n (suc (suc (suc (suc zero)))) h = absurd (h .0 .1 refl)
+    go n (suc (suc (suc (suc (suc zero))))) h = absurd (h .1 refl)
+    go n (suc (suc (suc (suc (suc (suc j)))))) h = refl
+
+-- a number that is a type's
+pub has-type : (k : ℕ) (t : DataType) → k ≡ typeNumber t → TypeGives k (Known t)
+unfolding typeNumbered
+has-type k t e = subst (λ (x : ℕ). TypeGives x (Known t)) (sym e) (record { says = λ n. go n t })
+  where
+    go : (n : ℕ) (t : DataType) → ok t ≡ typeNumbered n (typeNumber t)
+    go n Boolean = refl
+    go n Int32 = refl
+    go n Int64 = refl
+    go n Float64 = refl
+    go n Utf8 = refl

@@ -1,9 +1,12 @@
 -- Types with their numbers (01, Bytes of a rule).
+use mathlib.Core.Path.{_≡_}
 use mathlib.Core.Bool.{Bool, true, false, cond}
 use Prim.Native.Nat.{ℕ, zero, suc}
 use lib.Dec.{eqb}
 use Rattle.layout.specs.Result.{Result, refused, ok}
 use Rattle.scalar.specs.declared.types.DataType.{DataType}
+use Rattle.scalar.specs.declared.types.TypeAnswer.{TypeAnswer}
+use Rattle.scalar.specs.declared.types.TypeAnswer.the-variants.{Known, Unknown}
 use Rattle.scalar.specs.declared.types.DataType.the-variants.{Boolean, Int32, Int64, Float64, Utf8}
 
 -- 1 Boolean, 2 Int32, 3 Int64, 4 Float64, 5 Utf8
@@ -26,6 +29,15 @@ typeNumbered n (suc (suc (suc zero))) = ok Int64
 typeNumbered n (suc (suc (suc (suc zero)))) = ok Float64
 typeNumbered n (suc (suc (suc (suc (suc zero))))) = ok Utf8
 typeNumbered n (suc (suc (suc (suc (suc (suc k)))))) = refused n
+
+-- what an answer says, if a number without a type is refused with n
+abbrev pub typeMeans : ℕ → TypeAnswer → Result DataType
+typeMeans n (Known t) = ok t
+typeMeans n Unknown = refused n
+
+-- an answer beside the definition, whatever the refusal
+pub record TypeGives (number : ℕ) (r : TypeAnswer) : Type 0 where
+  pub says : (n : ℕ) → typeMeans n r ≡ typeNumbered n number
 
 -- a mark is 0 or 1 (01, Bytes of a rule; Bytes of a table)
 unfoldable pub markNumbered : ℕ → ℕ → Result Bool

@@ -1,8 +1,31 @@
 // The types of columns, literals and results.
+ghost use mathlib.Core.Path.{_≡_};
+ghost use Rattle.scalar.specs.Types.{TypeGives};
+
 pub enum DataType {
     Boolean,
     Int32,
     Int64,
     Float64,
     Utf8,
+}
+
+// The type of a number, if it has one.
+pub enum TypeAnswer {
+    Known(DataType),
+    Unknown,
+}
+
+// The type of a number: 1 to 5.
+pub fn type_numbered(number: u8) -> TypeAnswer
+    ensures { λ r. ⌜ TypeGives number r ⌝ }
+{
+    match number {
+        1 => TypeAnswer::Known(DataType::Boolean),
+        2 => TypeAnswer::Known(DataType::Int32),
+        3 => TypeAnswer::Known(DataType::Int64),
+        4 => TypeAnswer::Known(DataType::Float64),
+        5 => TypeAnswer::Known(DataType::Utf8),
+        _ => TypeAnswer::Unknown,
+    }
 }

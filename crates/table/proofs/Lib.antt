@@ -1,3 +1,9 @@
 -- The laws of `table`.
 pub mod TableInversions
 pub mod TableTyped
+pub mod OffsetLaws
+pub mod PartsLaws
+pub mod ColumnLaws
+pub mod ReadLaws
+pub mod PlaceLaws
+pub mod EntryLaws

@@ -3,3 +3,4 @@ pub mod Column
 pub mod Reading
 pub mod Answers
 pub mod Places
+pub mod Parts

@@ -1,0 +1,119 @@
+-- What the answers of the reading's steps say, given the table's bytes.
+use mathlib.Core.Path.{_≡_}
+use mathlib.Core.Bool.{Bool}
+use mathlib.Core.List.{List, []}
+use Prim.Native.Nat.{ℕ, zero, suc, _^_, _<_, _≤_}
+use lib.ListN.{length, getD, drop}
+use lib.Dec.{eqb}
+use Rattle.layout.specs.Result.{Result, refused, ok, _>>=_, require}
+use Rattle.layout.specs.Bytes.{part}
+use Rattle.layout.specs.Field.{Field}
+use Rattle.table.specs.declared.part.PartAnswer.{PartAnswer}
+use Rattle.table.specs.declared.part.PartAnswer.the-variants.{At, Refused}
+use Rattle.table.specs.declared.column.ColumnAnswer.{ColumnAnswer}
+use Rattle.table.specs.declared.places.TableAnswer.{TableAnswer}
+use Rattle.table.specs.Column.{TableColumn}
+use Rattle.scalar.specs.declared.types.DataType.{DataType}
+use Rattle.scalar.specs.declared.value.Value.{Value}
+use Rattle.scalar.specs.Entry.{Entry, entry}
+use Rattle.scalar.specs.Value.{meaning, Storable}
+use Rattle.scalar.specs.Types.{typeNumbered, markNumbered}
+use Rattle.table.specs.Reading.{Part, tagged, taggedPair, readValidity, readOffsets, valuesLength, readColumns, columnsMost, Table}
+use Rattle.table.specs.Places.{columnIn, Inside, ColumnInside, noPlace, readingIn}
+
+-- a field of a tag by its place
+abbrev pub fieldMeans : List ℕ → ℕ → PartAnswer → Result Field
+fieldMeans bytes tag (At start end) = ok (record { tag = tag; content = part bytes start end; rest = drop end bytes })
+fieldMeans bytes tag (Refused n) = refused n
+
+-- a part by its place
+abbrev pub partMeans : List ℕ → PartAnswer → Result (Part (List ℕ))
+partMeans bytes (At start end) = ok (record { part = part bytes start end; rest = drop end bytes })
+partMeans bytes (Refused n) = refused n
+
+-- the place lies in the bytes, and a refusal isn't 0
+abbrev pub PartInside : ℕ → PartAnswer → Type 0
+PartInside size (At start end) = Inside size start end
+PartInside size (Refused n) = 0 < n
+
+pub record FieldGives (bytes : List ℕ) (tag : ℕ) (definition : Result Field) (r : PartAnswer) : Type 0 where
+  pub says : fieldMeans bytes tag r ≡ definition
+  pub inside : PartInside (length bytes) r
+
+pub record PartGives (bytes : List ℕ) (definition : Result (Part (List ℕ))) (r : PartAnswer) : Type 0 where
+  pub says : partMeans bytes r ≡ definition
+  pub inside : PartInside (length bytes) r
+
+-- a column by its places: 0 is read, any other number a refusal
+abbrev pub columnMeans : List ℕ → ℕ → ColumnAnswer → Result (Part TableColumn)
+columnMeans bytes zero r = ok (record { part = columnIn bytes (r .place); rest = drop (r .next) bytes })
+columnMeans bytes (suc n) r = refused (suc n)
+
+pub record ColumnGives (bytes : List ℕ) (definition : Result (Part TableColumn)) (r : ColumnAnswer) : Type 0 where
+  pub says : columnMeans bytes (r .refused) r ≡ definition
+  pub inside : r .refused ≡ 0 → ColumnInside (length bytes) (r .place)
+  pub ends : r .refused ≡ 0 → r .next ≤ length bytes
+
+-- tag 4 of a length, else 11
+unfoldable pub valuesOfLength : ℕ → List ℕ → Result (Part (List ℕ))
+valuesOfLength size bytes = do
+  f ← tagged 4 bytes
+  _ ← require (eqb (length (f .content)) size) 11
+  ok (record { part = f .content; rest = f .rest })
+
+-- ---- the reading of a column, step by step: `readBody` from its values backwards
+
+unfoldable pub valuesStep : DataType → Bool → List ℕ → List ℕ → ℕ → List ℕ → Result (Part TableColumn)
+valuesStep t n validity offsets rows bytes = do
+  values ← valuesOfLength (valuesLength t rows offsets) bytes
+  ok (record { part = record { type = t; nullable = n; validity = validity; offsets = offsets; values = values .part }; rest = values .rest })
+
+unfoldable pub offsetsStep : DataType → Bool → List ℕ → ℕ → List ℕ → Result (Part TableColumn)
+offsetsStep t n validity rows bytes = do
+  offsets ← readOffsets t rows bytes
+  valuesStep t n validity (offsets .part) rows (offsets .rest)
+
+unfoldable pub validityStep : DataType → Bool → ℕ → List ℕ → Result (Part TableColumn)
+validityStep t n rows bytes = do
+  validity ← readValidity rows bytes
+  offsetsStep t n (validity .part) rows (validity .rest)
+
+unfoldable pub headStep : ℕ → ℕ → ℕ → List ℕ → Result (Part TableColumn)
+headStep kind mark rows bytes = do
+  t ← typeNumbered 11 kind
+  n ← markNumbered 11 mark
+  validityStep t n rows bytes
+
+-- a refusal with a number
+pub record Refuses (n : ℕ) (r : ColumnAnswer) : Type 0 where
+  pub number : r .refused ≡ n
+
+-- ---- the columns
+
+-- a table by its places, beside what a step gives
+pub record TableGives (bytes : List ℕ) (definition : Result Table) (r : TableAnswer) : Type 0 where
+  pub says : readingIn bytes (r .refused) (r .table) ≡ definition
+  pub few : r .table .count ≤ 16
+  pub inside : r .refused ≡ 0 → (i : ℕ) → i < r .table .count → ColumnInside (length bytes) (getD (r .table .columns) i noPlace)
+
+-- a refusal with a number
+pub record TableRefuses (n : ℕ) (r : TableAnswer) : Type 0 where
+  pub number : r .refused ≡ n
+  pub none : r .table .count ≡ 0
+
+-- bytes behind the last column that a table may have
+unfoldable pub oneMore : List ℕ → Result Table
+oneMore bytes = taggedPair 2 bytes >>= λ _. refused 10
+
+-- the columns of a table of so many rows
+unfoldable pub columnsStep : ℕ → List ℕ → Result Table
+columnsStep rows bytes = do
+  cs ← readColumns rows columnsMost bytes
+  ok (record { rows = rows; columns = cs })
+
+-- ---- an entry
+
+-- a value beside an entry: what it means with the table's bytes, and that it can be stored where they are fewer than 2 ^ 32
+pub record ValueGives (bytes : List ℕ) (e : Entry) (v : Value) : Type 0 where
+  pub says : meaning [] bytes v ≡ entry e
+  pub stores : length bytes < 2 ^ 32 → Storable v
