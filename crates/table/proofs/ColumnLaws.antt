@@ -2,7 +2,7 @@
 use mathlib.Core.Path.{_≡_, refl, sym, ap, subst, _∙_}
 use mathlib.Core.Bool.{Bool, true, false, not, _&&_, _||_}
 use mathlib.Core.List.{List, [], _∷_}
-use Prim.Native.Nat.{ℕ, zero, suc, _+_, _-_, _<_, _≤_}
+use Prim.Native.Nat.{ℕ, zero, suc, _<_, _≤_}
 use native.Mathlib.Omega.{arith}
 use lib.Dec.{eqb}
 use lib.ListN.{length, drop}
@@ -13,16 +13,15 @@ use Rattle.layout.specs.Field.{Field}
 use Rattle.scalar.specs.declared.types.DataType.{DataType}
 use Rattle.scalar.specs.declared.types.TypeAnswer.{TypeAnswer}
 use Rattle.scalar.specs.declared.types.TypeAnswer.the-variants.{Known, Unknown}
-use Rattle.scalar.specs.Types.{typeNumbered, typeMeans, TypeGives, markNumbered}
+use Rattle.scalar.specs.Types.{typeMeans, TypeGives, markNumbered}
 use Rattle.table.specs.declared.part.PartAnswer.{PartAnswer}
 use Rattle.table.specs.declared.part.PartAnswer.the-variants.{At, Refused}
-use Rattle.table.specs.declared.places.ColumnPlace.{ColumnPlace}
 use Rattle.table.specs.declared.column.ColumnAnswer.{ColumnAnswer}
 use Rattle.table.specs.Column.{TableColumn, validIn}
 use Rattle.table.specs.Reading.{Part, taggedPair, readValidity, readOffsets, readBody, readValues, valuesLength, readParts, noNull, readColumn}
-use Rattle.table.specs.Places.{columnIn, Inside, ColumnInside}
-use Rattle.table.specs.Parts.{fieldMeans, partMeans, FieldGives, PartGives, PartInside, columnMeans, ColumnGives, Refuses, valuesOfLength, valuesStep, offsetsStep, validityStep, headStep}
-use Rattle.table.proofs.PartsLaws.{behind-refused, behind-field, field-inside, field-some}
+use Rattle.table.specs.Places.{columnIn, Inside}
+use Rattle.table.specs.Parts.{partMeans, FieldGives, PartGives, PartInside, columnMeans, ColumnGives, Refuses, valuesOfLength, valuesStep, offsetsStep, validityStep, headStep}
+use Rattle.table.proofs.PartsLaws.{behind-refused, behind-field, field-some}
 
 -- ---- a refusal, and a step behind a part
 

@@ -16,7 +16,7 @@ use Rattle.scalar.specs.declared.types.DataType.{DataType}
 use Rattle.scalar.specs.declared.types.DataType.the-variants as types
 use Rattle.scalar.specs.declared.value.Value.{Value}
 use Rattle.scalar.specs.declared.value.Value.the-variants.{Null, Boolean, Int32, Int64, TableText}
-use Rattle.scalar.specs.Entry.{Entry, null, boolean, int32, int64, float64, utf8, Outcome, entry}
+use Rattle.scalar.specs.Entry.{Entry, null, boolean, int32, int64, float64, utf8, entry}
 use Rattle.scalar.specs.Value.{meaning, floatValue, Storable}
 use Rattle.scalar.proofs.FloatLaws.{float-stores, float-means}
 use Rattle.table.specs.declared.places.ColumnPlace.{ColumnPlace}

@@ -2,18 +2,18 @@
 use mathlib.Core.Path.{_≡_, refl, sym, ap, subst, _∙_}
 use mathlib.Core.Bool.{Bool, true, false, _||_}
 use mathlib.Core.List.{List, []}
-use Prim.Native.Nat.{ℕ, zero, suc, _+_, _-_, _*_, _<_, _≤_}
+use Prim.Native.Nat.{ℕ, suc, _+_, _-_, _*_, _<_, _≤_}
 use native.Mathlib.Omega.{arith}
 use lib.Dec.{eqb}
 use lib.ListN.{length, take, drop}
 use borrow.Author.Tests.{eq-eqb, ne-eqb}
 use Rattle.layout.specs.Result.{Result, refused, ok, _>>=_, require}
 use Rattle.layout.specs.Bytes.{part, bitmapLength}
-use Rattle.layout.specs.Field.{Field, header}
+use Rattle.layout.specs.Field.{Field}
 use Rattle.layout.specs.Place.{headerAt}
 use Rattle.layout.specs.declared.field.FieldPlace.{FieldPlace}
 use Rattle.layout.specs.declared.field.Header.the-variants.{Found, Cut}
-use Rattle.layout.proofs.PlaceLaws.{FieldThere, place-cut, place-found}
+use Rattle.layout.proofs.PlaceLaws.{place-cut, place-found}
 use Rattle.layout.proofs.PartLaws.{length-part}
 use Rattle.table.specs.declared.part.PartAnswer.{PartAnswer}
 use Rattle.table.specs.declared.part.PartAnswer.the-variants.{At, Refused}
@@ -21,7 +21,7 @@ use Rattle.scalar.specs.declared.types.DataType.{DataType}
 use Rattle.table.specs.Column.{offsetAt}
 use Rattle.table.specs.Reading.{Part, tagged, taggedPair, readValidity, neverFalls, readTextOffsets, readOffsets}
 use Rattle.table.specs.Places.{Inside}
-use Rattle.table.specs.Parts.{FieldGives, PartGives, fieldMeans, partMeans, PartInside, valuesOfLength}
+use Rattle.table.specs.Parts.{FieldGives, PartGives, fieldMeans, PartInside, valuesOfLength}
 
 -- ---- the field of a tag
 

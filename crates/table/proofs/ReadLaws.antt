@@ -19,7 +19,7 @@ use Rattle.table.specs.declared.places.TableAnswer.{TableAnswer}
 use Rattle.table.specs.declared.column.ColumnAnswer.{ColumnAnswer}
 use Rattle.table.specs.Column.{TableColumn}
 use Rattle.table.specs.Reading.{Part, tagged, taggedPair, readColumn, readColumns, Table, readTable}
-use Rattle.table.specs.Places.{columnIn, tableIn, readingIn, ColumnInside, noPlace, TableRead}
+use Rattle.table.specs.Places.{columnIn, readingIn, ColumnInside, noPlace, TableRead}
 use Rattle.table.specs.Parts.{fieldMeans, FieldGives, columnMeans, ColumnGives, TableGives, TableRefuses, oneMore, columnsStep}
 use Rattle.table.proofs.PartsLaws.{behind-refused, behind-field, field-some}
 

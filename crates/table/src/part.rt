@@ -8,8 +8,7 @@ use scalar::types::DataType;
 ghost use mathlib.Core.Path.{_≡_};
 ghost use lib.ListN.{length, drop};
 ghost use Prim.Native.Nat.{suc, _*_, _≤_};
-ghost use Rattle.layout.specs.Bytes.{part};
-ghost use Rattle.table.specs.Reading.{neverFalls, tagged, taggedPair, readValidity, readTextOffsets, readOffsets, readValues, valuesLength};
+ghost use Rattle.table.specs.Reading.{neverFalls, tagged, taggedPair, readValidity, readTextOffsets, readOffsets, valuesLength};
 ghost use Rattle.table.specs.Parts.{FieldGives, PartGives, valuesOfLength};
 
 // Where a part's content starts and ends, or the number with which the table is refused.

@@ -1,50 +1,18 @@
-use mathlib.Core.Path.{_≡_, refl, sym, ap, subst, _∙_}
-use native.Mathlib.Omega.{arith}
+-- The field of a tag that has two bytes, else 9.
 use denote.Ref.{now}
-use Rattle.table.proofs.PartsLaws.{field-inside, pair-refused, pair-two, pair-other}
 use borrow.Author.Needs.{needs}
+use Rattle.table.proofs.PartsLaws.{field-inside, pair-refused, pair-two, pair-other}
 use Rattle.table.proofs.part.tagged_pair.Statement.{statement}
 use Rattle.table.proofs.part.tagged_pair.Tie as tie
-use Rattle.table.proofs.part.tagged_pair.Reads as reads
-use Rattle.table.proofs.part.tagged_pair.Lts as lts
-use Rattle.table.proofs.part.tagged_field.Reads as tagged-field-reads
-
--- src/part.rt:35:11
-tagged-field-requires : tie.Need-tagged-field-requires
-tagged-field-requires c κs = search needs
-
--- src/part.rt:36:29
-enum-known-n : tie.Need-enum-known-n
-enum-known-n c = search needs
-
--- src/part.rt:37:24
-enum-known-begin : tie.Need-enum-known-begin
-enum-known-begin c = search needs
-
--- src/part.rt:37:42
-sub-if1 : tie.Need-sub-if1
-sub-if1 c = field-inside (now (c .before .before .before .before .before .args .bytes)) (c .before .before .before .before .before .args .tag) _ (c .before .before .before .tagged-field .result) (c .before .before .before .tagged-field .ensures) (c .before .begin .given .0 .0) (c .before .begin .given .0 .1 .0) (c .before .begin .given .1) .ordered
-
--- src/part.rt:32:1
-returns : tie.Need-returns
-returns c = pair-refused (now (c .before .before .before .before .before .args .bytes)) (c .before .before .before .before .before .args .at) (c .before .before .before .before .before .args .tag) (c .before .before .before .tagged-field .result) (c .before .before .before .tagged-field .ensures) (c .before .n .given .0 .0) (c .before .n .given .1)
-
--- src/part.rt:32:1
-returns-2 : tie.Need-returns-2
-returns-2 c = pair-two (now (c .before .before .before .before .before .before .args .bytes)) (c .before .before .before .before .before .before .args .at) (c .before .before .before .before .before .before .args .tag) (c .before .before .before .before .tagged-field .result) (c .before .before .before .before .tagged-field .ensures) (c .before .before .begin .given .0 .0) (c .before .before .begin .given .0 .1 .0) (c .before .before .begin .given .1) (c .if1 .taken)
-
--- src/part.rt:32:1
-returns-3 : tie.Need-returns-3
-returns-3 c = pair-other (now (c .before .before .before .before .before .before .args .bytes)) (c .before .before .before .before .before .before .args .at) (c .before .before .before .before .before .before .args .tag) (c .before .before .before .before .tagged-field .result) (c .before .before .before .before .tagged-field .ensures) (c .before .before .begin .given .0 .0) (c .before .before .begin .given .0 .1 .0) (c .before .before .begin .given .1) (c .if1 .left)
 
 pub tagged-pair-spec : {M : Type 1} → statement M
 tagged-pair-spec =
     tie.close
     (tie.spec
-    tagged-field-requires
-    enum-known-n
-    enum-known-begin
-    sub-if1
-    returns
-    returns-2
-    returns-3)
+    (λ c κs. search needs)
+    (λ c. search needs)
+    (λ c. search needs)
+    (λ c. field-inside (now (c .before .before .before .before .before .args .bytes)) (c .before .before .before .before .before .args .tag) _ (c .before .before .before .tagged-field .result) (c .before .before .before .tagged-field .ensures) (c .before .begin .given .0 .0) (c .before .begin .given .0 .1 .0) (c .before .begin .given .1) .ordered)
+    (λ c. pair-refused (now (c .before .before .before .before .before .args .bytes)) (c .before .before .before .before .before .args .at) (c .before .before .before .before .before .args .tag) (c .before .before .before .tagged-field .result) (c .before .before .before .tagged-field .ensures) (c .before .n .given .0 .0) (c .before .n .given .1))
+    (λ c. pair-two (now (c .before .before .before .before .before .before .args .bytes)) (c .before .before .before .before .before .before .args .at) (c .before .before .before .before .before .before .args .tag) (c .before .before .before .before .tagged-field .result) (c .before .before .before .before .tagged-field .ensures) (c .before .before .begin .given .0 .0) (c .before .before .begin .given .0 .1 .0) (c .before .before .begin .given .1) (c .if1 .taken))
+    (λ c. pair-other (now (c .before .before .before .before .before .before .args .bytes)) (c .before .before .before .before .before .before .args .at) (c .before .before .before .before .before .before .args .tag) (c .before .before .before .before .tagged-field .result) (c .before .before .before .before .tagged-field .ensures) (c .before .before .begin .given .0 .0) (c .before .before .begin .given .0 .1 .0) (c .before .before .begin .given .1) (c .if1 .left)))
