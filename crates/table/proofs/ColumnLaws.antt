@@ -67,7 +67,7 @@ module _ (l : List ℕ) (t : DataType) (n : Bool) (vs ve os oe rows size : ℕ) 
 
   pub whole-column : Inside (length l) vs ve → Inside (length l) os oe → (begin end : ℕ) → r ≡ At begin end
       → ColumnGives l (valuesStep t n (part l vs ve) (part l os oe) rows (drop oe l))
-        (record { refused = 0; place = record { «data_type» = t; nullable = n; «validity_start» = vs; «validity_end» = ve; «offsets_start» = os; «offsets_end» = oe; «values_start» = begin; «values_end» = end }; next = end })
+      (record { refused = 0; place = record { «data_type» = t; nullable = n; «validity_start» = vs; «validity_end» = ve; «offsets_start» = os; «offsets_end» = oe; «values_start» = begin; «values_end» = end }; next = end })
   whole-column v o begin end e =
       let i = part-inside l (valuesOfLength size (drop oe l)) r g begin end e in
       column-same l _ _ _ values-step (step-on l (valuesOfLength size (drop oe l)) r g _ begin end _ e

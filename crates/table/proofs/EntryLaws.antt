@@ -49,10 +49,13 @@ part-part l start end from last h =
   where
     enough : last ≤ length l - start
     enough = omega (arith, length-part l start end)
+
     whole : min (last - from) (length (drop (start + from) l)) ≡ last - from
     whole = omega (arith, length-drop (start + from) l, enough)
+
     part-of-it : last - from ≡ min (last - from) (length (part l start end) - from)
     part-of-it = omega arith
+
     byte-at : (i : ℕ) → i < length (take (last - from) (drop (start + from) l)) → byte (take (last - from) (drop (start + from) l)) i ≡ byte (part (part l start end) from last) i
     byte-at i p =
         let n : i < last - from = omega (arith, length-take (last - from) (drop (start + from) l)) in
@@ -80,9 +83,9 @@ module _ (l : List ℕ) (start end from to last : ℕ) (m : List ℕ) (is : m �
 
     pub text-there : ValueGives l (utf8 (textBetween from to (part l start end))) (TableText (start + from) (last - from))
     text-there = record {
-        says = ap (λ (x : List ℕ). entry (utf8 x)) (part-part l start end from last (omega (arith, last-is)) ∙ ap (λ (k : ℕ). part (part l start end) k last) whole ∙ text-cut);
-        stores = λ b. (omega (arith, text-inside), omega (arith, text-inside, last-is, length-part l start end));
-      }
+      says = ap (λ (x : List ℕ). entry (utf8 x)) (part-part l start end from last (omega (arith, last-is)) ∙ ap (λ (k : ℕ). part (part l start end) k last) whole ∙ text-cut);
+      stores = λ b. (omega (arith, text-inside), omega (arith, text-inside, last-is, length-part l start end));
+    }
       where
         whole : from ≡ min from last
         whole = omega arith
@@ -97,6 +100,7 @@ module _ (l offsets values : List ℕ) (row : ℕ) (m : List ℕ) (e : m ≡ off
     where
       first : 0 ≡ offsetAt offsets row
       first = sym (number-behind 4 offsets (4 * row) (omega (arith, ap length e)))
+
       next : 0 ≡ offsetAt offsets (suc row)
       next = sym (number-behind 4 offsets (4 * suc row) (omega (arith, ap length e)))
 
@@ -107,8 +111,10 @@ module _ (l offsets values : List ℕ) (row : ℕ) (m : List ℕ) (e : m ≡ off
     where
       one : 4 * (row + 1) ≡ 4 * suc row
       one = omega arith
+
       first : from ≡ offsetAt offsets row
       first = p ∙ ap (λ (x : List ℕ). numberAt 4 x (4 * row)) e
+
       next : to ≡ offsetAt offsets (suc row)
       next = q ∙ ap (numberAt 4 m) one ∙ ap (λ (x : List ℕ). numberAt 4 x (4 * suc row)) e
 
@@ -175,9 +181,9 @@ module _ {A : Type 0} (f : ColumnPlace → A) (l : List ℕ) (t : Table) (long :
 
   pub no-column : min (t .count) 16 ≤ column → EntryGives l (ok (tableIn l t)) column row NoColumn
   no-column h = record {
-      says = sym (ap (λ (c : Option TableColumn). entryOfColumn c (t .rows) row) (elem-none (map (columnIn l) (take (t .count) (t .columns))) column (omega (arith, length-map (take (t .count) (t .columns)) (columnIn l), columns-there))));
-      stores = λ _. tt;
-    }
+    says = sym (ap (λ (c : Option TableColumn). entryOfColumn c (t .rows) row) (elem-none (map (columnIn l) (take (t .count) (t .columns))) column (omega (arith, length-map (take (t .count) (t .columns)) (columnIn l), columns-there))));
+    stores = λ _. tt;
+  }
 
   module _ (h : column < min (t .count) 16) where
     column-there : getElem? (map (columnIn l) (take (t .count) (t .columns))) column ≡ some (columnIn l (getD (t .columns) column noPlace))
@@ -187,16 +193,16 @@ module _ {A : Type 0} (f : ColumnPlace → A) (l : List ℕ) (t : Table) (long :
 
     pub no-row : t .rows ≤ row → EntryGives l (ok (tableIn l t)) column row NoRow
     no-row m = record {
-        says = sym (ap (λ (c : Option TableColumn). entryOfColumn c (t .rows) row) column-there ∙ simp (le-ltb row (t .rows) m));
-        stores = λ _. tt;
-      }
+      says = sym (ap (λ (c : Option TableColumn). entryOfColumn c (t .rows) row) column-there ∙ simp (le-ltb row (t .rows) m));
+      stores = λ _. tt;
+    }
 
     pub has-entry : row < t .rows → (v : Value) → ValueGives l (entryAt (columnIn l (getD (t .columns) column noPlace)) row) v
         → EntryGives l (ok (tableIn l t)) column row (AnEntry v)
     has-entry m v g = record {
-        says = sym (ap (λ (c : Option TableColumn). entryOfColumn c (t .rows) row) column-there ∙ simp (lt-ltb row (t .rows) m, g .says));
-        stores = g .stores;
-      }
+      says = sym (ap (λ (c : Option TableColumn). entryOfColumn c (t .rows) row) column-there ∙ simp (lt-ltb row (t .rows) m, g .says));
+      stores = g .stores;
+    }
 
 -- ---- in the bytes of a table
 

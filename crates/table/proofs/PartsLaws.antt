@@ -37,9 +37,9 @@ tagged-is l at tag p h = ap (λ (r : Result Field). r >>= λ f. require (eqb (f 
 
 pub field-found : (l : List ℕ) (at tag : ℕ) (p : FieldPlace) → headerAt l at ≡ Found p → p .tag ≡ tag → FieldGives l tag (tagged tag (drop at l)) (At (p .start) (p .end))
 field-found l at tag p h e = record {
-    says = sym (tagged-is l at tag p h ∙ simp (eq-eqb _ _ e) (λ i. ok (record { tag = e i; content = part l (p .start) (p .end); rest = drop (p .end) l })));
-    inside = record { ordered = place-found l at p h .ordered; in-bytes = place-found l at p h .inside };
-  }
+  says = sym (tagged-is l at tag p h ∙ simp (eq-eqb _ _ e) (λ i. ok (record { tag = e i; content = part l (p .start) (p .end); rest = drop (p .end) l })));
+  inside = record { ordered = place-found l at p h .ordered; in-bytes = place-found l at p h .inside };
+}
 
 pub field-other : (l : List ℕ) (at tag : ℕ) (p : FieldPlace) → headerAt l at ≡ Found p → (p .tag ≡ tag → ⊥) → FieldGives l tag (tagged tag (drop at l)) (Refused 9)
 field-other l at tag p h n = record { says = sym (tagged-is l at tag p h ∙ simp (ne-eqb _ _ n)); inside = omega arith }
@@ -191,9 +191,9 @@ module _ (l : List ℕ) (at rows : ℕ) (r : PartAnswer) (g : FieldGives l 5 (ta
 
       pub offsets-taken : offsetAt (part l begin end) 0 ≡ 0 → neverFalls rows (part l begin end) ≡ true → PartGives l (readTextOffsets rows (drop at l)) (At begin end)
       offsets-taken z f = record {
-          says = offsets-behind _ (simp (eq-eqb _ _ long, eq-eqb _ _ z, f));
-          inside = field-inside l 5 (tagged 5 (drop at l)) r g begin end e;
-        }
+        says = offsets-behind _ (simp (eq-eqb _ _ long, eq-eqb _ _ z, f));
+        inside = field-inside l 5 (tagged 5 (drop at l)) r g begin end e;
+      }
 
 -- a column that has no tag 5
 pub offsets-none : (l : List ℕ) (at : ℕ) → at ≤ length l → PartGives l (ok (record { part = []; rest = drop at l })) (At at at)

@@ -27,10 +27,10 @@ use Rattle.table.proofs.PartsLaws.{behind-refused, behind-field, field-
 
 pub table-refused : (l : List ℕ) (d : Result Table) (n : ℕ) (r : TableAnswer) → TableRefuses n r → 0 < n → d ≡ refused n → TableGives l d r
 table-refused l d n r u h e = record {
-    says = refusal n (u .number) h ∙ sym e;
-    few = omega (arith, u .none);
-    inside = λ z i p. absurd (omega (arith, u .none));
-  }
+  says = refusal n (u .number) h ∙ sym e;
+  few = omega (arith, u .none);
+  inside = λ z i p. absurd (omega (arith, u .none));
+}
   where
     refusal : (k : ℕ) → r .refused ≡ k → 0 < k → readingIn l (r .refused) (r .table) ≡ refused k
     refusal zero q p = absurd (omega arith)
@@ -116,10 +116,10 @@ module _ (l : List ℕ) (rows first : ℕ) (columns : List ColumnPlace) (count a
 
   pub columns-all : length l ≤ at → TableGives l (columnsStep rows (drop first l)) (record { refused = 0; table = record { rows = rows; count = count; columns = columns } })
   columns-all h = record {
-      says = ap (λ (c : List TableColumn). ok (record { rows = rows; columns = c })) (sym (append-nil front)) ∙ columns-are (ok []) (columns-end rows (16 - count) (drop at l) ended);
-      few = s .few;
-      inside = λ _. s .inside;
-    }
+    says = ap (λ (c : List TableColumn). ok (record { rows = rows; columns = c })) (sym (append-nil front)) ∙ columns-are (ok []) (columns-end rows (16 - count) (drop at l) ended);
+    few = s .few;
+    inside = λ _. s .inside;
+  }
     where
       ended : length (drop at l) ≡ 0
       ended = length-drop at l ∙ omega arith
@@ -134,6 +134,7 @@ module _ (l : List ℕ) (rows first : ℕ) (columns : List ColumnPlace) (count a
       where
         none : 16 - count ≡ 0
         none = omega arith
+
         refuses : (f : Result Field) → (f >>= λ _. refused 10) ≡ tableOf rows (Behind front (f >>= λ _. refused 10))
         refuses (refused n) = refl
         refuses (ok f) = refl
@@ -159,25 +160,30 @@ module _ (l : List ℕ) (rows first : ℕ) (columns : List ColumnPlace) (count a
 
       pub columns-more : r .refused ≡ 0 → ColumnsSoFar l rows first (set columns count (r .place)) (count + 1) (r .next)
       columns-more z = record {
-          few = omega (arith, s .few, n);
-          size = length-set columns count (r .place) ∙ s .size;
-          same = s .same ∙ ap (Behind front) (next-is ∙ found) ∙ behind-one front (columnIn l (r .place)) rest ∙ ap (λ (f : List TableColumn). Behind f rest) (sym placed);
-          inside = λ i p. within i p (eqb i count) refl;
-        }
+        few = omega (arith, s .few, n);
+        size = length-set columns count (r .place) ∙ s .size;
+        same = s .same ∙ ap (Behind front) (next-is ∙ found) ∙ behind-one front (columnIn l (r .place)) rest ∙ ap (λ (f : List TableColumn). Behind f rest) (sym placed);
+        inside = λ i p. within i p (eqb i count) refl;
+      }
         where
           rest : Result (List TableColumn)
           rest = readColumns rows (16 - (count + 1)) (drop (r .next) l)
+
           found : (columnMeans l (r .refused) r >>= λ c. readColumns rows (16 - (count + 1)) (c .rest) >>= λ cs. ok (c .part ∷ cs))
               ≡ (rest >>= λ cs. ok (columnIn l (r .place) ∷ cs))
           found = ap (λ (k : ℕ). columnMeans l k r >>= λ c. readColumns rows (16 - (count + 1)) (c .rest) >>= λ cs. ok (c .part ∷ cs)) z
+
           in-range : count < length columns
           in-range = omega (arith, s .few, s .size, n)
+
           one : count + 1 ≡ suc count
           one = omega arith
+
           placed : map (columnIn l) (take (count + 1) (set columns count (r .place))) ≡ front ++ (columnIn l (r .place) ∷ [])
           placed =
               ap (λ (k : ℕ). map (columnIn l) (take k (set columns count (r .place)))) one
               ∙ ap (map (columnIn l)) (take-suc-set columns count (r .place) in-range) ∙ map-append (columnIn l) (take count columns) (r .place ∷ [])
+
           within : (i : ℕ) → i < count + 1 → (b : Bool) → eqb i count ≡ b → ColumnInside (length l) (getD (set columns count (r .place)) i noPlace)
           within i p true e =
               subst (ColumnInside (length l))

@@ -12,7 +12,6 @@ use layout::part::part_of;
 use scalar::types::DataType;
 use scalar::types::TypeAnswer;
 use scalar::types::type_numbered;
-
 ghost use mathlib.Core.Path.{_≡_};
 ghost use Prim.Native.Nat.{_≤_};
 ghost use lib.ListN.{length, drop};
@@ -56,7 +55,16 @@ fn refuse(n: u8) -> ColumnAnswer
 }
 
 // The values behind the offsets: the whole column. The validity stands from vs to ve, the offsets from os to oe.
-fn with_offsets(bytes: &[u8], kind: DataType, nullable: bool, vs: usize, ve: usize, os: usize, oe: usize, rows: usize) -> ColumnAnswer
+fn with_offsets(
+    bytes: &[u8],
+    kind: DataType,
+    nullable: bool,
+    vs: usize,
+    ve: usize,
+    os: usize,
+    oe: usize,
+    rows: usize,
+) -> ColumnAnswer
     requires { ⌜ (rows ≤ 512) × Inside (length (now bytes)) vs ve × Inside (length (now bytes)) os oe ⌝ }
     ensures { λ r. ⌜ ColumnGives (now (bytes .entry)) (valuesStep kind nullable (part (now (bytes .entry)) vs ve) (part (now (bytes .entry)) os oe) rows (drop oe (now (bytes .entry)))) r ⌝ }
 {
@@ -81,7 +89,14 @@ fn with_offsets(bytes: &[u8], kind: DataType, nullable: bool, vs: usize, ve: usi
 }
 
 // The offsets behind the validity, and so on.
-fn with_validity(bytes: &[u8], kind: DataType, nullable: bool, vs: usize, ve: usize, rows: usize) -> ColumnAnswer
+fn with_validity(
+    bytes: &[u8],
+    kind: DataType,
+    nullable: bool,
+    vs: usize,
+    ve: usize,
+    rows: usize,
+) -> ColumnAnswer
     requires { ⌜ (rows ≤ 512) × Inside (length (now bytes)) vs ve ⌝ }
     ensures { λ r. ⌜ ColumnGives (now (bytes .entry)) (offsetsStep kind nullable (part (now (bytes .entry)) vs ve) rows (drop ve (now (bytes .entry)))) r ⌝ }
 {

@@ -10,7 +10,6 @@ use layout::part::part_of;
 use scalar::types::DataType;
 use scalar::value::Value;
 use scalar::value::float_value;
-
 ghost use mathlib.Core.Path.{_≡_};
 ghost use Prim.Native.Nat.{_*_};
 ghost use Rattle.layout.specs.Bytes.{numberAt, part};

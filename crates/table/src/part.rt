@@ -4,7 +4,6 @@ use layout::field::Header;
 use layout::field::field_at;
 use layout::number::read_u32;
 use scalar::types::DataType;
-
 ghost use mathlib.Core.Path.{_≡_};
 ghost use lib.ListN.{length, drop};
 ghost use Prim.Native.Nat.{suc, _*_, _≤_};
@@ -23,7 +22,11 @@ pub(crate) fn tagged_field(bytes: &[u8], at: usize, tag: u8) -> PartAnswer
 {
     match field_at(bytes, at) {
         Header::Cut => PartAnswer::Refused(9),
-        Header::Found(f) => if f.tag == tag { PartAnswer::At(f.start, f.end) } else { PartAnswer::Refused(9) },
+        Header::Found(f) => if f.tag == tag {
+            PartAnswer::At(f.start, f.end)
+        } else {
+            PartAnswer::Refused(9)
+        },
     }
 }
 

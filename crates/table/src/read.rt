@@ -6,8 +6,7 @@ use crate::part::tagged_pair;
 use crate::places::Table;
 use crate::places::TableAnswer;
 use layout::number::read_u16;
-
-ghost use Prim.Native.Nat.{_<_, _≤_};
+ghost use Prim.Native.Nat.{_≤_};
 ghost use lib.ListN.{length, drop};
 ghost use Rattle.table.specs.Places.{TableRead};
 ghost use Rattle.table.specs.Parts.{TableGives, TableRefuses, oneMore, columnsStep};

@@ -3,7 +3,6 @@ use crate::column::no_place;
 use crate::places::ColumnPlace;
 use crate::places::Table;
 use layout::part::part_of;
-
 ghost use mathlib.Core.Path.{_≡_};
 ghost use lib.ListN.{getD, take};
 ghost use Rattle.table.specs.Places.{noPlace, partIn};
@@ -15,7 +14,11 @@ pub(crate) fn place_of(t: Table, column: usize) -> ColumnPlace
     if t.count <= column {
         return no_place();
     }
-    if column < 16 { t.columns[column] } else { no_place() }
+    if column < 16 {
+        t.columns[column]
+    } else {
+        no_place()
+    }
 }
 
 // The validity bits of a column; empty where there is no such column or no null in it.
