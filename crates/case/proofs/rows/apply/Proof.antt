@@ -1,0 +1,34 @@
+-- `apply` puts the operation's value in the slots of the listed rows. The loop's invariant: so far it is there.
+use mathlib.Core.Path.{subst, _∙_}
+use Prim.Native.Nat.{ℕ, _-_}
+use native.Mathlib.Omega.{arith}
+use denote.Ref.{now}
+use Rattle.scalar.specs.declared.value.Value.{Value}
+use Rattle.scalar.specs.Value.{Gives}
+use Rattle.case.specs.Frame.{slotAt, operationOf}
+use Rattle.case.proofs.RowsLaws.{FilledSoFar, none-yet, ends, row-in, room-kept, row-small, slot-fresh, next}
+use Rattle.case.proofs.rows.apply.Statement.{statement}
+use Rattle.case.proofs.rows.apply.Tie as tie
+
+abbrev Inv-loop : tie.InvT-loop
+Inv-loop work₀ n op i₀ work i = FilledSoFar (λ (r : ℕ) (x : Value). Gives (operationOf op) (slotAt work₀ r) x) work₀ n i work
+
+abbrev μ-loop : tie.MeasureT-loop
+μ-loop work₀ n op i₀ work i = n - i
+
+pub apply-spec : {M : Type 1} → statement M
+apply-spec =
+    tie.close
+    (tie.spec
+    Inv-loop
+    μ-loop
+    (λ c. none-yet (λ (r : ℕ) (x : Value). Gives (operationOf (c .before .args .op)) (slotAt (now (c .before .args .work)) r) x) (now (c .before .args .work)) (c .before .args .n))
+    (λ c κs. row-in (λ (r : ℕ) (x : Value). Gives (operationOf (c .before .before .before .before .args .op)) (slotAt (now (c .before .before .before .before .args .work)) r) x) (now (c .before .before .before .before .args .work)) (c .before .before .before .before .args .n) (c .before .before .before .before .pre) (c .before .before .loop .work) (c .before .before .loop .i) (c .before .before .loop .inv) (c .before .loop-test .taken))
+    (λ c κs. (row-small (λ (r : ℕ) (x : Value). Gives (operationOf (c .before .before .before .before .before .before .args .op)) (slotAt (now (c .before .before .before .before .before .before .args .work)) r) x) (now (c .before .before .before .before .before .before .args .work)) (c .before .before .before .before .before .before .args .n) (c .before .before .before .before .before .before .pre) (c .before .before .before .before .loop .work) (c .before .before .before .before .loop .i) (c .before .before .before .before .loop .inv) (c .before .before .before .loop-test .taken) (c .before .row-at .result) (c .before .row-at .ensures), room-kept (λ (r : ℕ) (x : Value). Gives (operationOf (c .before .before .before .before .before .before .args .op)) (slotAt (now (c .before .before .before .before .before .before .args .work)) r) x) (now (c .before .before .before .before .before .before .args .work)) (c .before .before .before .before .before .before .args .n) (c .before .before .before .before .before .before .pre) (c .before .before .before .before .loop .work) (c .before .before .before .before .loop .i) (c .before .before .before .before .loop .inv) (c .before .before .before .loop-test .taken)))
+    (λ c κs. tt)
+    (λ c κs. (row-small (λ (r : ℕ) (x : Value). Gives (operationOf (c .before .before .before .before .before .before .before .before .before .args .op)) (slotAt (now (c .before .before .before .before .before .before .before .before .before .args .work)) r) x) (now (c .before .before .before .before .before .before .before .before .before .args .work)) (c .before .before .before .before .before .before .before .before .before .args .n) (c .before .before .before .before .before .before .before .before .before .pre) (c .before .before .before .before .before .before .before .loop .work) (c .before .before .before .before .before .before .before .loop .i) (c .before .before .before .before .before .before .before .loop .inv) (c .before .before .before .before .before .before .loop-test .taken) (c .before .before .before .before .row-at .result) (c .before .before .before .before .row-at .ensures), room-kept (λ (r : ℕ) (x : Value). Gives (operationOf (c .before .before .before .before .before .before .before .before .before .args .op)) (slotAt (now (c .before .before .before .before .before .before .before .before .before .args .work)) r) x) (now (c .before .before .before .before .before .before .before .before .before .args .work)) (c .before .before .before .before .before .before .before .before .before .args .n) (c .before .before .before .before .before .before .before .before .before .pre) (c .before .before .before .before .before .before .before .loop .work) (c .before .before .before .before .before .before .before .loop .i) (c .before .before .before .before .before .before .before .loop .inv) (c .before .before .before .before .before .before .loop-test .taken), c .apply-one .ensures .stores (c .before .before .get-slot .ensures .1)))
+    (λ c. omega arith)
+    (λ c. omega arith)
+    (λ c. next (λ (r : ℕ) (x : Value). Gives (operationOf (c .before .before .before .before .before .before .before .before .before .before .before .before .args .op)) (slotAt (now (c .before .before .before .before .before .before .before .before .before .before .before .before .args .work)) r) x) (now (c .before .before .before .before .before .before .before .before .before .before .before .before .args .work)) (c .before .before .before .before .before .before .before .before .before .before .before .before .args .n) (c .before .before .before .before .before .before .before .before .before .before .before .before .pre) (c .before .before .before .before .before .before .before .before .before .before .loop .work) (c .before .before .before .before .before .before .before .before .before .before .loop .i) (c .before .before .before .before .before .before .before .before .before .before .loop .inv) (c .before .before .before .before .before .before .before .before .before .loop-test .taken) (c .before .before .before .before .before .before .before .row-at .result) (c .before .before .before .before .before .before .before .row-at .ensures) (c .before .before .before .apply-one .result) (c .before .before .put-slot .last .0) (subst (λ (x : Value). Gives (operationOf (c .before .before .before .before .before .before .before .before .before .before .before .before .args .op)) x (c .before .before .before .apply-one .result)) (c .before .before .before .before .before .get-slot .ensures .0 ∙ slot-fresh (λ (r : ℕ) (x : Value). Gives (operationOf (c .before .before .before .before .before .before .before .before .before .before .before .before .args .op)) (slotAt (now (c .before .before .before .before .before .before .before .before .before .before .before .before .args .work)) r) x) (now (c .before .before .before .before .before .before .before .before .before .before .before .before .args .work)) (c .before .before .before .before .before .before .before .before .before .before .before .before .args .n) (c .before .before .before .before .before .before .before .before .before .before .before .before .pre) (c .before .before .before .before .before .before .before .before .before .before .loop .work) (c .before .before .before .before .before .before .before .before .before .before .loop .i) (c .before .before .before .before .before .before .before .before .before .before .loop .inv) (c .before .before .before .before .before .before .before .before .before .loop-test .taken) (c .before .before .before .before .before .before .before .row-at .result) (c .before .before .before .before .before .before .before .row-at .ensures)) (c .before .before .before .apply-one .ensures)) (c .before .before .put-slot .ensures))
+    (λ c. c .before .loop .inv .done .long)
+    (λ c. ends (λ (r : ℕ) (x : Value). Gives (operationOf (c .before .before .before .args .op)) (slotAt (now (c .before .before .before .args .work)) r) x) (now (c .before .before .before .args .work)) (c .before .before .before .args .n) (c .before .loop .i) (c .before .loop .work) (c .before .loop .inv) (omega arith)))
