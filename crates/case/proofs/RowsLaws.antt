@@ -24,8 +24,8 @@ pub record FilledSoFar (right : ℕ → Value → Type 0) (w : List ℕ) (n i : 
   pub few : i ≤ n
   pub done : Filled right w i w′
 
-pub none-yet : (right : ℕ → Value → Type 0) (w : List ℕ) (n : ℕ) → FilledSoFar right w n 0 w
-none-yet right w n = record {
+pub none-yet : {right : ℕ → Value → Type 0} {w : List ℕ} {n : ℕ} → FilledSoFar right w n 0 w
+none-yet = record {
   few = omega arith;
   done = record {
     long = refl;
@@ -36,14 +36,14 @@ none-yet right w n = record {
   };
 }
 
-pub ends : (right : ℕ → Value → Type 0) (w : List ℕ) (n i : ℕ) (w′ : List ℕ) → FilledSoFar right w n i w′ → n ≤ i → Filled right w n w′
-ends right w n i w′ s h =
+pub ends : {right : ℕ → Value → Type 0} {w : List ℕ} {n i : ℕ} {w′ : List ℕ} → FilledSoFar right w n i w′ → n ≤ i → Filled right w n w′
+ends {right} {w} {n} {i} {w′} s h =
     let few = s .few in
     let e : i ≡ n = omega arith in
     subst (λ (k : ℕ). Filled right w k w′) e (s .done)
 
 -- one turn, at the row that is read
-module _ (right : ℕ → Value → Type 0) (w : List ℕ) (n : ℕ) (ok : Fillable w n) (m : List ℕ) (i : ℕ) (s : FilledSoFar right w n i m) (more : i < n) where
+module _ {right : ℕ → Value → Type 0} {w : List ℕ} {n i : ℕ} {m : List ℕ} (s : FilledSoFar right w n i m) (ok : Fillable w n) (more : i < n) where
   -- the row lies in the buffer
   pub row-in : 0 + 2 * i + 2 ≤ length m
   row-in = omega (arith, ok .rows-ok .few, ok .room, s .done .long)
@@ -51,7 +51,7 @@ module _ (right : ℕ → Value → Type 0) (w : List ℕ) (n : ℕ) (ok : Filla
   pub room-kept : 5632 ≤ length m
   room-kept = omega (arith, ok .room, s .done .long)
 
-  module _ (r : ℕ) (e : r ≡ rowAt m 0 i) where
+  module _ {r : ℕ} (e : r ≡ rowAt m 0 i) where
     -- the list is as it was
     same-row : r ≡ rowAt w 0 i
     same-row = let few = ok .rows-ok .few in e ∙ number-same 2 m w (0 + 2 * i) (0 + 2 * i) (λ j b. s .done .low (0 + 2 * i + j) (omega arith))
@@ -67,8 +67,8 @@ module _ (right : ℕ → Value → Type 0) (w : List ℕ) (n : ℕ) (ok : Filla
     slot-fresh = s .done .others r row-small fresh
 
     -- a right value in its slot
-    pub next : (v : Value) (m′ : List ℕ) → right r v → SlotPut m r v m′ → FilledSoFar right w n (i + 1) m′
-    next v m′ fits put = record {
+    pub next : {v : Value} {m′ : List ℕ} → SlotPut m r v m′ → right r v → FilledSoFar right w n (i + 1) m′
+    next {v} {m′} put fits = record {
       few = omega arith;
       done = record {
         long = put .long ∙ s .done .long;
@@ -97,12 +97,12 @@ pub record CopiedSoFar (w : List ℕ) (n from to i : ℕ) (w′ : List ℕ) : Ty
   pub bytes-copied : (k : ℕ) → k < i → byte w′ (to + k) ≡ byte w (from + k)
   pub before : (j : ℕ) → j < to → byte w′ j ≡ byte w j
 
-pub copied-none : (w : List ℕ) (n from to : ℕ) → CopiedSoFar w n from to 0 w
-copied-none w n from to = record { few = omega arith; long = refl; bytes-copied = λ k h. absurd (omega arith); before = λ j h. refl }
+pub copied-none : {w : List ℕ} {n from to : ℕ} → CopiedSoFar w n from to 0 w
+copied-none = record { few = omega arith; long = refl; bytes-copied = λ k h. absurd (omega arith); before = λ j h. refl }
 
-pub copied-more : (w : List ℕ) (n from to i : ℕ) (m : List ℕ) → from + 2 * n ≤ to → to + 2 * n ≤ length w → CopiedSoFar w n from to i m → i < 2 * n
+pub copied-more : {w : List ℕ} {n from to i : ℕ} {m : List ℕ} → CopiedSoFar w n from to i m → from + 2 * n ≤ to → to + 2 * n ≤ length w → i < 2 * n
     → CopiedSoFar w n from to (i + 1) (set m (to + i) (byte m (from + i)))
-copied-more w n from to i m apart room s more = record {
+copied-more {w} {n} {from} {to} {i} {m} s apart room more = record {
   few = omega arith;
   long = length-set m (to + i) (byte m (from + i)) ∙ s .long;
   bytes-copied = λ k h. copied-at k h (ℕ-discrete k i);
@@ -115,8 +115,8 @@ copied-more w n from to i m apart room s more = record {
         (getD-set-same m (to + i) (byte m (from + i)) 0 (omega (arith, s .long)) ∙ s .before (from + i) (omega arith))
     copied-at k h (no e) = getD-set-other m (to + i) (to + k) (byte m (from + i)) 0 (λ p. e (omega arith)) ∙ s .bytes-copied k (omega arith)
 
-pub copied-all : (w : List ℕ) (n from to i : ℕ) (w′ : List ℕ) → CopiedSoFar w n from to i w′ → 2 * n ≤ i → Copied w n from to w′
-copied-all w n from to i w′ s all = record {
+pub copied-all : {w : List ℕ} {n from to i : ℕ} {w′ : List ℕ} → CopiedSoFar w n from to i w′ → 2 * n ≤ i → Copied w n from to w′
+copied-all {w} {n} {from} {to} {i} {w′} s all = record {
   long = s .long;
   rows-copied = λ k h. number-same 2 w′ w (to + 2 * k) (from + 2 * k) (λ j b. byte-at k h j b);
   before = s .before;

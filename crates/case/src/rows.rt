@@ -1,5 +1,6 @@
 // The lists of rows of the work buffer, and what is done to the slots of the listed rows.
-use crate::slot::{get_slot, put_slot};
+use crate::slot::get_slot;
+use crate::slot::put_slot;
 use layout::number::read_u16;
 use scalar::cast::cast;
 use scalar::is_not_null::is_not_null;

@@ -1,6 +1,9 @@
 // The slots of the work buffer's frame: a value's kind, one byte, and its payload, eight.
 use layout::number::read_u64;
-use scalar::value::{Value, kind, payload, value_of};
+use scalar::value::Value;
+use scalar::value::kind;
+use scalar::value::payload;
+use scalar::value::value_of;
 ghost use mathlib.Core.Path.{_≡_};
 ghost use Prim.Native.Nat.{_<_, _≤_};
 ghost use lib.ListN.{length};

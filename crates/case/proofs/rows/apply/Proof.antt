@@ -2,7 +2,6 @@
 use mathlib.Core.Path.{subst, _∙_}
 use Prim.Native.Nat.{ℕ, _-_}
 use native.Mathlib.Omega.{arith}
-use denote.Ref.{now}
 use Rattle.scalar.specs.declared.value.Value.{Value}
 use Rattle.scalar.specs.Value.{Gives}
 use Rattle.case.specs.Frame.{slotAt, operationOf}
@@ -22,13 +21,13 @@ apply-spec =
     (tie.spec
     Inv-loop
     μ-loop
-    (λ c. none-yet (λ (r : ℕ) (x : Value). Gives (operationOf (c .before .args .op)) (slotAt (now (c .before .args .work)) r) x) (now (c .before .args .work)) (c .before .args .n))
-    (λ c κs. row-in (λ (r : ℕ) (x : Value). Gives (operationOf (c .before .before .before .before .args .op)) (slotAt (now (c .before .before .before .before .args .work)) r) x) (now (c .before .before .before .before .args .work)) (c .before .before .before .before .args .n) (c .before .before .before .before .pre) (c .before .before .loop .work) (c .before .before .loop .i) (c .before .before .loop .inv) (c .before .loop-test .taken))
-    (λ c κs. (row-small (λ (r : ℕ) (x : Value). Gives (operationOf (c .before .before .before .before .before .before .args .op)) (slotAt (now (c .before .before .before .before .before .before .args .work)) r) x) (now (c .before .before .before .before .before .before .args .work)) (c .before .before .before .before .before .before .args .n) (c .before .before .before .before .before .before .pre) (c .before .before .before .before .loop .work) (c .before .before .before .before .loop .i) (c .before .before .before .before .loop .inv) (c .before .before .before .loop-test .taken) (c .before .row-at .result) (c .before .row-at .ensures), room-kept (λ (r : ℕ) (x : Value). Gives (operationOf (c .before .before .before .before .before .before .args .op)) (slotAt (now (c .before .before .before .before .before .before .args .work)) r) x) (now (c .before .before .before .before .before .before .args .work)) (c .before .before .before .before .before .before .args .n) (c .before .before .before .before .before .before .pre) (c .before .before .before .before .loop .work) (c .before .before .before .before .loop .i) (c .before .before .before .before .loop .inv) (c .before .before .before .loop-test .taken)))
+    (λ c. none-yet)
+    (λ c κs. row-in (c .before .before .loop .inv) (c .before .before .before .before .pre) (c .before .loop-test .taken))
+    (λ c κs. (row-small (c .before .before .before .before .loop .inv) (c .before .before .before .before .before .before .pre) (c .before .before .before .loop-test .taken) (c .before .row-at .ensures), room-kept (c .before .before .before .before .loop .inv) (c .before .before .before .before .before .before .pre) (c .before .before .before .loop-test .taken)))
     (λ c κs. tt)
-    (λ c κs. (row-small (λ (r : ℕ) (x : Value). Gives (operationOf (c .before .before .before .before .before .before .before .before .before .args .op)) (slotAt (now (c .before .before .before .before .before .before .before .before .before .args .work)) r) x) (now (c .before .before .before .before .before .before .before .before .before .args .work)) (c .before .before .before .before .before .before .before .before .before .args .n) (c .before .before .before .before .before .before .before .before .before .pre) (c .before .before .before .before .before .before .before .loop .work) (c .before .before .before .before .before .before .before .loop .i) (c .before .before .before .before .before .before .before .loop .inv) (c .before .before .before .before .before .before .loop-test .taken) (c .before .before .before .before .row-at .result) (c .before .before .before .before .row-at .ensures), room-kept (λ (r : ℕ) (x : Value). Gives (operationOf (c .before .before .before .before .before .before .before .before .before .args .op)) (slotAt (now (c .before .before .before .before .before .before .before .before .before .args .work)) r) x) (now (c .before .before .before .before .before .before .before .before .before .args .work)) (c .before .before .before .before .before .before .before .before .before .args .n) (c .before .before .before .before .before .before .before .before .before .pre) (c .before .before .before .before .before .before .before .loop .work) (c .before .before .before .before .before .before .before .loop .i) (c .before .before .before .before .before .before .before .loop .inv) (c .before .before .before .before .before .before .loop-test .taken), c .apply-one .ensures .stores (c .before .before .get-slot .ensures .1)))
+    (λ c κs. (row-small (c .before .before .before .before .before .before .before .loop .inv) (c .before .before .before .before .before .before .before .before .before .pre) (c .before .before .before .before .before .before .loop-test .taken) (c .before .before .before .before .row-at .ensures), room-kept (c .before .before .before .before .before .before .before .loop .inv) (c .before .before .before .before .before .before .before .before .before .pre) (c .before .before .before .before .before .before .loop-test .taken), c .apply-one .ensures .stores (c .before .before .get-slot .ensures .1)))
     (λ c. omega arith)
     (λ c. omega arith)
-    (λ c. next (λ (r : ℕ) (x : Value). Gives (operationOf (c .before .before .before .before .before .before .before .before .before .before .before .before .args .op)) (slotAt (now (c .before .before .before .before .before .before .before .before .before .before .before .before .args .work)) r) x) (now (c .before .before .before .before .before .before .before .before .before .before .before .before .args .work)) (c .before .before .before .before .before .before .before .before .before .before .before .before .args .n) (c .before .before .before .before .before .before .before .before .before .before .before .before .pre) (c .before .before .before .before .before .before .before .before .before .before .loop .work) (c .before .before .before .before .before .before .before .before .before .before .loop .i) (c .before .before .before .before .before .before .before .before .before .before .loop .inv) (c .before .before .before .before .before .before .before .before .before .loop-test .taken) (c .before .before .before .before .before .before .before .row-at .result) (c .before .before .before .before .before .before .before .row-at .ensures) (c .before .before .before .apply-one .result) (c .before .before .put-slot .last .0) (subst (λ (x : Value). Gives (operationOf (c .before .before .before .before .before .before .before .before .before .before .before .before .args .op)) x (c .before .before .before .apply-one .result)) (c .before .before .before .before .before .get-slot .ensures .0 ∙ slot-fresh (λ (r : ℕ) (x : Value). Gives (operationOf (c .before .before .before .before .before .before .before .before .before .before .before .before .args .op)) (slotAt (now (c .before .before .before .before .before .before .before .before .before .before .before .before .args .work)) r) x) (now (c .before .before .before .before .before .before .before .before .before .before .before .before .args .work)) (c .before .before .before .before .before .before .before .before .before .before .before .before .args .n) (c .before .before .before .before .before .before .before .before .before .before .before .before .pre) (c .before .before .before .before .before .before .before .before .before .before .loop .work) (c .before .before .before .before .before .before .before .before .before .before .loop .i) (c .before .before .before .before .before .before .before .before .before .before .loop .inv) (c .before .before .before .before .before .before .before .before .before .loop-test .taken) (c .before .before .before .before .before .before .before .row-at .result) (c .before .before .before .before .before .before .before .row-at .ensures)) (c .before .before .before .apply-one .ensures)) (c .before .before .put-slot .ensures))
+    (λ c. next (c .before .before .before .before .before .before .before .before .before .before .loop .inv) (c .before .before .before .before .before .before .before .before .before .before .before .before .pre) (c .before .before .before .before .before .before .before .before .before .loop-test .taken) (c .before .before .before .before .before .before .before .row-at .ensures) (c .before .before .put-slot .ensures) (subst (λ (x : Value). Gives (operationOf (c .before .before .before .before .before .before .before .before .before .before .before .before .args .op)) x (c .before .before .before .apply-one .result)) (c .before .before .before .before .before .get-slot .ensures .0 ∙ slot-fresh (c .before .before .before .before .before .before .before .before .before .before .loop .inv) (c .before .before .before .before .before .before .before .before .before .before .before .before .pre) (c .before .before .before .before .before .before .before .before .before .loop-test .taken) (c .before .before .before .before .before .before .before .row-at .ensures)) (c .before .before .before .apply-one .ensures)))
     (λ c. c .before .loop .inv .done .long)
-    (λ c. ends (λ (r : ℕ) (x : Value). Gives (operationOf (c .before .before .before .args .op)) (slotAt (now (c .before .before .before .args .work)) r) x) (now (c .before .before .before .args .work)) (c .before .before .before .args .n) (c .before .loop .i) (c .before .loop .work) (c .before .loop .inv) (omega arith)))
+    (λ c. ends (c .before .loop .inv) (omega arith)))

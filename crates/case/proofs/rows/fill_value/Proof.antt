@@ -2,7 +2,6 @@
 use mathlib.Core.Path.{_≡_, refl}
 use Prim.Native.Nat.{ℕ, _-_}
 use native.Mathlib.Omega.{arith}
-use denote.Ref.{now}
 use Rattle.scalar.specs.declared.value.Value.{Value}
 use Rattle.case.proofs.RowsLaws.{FilledSoFar, none-yet, ends, row-in, room-kept, row-small, next}
 use Rattle.case.proofs.rows.fill_value.Statement.{statement}
@@ -20,11 +19,11 @@ fill-value-spec =
     (tie.spec
     Inv-loop
     μ-loop
-    (λ c. none-yet (λ (r : ℕ) (x : Value). x ≡ c .before .args .v) (now (c .before .args .work)) (c .before .args .n))
-    (λ c κs. row-in (λ (r : ℕ) (x : Value). x ≡ c .before .before .before .before .args .v) (now (c .before .before .before .before .args .work)) (c .before .before .before .before .args .n) (c .before .before .before .before .pre .0) (c .before .before .loop .work) (c .before .before .loop .i) (c .before .before .loop .inv) (c .before .loop-test .taken))
-    (λ c κs. (row-small (λ (r : ℕ) (x : Value). x ≡ c .before .before .before .before .before .before .args .v) (now (c .before .before .before .before .before .before .args .work)) (c .before .before .before .before .before .before .args .n) (c .before .before .before .before .before .before .pre .0) (c .before .before .before .before .loop .work) (c .before .before .before .before .loop .i) (c .before .before .before .before .loop .inv) (c .before .before .before .loop-test .taken) (c .before .row-at .result) (c .before .row-at .ensures), room-kept (λ (r : ℕ) (x : Value). x ≡ c .before .before .before .before .before .before .args .v) (now (c .before .before .before .before .before .before .args .work)) (c .before .before .before .before .before .before .args .n) (c .before .before .before .before .before .before .pre .0) (c .before .before .before .before .loop .work) (c .before .before .before .before .loop .i) (c .before .before .before .before .loop .inv) (c .before .before .before .loop-test .taken), c .before .before .before .before .before .before .pre .1))
+    (λ c. none-yet)
+    (λ c κs. row-in (c .before .before .loop .inv) (c .before .before .before .before .pre .0) (c .before .loop-test .taken))
+    (λ c κs. (row-small (c .before .before .before .before .loop .inv) (c .before .before .before .before .before .before .pre .0) (c .before .before .before .loop-test .taken) (c .before .row-at .ensures), room-kept (c .before .before .before .before .loop .inv) (c .before .before .before .before .before .before .pre .0) (c .before .before .before .loop-test .taken), c .before .before .before .before .before .before .pre .1))
     (λ c. omega arith)
     (λ c. omega arith)
-    (λ c. next (λ (r : ℕ) (x : Value). x ≡ c .before .before .before .before .before .before .before .before .before .args .v) (now (c .before .before .before .before .before .before .before .before .before .args .work)) (c .before .before .before .before .before .before .before .before .before .args .n) (c .before .before .before .before .before .before .before .before .before .pre .0) (c .before .before .before .before .before .before .before .loop .work) (c .before .before .before .before .before .before .before .loop .i) (c .before .before .before .before .before .before .before .loop .inv) (c .before .before .before .before .before .before .loop-test .taken) (c .before .before .before .before .row-at .result) (c .before .before .before .before .row-at .ensures) (c .before .before .before .before .before .before .before .before .before .args .v) (c .before .before .put-slot .last .0) refl (c .before .before .put-slot .ensures))
+    (λ c. next (c .before .before .before .before .before .before .before .loop .inv) (c .before .before .before .before .before .before .before .before .before .pre .0) (c .before .before .before .before .before .before .loop-test .taken) (c .before .before .before .before .row-at .ensures) (c .before .before .put-slot .ensures) refl)
     (λ c. c .before .loop .inv .done .long)
-    (λ c. ends (λ (r : ℕ) (x : Value). x ≡ c .before .before .before .args .v) (now (c .before .before .before .args .work)) (c .before .before .before .args .n) (c .before .loop .i) (c .before .loop .work) (c .before .loop .inv) (omega arith)))
+    (λ c. ends (c .before .loop .inv) (omega arith)))
