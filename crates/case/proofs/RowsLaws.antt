@@ -48,23 +48,21 @@ module _ {right : ℕ → Value → Type 0} {w : List ℕ} {n i : ℕ} {m : List
   pub row-in : 0 + 2 * i + 2 ≤ length m
   row-in = omega (arith, ok .rows-ok .few, ok .room, s .done .long)
 
-  pub room-kept : 5632 ≤ length m
-  room-kept = omega (arith, ok .room, s .done .long)
-
   module _ {r : ℕ} (e : r ≡ rowAt m 0 i) where
     -- the list is as it was
     same-row : r ≡ rowAt w 0 i
     same-row = let few = ok .rows-ok .few in e ∙ number-same 2 m w (0 + 2 * i) (0 + 2 * i) (λ j b. s .done .low (0 + 2 * i + j) (omega arith))
 
-    pub row-small : r < 512
-    row-small = omega (arith, same-row, ok .rows-ok .below i more)
+    -- its slot lies in the buffer
+    pub row-fits : (r < 512) × (5632 ≤ length m)
+    row-fits = (omega (arith, same-row, ok .rows-ok .below i more), omega (arith, ok .room, s .done .long))
 
     -- the row has not been written
     fresh : Listed w 0 i r → ⊥
     fresh l = let b = l .1 in omega (arith, ok .rows-ok .rising (l .0) i b more, l .2, same-row)
 
     pub slot-fresh : slotAt m r ≡ slotAt w r
-    slot-fresh = s .done .others r row-small fresh
+    slot-fresh = s .done .others r (row-fits .0) fresh
 
     -- a right value in its slot
     pub next : {v : Value} {m′ : List ℕ} → SlotPut m r v m′ → right r v → FilledSoFar right w n (i + 1) m′

@@ -9,6 +9,7 @@ use native.Mathlib.Omega.{arith}
 use lib.ListN.{length, take, drop, set, length-set}
 use lib.Seq.{sets, getD-set-same, getD-set-other, getD-drop, length-sets, drop-drop, take-all, take-nil}
 use Rattle.layout.specs.Bytes.{byte, number, numberAt, numberBytes}
+use Rattle.layout.proofs.NumberLaws.{number-split, number-two}
 use Rattle.layout.proofs.BytesLaws.{length-numberBytes, number-numberBytes}
 use Rattle.scalar.specs.declared.value.Value.{Value}
 use Rattle.scalar.specs.Value.{kindOf, payloadOf, valueOf, Storable}
@@ -126,8 +127,32 @@ slot-put w r v small room stores w′ e = subst (SlotPut w r v) (sym e) (record 
         ∙ ap number (take-all 8 (numberBytes 8 (payloadOf v)) (omega (arith, length-numberBytes 8 (payloadOf v))))
         ∙ number-numberBytes 8 (payloadOf v) (payload-below v stores)
 
--- the value of a slot's kind and payload, and that it can be stored
-pub slot-got : (w : List ℕ) (r p : ℕ) (v : Value) → p < 2 ^ 64 → p ≡ numberAt 8 w (1024 + 9 * r + 1) → v ≡ valueOf (byte w (1024 + 9 * r)) p → (v ≡ slotAt w r) × Storable v
-slot-got w r p v b e f =
-    let at : 1024 + 9 * r + 1 ≡ 1025 + 9 * r = omega arith in
-    (f ∙ ap (valueOf (byte w (1024 + 9 * r))) (e ∙ ap (numberAt 8 w) at), subst Storable (sym f) (valueOf-stores (byte w (1024 + 9 * r)) p b))
+-- four bytes at a place
+pub number-four : (w : List ℕ) (at : ℕ) → byte w at + 256 * (byte w (at + 1) + 256 * (byte w (at + 2) + 256 * byte w (at + 3))) ≡ numberAt 4 w at
+number-four w at =
+    let two : at + 1 + 1 ≡ at + 2 = omega arith in
+    let three : at + 2 + 1 ≡ at + 3 = omega arith in
+    let later : numberAt 2 w (at + 2) ≡ byte w (at + 2) + 256 * byte w (at + 3) =
+    sym (number-two w (at + 2)) ∙ ap (λ (k : ℕ). byte w (at + 2) + 256 * byte w k) three in
+    let second : numberAt 3 w (at + 1) ≡ byte w (at + 1) + 256 * numberAt 2 w (at + 2) =
+    number-step 2 w (at + 1) ∙ ap (λ (k : ℕ). byte w (at + 1) + 256 * numberAt 2 w k) two in
+    omega (arith, number-step 3 w at)
+
+-- the value of a slot's kind and the halves of its payload, and that it can be stored
+pub slot-got : (w : List ℕ) (r low high : ℕ) (v : Value) → (low ≡ numberAt 4 w (1024 + 9 * r + 1)) × (low < 2 ^ 32) → (high ≡ numberAt 4 w (1024 + 9 * r + 5)) × (high < 2 ^ 32)
+    → v ≡ valueOf (byte w (1024 + 9 * r)) (low + 4294967296 * high) → (v ≡ slotAt w r) × Storable v
+slot-got w r low high v (p, a) (q, b) f = (
+  f ∙ ap (valueOf (byte w (1024 + 9 * r))) whole,
+  subst Storable (sym f) (valueOf-stores (byte w (1024 + 9 * r)) (low + 4294967296 * high) (omega arith)),
+)
+  where
+    lower : numberAt 4 w (1024 + 9 * r + 1) ≡ numberAt 4 w (1025 + 9 * r)
+    lower = let e : 1024 + 9 * r + 1 ≡ 1025 + 9 * r = omega arith in ap (numberAt 4 w) e
+
+    upper : numberAt 4 w (1024 + 9 * r + 5) ≡ numberAt 4 (drop (1025 + 9 * r) w) 4
+    upper =
+        let e : 1024 + 9 * r + 5 ≡ 1025 + 9 * r + 4 = omega arith in
+        ap (numberAt 4 w) e ∙ sym (ap (λ (m : List ℕ). number (take 4 m)) (drop-drop 4 (1025 + 9 * r) w))
+
+    whole : low + 4294967296 * high ≡ numberAt 8 w (1025 + 9 * r)
+    whole = omega (arith, p, q, lower, upper, number-split 4 4 (drop (1025 + 9 * r) w))

@@ -1,7 +1,7 @@
 // The lists of rows of the work buffer, and what is done to the slots of the listed rows.
 use crate::slot::get_slot;
 use crate::slot::put_slot;
-use layout::number::read_u16;
+use crate::slot::wide;
 use scalar::cast::cast;
 use scalar::is_not_null::is_not_null;
 use scalar::negative::negative;
@@ -29,7 +29,8 @@ pub(crate) fn row_at(work: &[u8], at: usize, i: usize) -> usize
     requires { ⌜ at + 2 * i + 2 ≤ length (now work) ⌝ }
     ensures { λ r. ⌜ r ≡ rowAt (now (work .entry)) at i ⌝ }
 {
-    read_u16(work, at + 2 * i) as usize
+    let p = at + 2 * i;
+    (wide(work[p]) + 256 * wide(work[p + 1])) as usize
 }
 
 // The first n rows of the list at a place, to another behind it.

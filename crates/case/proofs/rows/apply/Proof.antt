@@ -5,7 +5,7 @@ use native.Mathlib.Omega.{arith}
 use Rattle.scalar.specs.declared.value.Value.{Value}
 use Rattle.scalar.specs.Value.{Gives}
 use Rattle.case.specs.Frame.{slotAt, operationOf}
-use Rattle.case.proofs.RowsLaws.{FilledSoFar, none-yet, ends, row-in, room-kept, row-small, slot-fresh, next}
+use Rattle.case.proofs.RowsLaws.{FilledSoFar, none-yet, ends, row-in, row-fits, slot-fresh, next}
 use Rattle.case.proofs.rows.apply.Statement.{statement}
 use Rattle.case.proofs.rows.apply.Tie as tie
 
@@ -23,9 +23,9 @@ apply-spec =
     μ-loop
     (λ c. none-yet)
     (λ c κs. row-in (c .before .before .loop .inv) (c .before .before .before .before .pre) (c .before .loop-test .taken))
-    (λ c κs. (row-small (c .before .before .before .before .loop .inv) (c .before .before .before .before .before .before .pre) (c .before .before .before .loop-test .taken) (c .before .row-at .ensures), room-kept (c .before .before .before .before .loop .inv) (c .before .before .before .before .before .before .pre) (c .before .before .before .loop-test .taken)))
+    (λ c κs. row-fits (c .before .before .before .before .loop .inv) (c .before .before .before .before .before .before .pre) (c .before .before .before .loop-test .taken) (c .before .row-at .ensures))
     (λ c κs. tt)
-    (λ c κs. (row-small (c .before .before .before .before .before .before .before .loop .inv) (c .before .before .before .before .before .before .before .before .before .pre) (c .before .before .before .before .before .before .loop-test .taken) (c .before .before .before .before .row-at .ensures), room-kept (c .before .before .before .before .before .before .before .loop .inv) (c .before .before .before .before .before .before .before .before .before .pre) (c .before .before .before .before .before .before .loop-test .taken), c .apply-one .ensures .stores (c .before .before .get-slot .ensures .1)))
+    (λ c κs. (row-fits (c .before .before .before .before .before .before .before .loop .inv) (c .before .before .before .before .before .before .before .before .before .pre) (c .before .before .before .before .before .before .loop-test .taken) (c .before .before .before .before .row-at .ensures), c .apply-one .ensures .stores (c .before .before .get-slot .ensures .1)))
     (λ c. omega arith)
     (λ c. omega arith)
     (λ c. next (c .before .before .before .before .before .before .before .before .before .before .loop .inv) (c .before .before .before .before .before .before .before .before .before .before .before .before .pre) (c .before .before .before .before .before .before .before .before .before .loop-test .taken) (c .before .before .before .before .before .before .before .row-at .ensures) (c .before .before .put-slot .ensures) (subst (λ (x : Value). Gives (operationOf (c .before .before .before .before .before .before .before .before .before .before .before .before .args .op)) x (c .before .before .before .apply-one .result)) (c .before .before .before .before .before .get-slot .ensures .0 ∙ slot-fresh (c .before .before .before .before .before .before .before .before .before .before .loop .inv) (c .before .before .before .before .before .before .before .before .before .before .before .before .pre) (c .before .before .before .before .before .before .before .before .before .loop-test .taken) (c .before .before .before .before .before .before .before .row-at .ensures)) (c .before .before .before .apply-one .ensures)))

@@ -3,7 +3,7 @@ use mathlib.Core.Path.{_≡_, refl}
 use Prim.Native.Nat.{ℕ, _-_}
 use native.Mathlib.Omega.{arith}
 use Rattle.scalar.specs.declared.value.Value.{Value}
-use Rattle.case.proofs.RowsLaws.{FilledSoFar, none-yet, ends, row-in, room-kept, row-small, next}
+use Rattle.case.proofs.RowsLaws.{FilledSoFar, none-yet, ends, row-in, row-fits, next}
 use Rattle.case.proofs.rows.fill_value.Statement.{statement}
 use Rattle.case.proofs.rows.fill_value.Tie as tie
 
@@ -21,7 +21,7 @@ fill-value-spec =
     μ-loop
     (λ c. none-yet)
     (λ c κs. row-in (c .before .before .loop .inv) (c .before .before .before .before .pre .0) (c .before .loop-test .taken))
-    (λ c κs. (row-small (c .before .before .before .before .loop .inv) (c .before .before .before .before .before .before .pre .0) (c .before .before .before .loop-test .taken) (c .before .row-at .ensures), room-kept (c .before .before .before .before .loop .inv) (c .before .before .before .before .before .before .pre .0) (c .before .before .before .loop-test .taken), c .before .before .before .before .before .before .pre .1))
+    (λ c κs. (row-fits (c .before .before .before .before .loop .inv) (c .before .before .before .before .before .before .pre .0) (c .before .before .before .loop-test .taken) (c .before .row-at .ensures), c .before .before .before .before .before .before .pre .1))
     (λ c. omega arith)
     (λ c. omega arith)
     (λ c. next (c .before .before .before .before .before .before .before .loop .inv) (c .before .before .before .before .before .before .before .before .before .pre .0) (c .before .before .before .before .before .before .loop-test .taken) (c .before .before .before .before .row-at .ensures) (c .before .before .put-slot .ensures) refl)

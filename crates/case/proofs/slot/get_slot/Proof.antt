@@ -1,5 +1,4 @@
 -- `get_slot` reads a slot's kind and payload.
-use native.Mathlib.Omega.{arith}
 use denote.Ref.{now}
 use Rattle.case.proofs.SlotLaws.{slot-got}
 use borrow.Author.Needs.{needs}
@@ -13,7 +12,11 @@ get-slot-spec =
     (λ c. search needs)
     (λ c. search needs)
     (λ c. search needs)
+    (λ c κs. search needs)
     (λ c. search needs)
     (λ c κs. search needs)
+    (λ c. search needs)
+    (λ c. search needs)
+    (λ c. search needs)
     (λ c κs. search needs)
-    (λ c. slot-got (now (c .before .before .before .before .args .work)) (c .before .before .before .before .args .row) (c .before .read-u64 .result) (c .value-of .result) (omega arith) (c .before .read-u64 .ensures) (c .value-of .ensures)))
+    (λ c. slot-got (now (c .before .before .before .before .before .args .work)) (c .before .before .before .before .before .args .row) (c .before .before .before .word .result) (c .before .before .word2 .result) (c .value-of .result) (c .before .before .before .word .ensures) (c .before .before .word2 .ensures) (c .value-of .ensures)))

@@ -12,7 +12,7 @@ use Rattle.case.proofs.slot.put_slot.Tie as tie
 
 returns : tie.Need-returns
 unfolding numberBytes
-returns c = slot-put (now (c .before .before .before .args .work)) (c .before .before .before .args .row) (c .before .before .before .args .v) (c .before .before .before .pre .0) (c .before .before .before .pre .1) (c .before .before .before .pre .2) _ (simp (towards-numerals, div-div-eq-div-mul, c .kind .ensures, c .before .payload .ensures))
+returns c = slot-put (now (c .before .before .before .args .work)) (c .before .before .before .args .row) (c .before .before .before .args .v) (c .before .before .before .pre .0 .0) (c .before .before .before .pre .0 .1) (c .before .before .before .pre .1) _ (simp (towards-numerals, div-div-eq-div-mul, c .kind .ensures, c .before .payload .ensures))
 
 pub put-slot-spec : {M : Type 1} → statement M
 put-slot-spec =
