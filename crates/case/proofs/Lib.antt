@@ -2,6 +2,8 @@
 pub mod CasesHold
 pub mod RunLaws
 pub mod BuilderLaws
+pub mod SlotLaws
+pub mod RowsLaws
 pub mod AnswerLaws
 pub mod RowsTyped
 pub mod DemandsHold

@@ -5,5 +5,6 @@ pub mod BuilderStruct
 pub mod Answer
 pub mod Run
 pub mod Promise
+pub mod Frame
 pub mod Cases
 pub mod Demands

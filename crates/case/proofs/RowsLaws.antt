@@ -1,0 +1,127 @@
+-- Loops over the listed rows of the work buffer: one row a turn. Assumes nothing.
+use mathlib.Core.Path.{_≡_, refl, sym, ap, subst, _∙_}
+use mathlib.Core.List.{List}
+use Prim.Native.Nat.{ℕ, _+_, _*_, _<_, _≤_}
+use native.Mathlib.Decide.{ℕ-discrete}
+use native.Mathlib.Omega.{arith}
+use lib.ListN.{length, set, length-set}
+use lib.Seq.{getD-set-same, getD-set-other}
+use Rattle.layout.specs.Bytes.{byte}
+use Rattle.scalar.specs.declared.value.Value.{Value}
+use Rattle.scalar.specs.Value.{Gives}
+use Rattle.case.specs.declared.rows.Op.{Op}
+use Rattle.case.specs.Frame.{operationOf, rowAt, slotAt, Listed, SlotPut, Filled, Fillable, Copied}
+use Rattle.case.proofs.SlotLaws.{number-same}
+
+-- what an operation gives, by its name
+pub operation-gives : {op o : Op} {v r : Value} → op ≡ o → Gives (operationOf o) v r → Gives (operationOf op) v r
+operation-gives {op} {o} {v} {r} e g = subst (λ (x : Op). Gives (operationOf x) v r) (sym e) g
+
+-- ---- the slots of the listed rows
+
+-- where the loop stands: i of the n rows are done
+pub record FilledSoFar (right : ℕ → Value → Type 0) (w : List ℕ) (n i : ℕ) (w′ : List ℕ) : Type 0 where
+  pub few : i ≤ n
+  pub done : Filled right w i w′
+
+pub none-yet : {right : ℕ → Value → Type 0} {w : List ℕ} {n : ℕ} → FilledSoFar right w n 0 w
+none-yet = record {
+  few = omega arith;
+  done = record {
+    long = refl;
+    here = λ r l. let h : l .0 < 0 = l .1 in absurd (omega arith);
+    others = λ r h o. refl;
+    low = λ j h. refl;
+    high = λ j h. refl;
+  };
+}
+
+pub ends : {right : ℕ → Value → Type 0} {w : List ℕ} {n i : ℕ} {w′ : List ℕ} → FilledSoFar right w n i w′ → n ≤ i → Filled right w n w′
+ends {right} {w} {n} {i} {w′} s h =
+    let few = s .few in
+    let e : i ≡ n = omega arith in
+    subst (λ (k : ℕ). Filled right w k w′) e (s .done)
+
+-- one turn, at the row that is read
+module _ {right : ℕ → Value → Type 0} {w : List ℕ} {n i : ℕ} {m : List ℕ} (s : FilledSoFar right w n i m) (ok : Fillable w n) (more : i < n) where
+  -- the row lies in the buffer
+  pub row-in : 0 + 2 * i + 2 ≤ length m
+  row-in = omega (arith, ok .rows-ok .few, ok .room, s .done .long)
+
+  module _ {r : ℕ} (e : r ≡ rowAt m 0 i) where
+    -- the list is as it was
+    same-row : r ≡ rowAt w 0 i
+    same-row = let few = ok .rows-ok .few in e ∙ number-same 2 m w (0 + 2 * i) (0 + 2 * i) (λ j b. s .done .low (0 + 2 * i + j) (omega arith))
+
+    -- its slot lies in the buffer
+    pub row-fits : (r < 512) × (5632 ≤ length m)
+    row-fits = (omega (arith, same-row, ok .rows-ok .below i more), omega (arith, ok .room, s .done .long))
+
+    -- the row has not been written
+    fresh : Listed w 0 i r → ⊥
+    fresh l = let b = l .1 in omega (arith, ok .rows-ok .rising (l .0) i b more, l .2, same-row)
+
+    pub slot-fresh : slotAt m r ≡ slotAt w r
+    slot-fresh = s .done .others r (row-fits .0) fresh
+
+    -- a right value in its slot
+    pub next : {v : Value} {m′ : List ℕ} → SlotPut m r v m′ → right r v → FilledSoFar right w n (i + 1) m′
+    next {v} {m′} put fits = record {
+      few = omega arith;
+      done = record {
+        long = put .long ∙ s .done .long;
+        here = λ q l. here-at q l (ℕ-discrete q r);
+        others = λ q h o. put .others q (λ p. o (i, omega arith, sym (p ∙ same-row))) ∙ s .done .others q h (λ l. o (l .0, (let b = l .1 in omega arith), l .2));
+        low = λ j h. put .low j h ∙ s .done .low j h;
+        high = λ j h. put .high j h ∙ s .done .high j h;
+      };
+    }
+      where
+        earlier : (q k : ℕ) → k < i + 1 → rowAt w 0 k ≡ q → (q ≡ r → ⊥) → Dec (k ≡ i) → k < i
+        earlier q k b p ne (yes t) = absurd (ne (sym p ∙ ap (rowAt w 0) t ∙ sym same-row))
+        earlier q k b p ne (no t) = omega arith
+
+        here-at : (q : ℕ) → Listed w 0 (i + 1) q → Dec (q ≡ r) → right q (slotAt m′ q)
+        here-at q l (yes p) = subst (λ (x : ℕ). right x (slotAt m′ x)) (sym p) (subst (right r) (sym (put .here)) fits)
+        here-at q l (no p) =
+            subst (right q) (sym (put .others q p)) (s .done .here q (l .0, earlier q (l .0) (l .1) (l .2) p (ℕ-discrete (l .0) i), l .2))
+
+-- ---- a list, copied behind it byte by byte
+
+-- where the loop stands: i bytes are copied
+pub record CopiedSoFar (w : List ℕ) (n from to i : ℕ) (w′ : List ℕ) : Type 0 where
+  pub few : i ≤ 2 * n
+  pub long : length w′ ≡ length w
+  pub bytes-copied : (k : ℕ) → k < i → byte w′ (to + k) ≡ byte w (from + k)
+  pub before : (j : ℕ) → j < to → byte w′ j ≡ byte w j
+
+pub copied-none : {w : List ℕ} {n from to : ℕ} → CopiedSoFar w n from to 0 w
+copied-none = record { few = omega arith; long = refl; bytes-copied = λ k h. absurd (omega arith); before = λ j h. refl }
+
+pub copied-more : {w : List ℕ} {n from to i : ℕ} {m : List ℕ} → CopiedSoFar w n from to i m → from + 2 * n ≤ to → to + 2 * n ≤ length w → i < 2 * n
+    → CopiedSoFar w n from to (i + 1) (set m (to + i) (byte m (from + i)))
+copied-more {w} {n} {from} {to} {i} {m} s apart room more = record {
+  few = omega arith;
+  long = length-set m (to + i) (byte m (from + i)) ∙ s .long;
+  bytes-copied = λ k h. copied-at k h (ℕ-discrete k i);
+  before = λ j h. getD-set-other m (to + i) j (byte m (from + i)) 0 (λ e. omega arith) ∙ s .before j h;
+}
+  where
+    copied-at : (k : ℕ) → k < i + 1 → Dec (k ≡ i) → byte (set m (to + i) (byte m (from + i))) (to + k) ≡ byte w (from + k)
+    copied-at k h (yes e) =
+        subst (λ (x : ℕ). byte (set m (to + i) (byte m (from + i))) (to + x) ≡ byte w (from + x)) (sym e)
+        (getD-set-same m (to + i) (byte m (from + i)) 0 (omega (arith, s .long)) ∙ s .before (from + i) (omega arith))
+    copied-at k h (no e) = getD-set-other m (to + i) (to + k) (byte m (from + i)) 0 (λ p. e (omega arith)) ∙ s .bytes-copied k (omega arith)
+
+pub copied-all : {w : List ℕ} {n from to i : ℕ} {w′ : List ℕ} → CopiedSoFar w n from to i w′ → 2 * n ≤ i → Copied w n from to w′
+copied-all {w} {n} {from} {to} {i} {w′} s all = record {
+  long = s .long;
+  rows-copied = λ k h. number-same 2 w′ w (to + 2 * k) (from + 2 * k) (λ j b. byte-at k h j b);
+  before = s .before;
+}
+  where
+    byte-at : (k : ℕ) → k < n → (j : ℕ) → j < 2 → byte w′ (to + 2 * k + j) ≡ byte w (from + 2 * k + j)
+    byte-at k h j b =
+        let p : to + 2 * k + j ≡ to + (2 * k + j) = omega arith in
+        let q : from + (2 * k + j) ≡ from + 2 * k + j = omega arith in
+        ap (byte w′) p ∙ s .bytes-copied (2 * k + j) (omega arith) ∙ ap (byte w) q

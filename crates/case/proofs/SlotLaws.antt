@@ -1,0 +1,158 @@
+-- Slots of the work buffer: what was put is there, a put changes no other slot, and a slot is read from its nine bytes alone. Assumes nothing.
+use mathlib.Core.Path.{_≡_, refl, sym, ap, ap₂, subst, _∙_}
+use mathlib.Core.List.{List, [], _∷_}
+use mathlib.Core.Logic.{⊎-elim, _⊎_, inl, inr}
+use Prim.Native.Nat.{ℕ, zero, suc, _+_, _*_, _^_, _<_, _≤_}
+use native.Mathlib.Nat.{add-suc, suc-add, add-zero}
+use native.Mathlib.Decide.{decLt}
+use native.Mathlib.Omega.{arith}
+use lib.ListN.{length, take, drop, set, length-set}
+use lib.Seq.{sets, getD-set-same, getD-set-other, getD-drop, length-sets, drop-drop, take-all, take-nil}
+use Rattle.layout.specs.Bytes.{byte, number, numberAt, numberBytes}
+use Rattle.layout.proofs.NumberLaws.{number-split, number-two}
+use Rattle.layout.proofs.BytesLaws.{length-numberBytes, number-numberBytes}
+use Rattle.scalar.specs.declared.value.Value.{Value}
+use Rattle.scalar.specs.Value.{kindOf, payloadOf, valueOf, Storable}
+use Rattle.scalar.proofs.ValueLaws.{payload-back, payload-below, valueOf-stores}
+use Rattle.case.specs.Frame.{slotAt, SlotPut}
+
+-- ---- a run of stores
+
+sets-below : (vs l : List ℕ) (i j : ℕ) → j < i → byte (sets l i vs) j ≡ byte l j
+sets-below [] l i j h = refl
+sets-below (v ∷ vs) l i j h = sets-below vs (set l i v) (suc i) j (omega arith) ∙ getD-set-other l i j v 0 (λ e. omega arith)
+
+sets-above : (vs l : List ℕ) (i j : ℕ) → i + length vs ≤ j → byte (sets l i vs) j ≡ byte l j
+sets-above [] l i j h = refl
+sets-above (v ∷ vs) l i j h = sets-above vs (set l i v) (suc i) j (omega arith) ∙ getD-set-other l i j v 0 (λ e. omega arith)
+
+sets-at : (vs l : List ℕ) (i k : ℕ) → i + length vs ≤ length l → k < length vs → byte (sets l i vs) (i + k) ≡ byte vs k
+sets-at [] l i k h b = absurd (omega arith)
+sets-at (v ∷ vs) l i zero h b =
+    ap (byte (sets l i (v ∷ vs))) (add-zero i)
+    ∙ sets-below vs (set l i v) (suc i) i (omega arith)
+    ∙ getD-set-same l i v 0 (omega arith)
+sets-at (v ∷ vs) l i (suc k) h b =
+    ap (byte (sets l i (v ∷ vs))) (add-suc i k ∙ sym (suc-add i k))
+    ∙ sets-at vs (set l i v) (suc i) k (simp length-set (omega arith)) (omega arith)
+
+-- ---- numbers at places
+
+number-first : (k : ℕ) (l : List ℕ) → number (take (suc k) l) ≡ byte l 0 + 256 * number (take k (drop 1 l))
+unfolding number
+number-first k [] = rw (take-nil k) refl
+number-first k (b ∷ l) = refl
+
+-- a number is its first byte and, times 256, the number behind it
+number-step : (k : ℕ) (l : List ℕ) (at : ℕ) → numberAt (suc k) l at ≡ byte l at + 256 * numberAt k l (at + 1)
+number-step k l at =
+    let low : byte (drop at l) 0 ≡ byte l at = getD-drop at l 0 0 ∙ ap (byte l) (add-zero at) in
+    let high : number (take k (drop 1 (drop at l))) ≡ numberAt k l (at + 1) = ap (λ (m : List ℕ). number (take k m)) (drop-drop 1 at l) in
+    number-first k (drop at l) ∙ ap₂ (λ (a b : ℕ). a + 256 * b) low high
+
+-- numbers are equal where their bytes are
+pub number-same : (k : ℕ) (l m : List ℕ) (at to : ℕ) → ((j : ℕ) → j < k → byte l (at + j) ≡ byte m (to + j)) → numberAt k l at ≡ numberAt k m to
+number-same zero l m at to h = refl
+number-same (suc k) l m at to h =
+    number-step k l at
+    ∙ ap₂ (λ (a b : ℕ). a + 256 * b) first (number-same k l m (at + 1) (to + 1) later)
+    ∙ sym (number-step k m to)
+  where
+    first : byte l at ≡ byte m to
+    first = ap (byte l) (sym (add-zero at)) ∙ h 0 (omega arith) ∙ ap (byte m) (add-zero to)
+
+    later : (j : ℕ) → j < k → byte l (at + 1 + j) ≡ byte m (to + 1 + j)
+    later j b =
+        let p : at + 1 + j ≡ at + suc j = omega arith in
+        let q : to + suc j ≡ to + 1 + j = omega arith in
+        ap (byte l) p ∙ h (suc j) (omega arith) ∙ ap (byte m) q
+
+-- ---- slots
+
+-- a slot is read from its nine bytes alone
+pub slot-same : (l m : List ℕ) (r : ℕ) → ((j : ℕ) → 1024 + 9 * r ≤ j → j < 1033 + 9 * r → byte l j ≡ byte m j) → slotAt l r ≡ slotAt m r
+slot-same l m r h =
+    ap₂ valueOf (h (1024 + 9 * r) (omega arith) (omega arith))
+    (number-same 8 l m (1025 + 9 * r) (1025 + 9 * r) (λ j b. h (1025 + 9 * r + j) (omega arith) (omega arith)))
+
+-- the slots of two rows stand apart
+rows-apart : (r q : ℕ) → (q ≡ r → ⊥) → (1033 + 9 * q ≤ 1024 + 9 * r) ⊎ (1033 + 9 * r ≤ 1024 + 9 * q)
+rows-apart r q n = go (decLt r q)
+  where
+    go : Dec (r < q) → (1033 + 9 * q ≤ 1024 + 9 * r) ⊎ (1033 + 9 * r ≤ 1024 + 9 * q)
+    go (yes h) = inr (omega arith)
+    go (no h) = inl (omega arith)
+
+-- a value's nine bytes
+abbrev slotBytes : Value → List ℕ
+slotBytes v = kindOf v ∷ numberBytes 8 (payloadOf v)
+
+nine : (v : Value) → length (slotBytes v) ≡ 9
+nine v = ap suc (length-numberBytes 8 (payloadOf v))
+
+-- a value's nine bytes, stored in the slot of a row
+pub slot-put : (w : List ℕ) (r : ℕ) (v : Value) → r < 512 → 5632 ≤ length w → Storable v → (w′ : List ℕ) → w′ ≡ sets w (1024 + 9 * r) (slotBytes v) → SlotPut w r v w′
+slot-put w r v small room stores w′ e = subst (SlotPut w r v) (sym e) (record {
+  long = length-sets w (1024 + 9 * r) (slotBytes v);
+  here = ap₂ valueOf first payload ∙ payload-back v stores;
+  others = λ q n. slot-same m w q (λ j a b. ⊎-elim (λ (h : 1033 + 9 * q ≤ 1024 + 9 * r). below j (omega arith)) (λ (h : 1033 + 9 * r ≤ 1024 + 9 * q). above j (omega arith)) (rows-apart r q n));
+  low = λ j h. below j (omega arith);
+  high = λ j h. above j (omega arith);
+})
+  where
+    m : List ℕ
+    m = sets w (1024 + 9 * r) (slotBytes v)
+
+    below : (j : ℕ) → j < 1024 + 9 * r → byte m j ≡ byte w j
+    below j h = sets-below (slotBytes v) w (1024 + 9 * r) j h
+
+    above : (j : ℕ) → 1033 + 9 * r ≤ j → byte m j ≡ byte w j
+    above j h = sets-above (slotBytes v) w (1024 + 9 * r) j (omega (arith, nine v))
+
+    nth : (j : ℕ) → j < 9 → byte m (1024 + 9 * r + j) ≡ byte (slotBytes v) j
+    nth j h = sets-at (slotBytes v) w (1024 + 9 * r) j (omega (arith, nine v)) (omega (arith, nine v))
+
+    first : byte m (1024 + 9 * r) ≡ kindOf v
+    first = ap (byte m) (sym (add-zero (1024 + 9 * r))) ∙ nth 0 (omega arith)
+
+    behind : (j : ℕ) → j < 8 → byte m (1025 + 9 * r + j) ≡ byte (numberBytes 8 (payloadOf v)) (0 + j)
+    behind j h =
+        let p : 1025 + 9 * r + j ≡ 1024 + 9 * r + suc j = omega arith in
+        let q : j ≡ 0 + j = omega arith in
+        ap (byte m) p ∙ nth (suc j) (omega arith) ∙ ap (byte (numberBytes 8 (payloadOf v))) q
+
+    payload : numberAt 8 m (1025 + 9 * r) ≡ payloadOf v
+    payload =
+        number-same 8 m (numberBytes 8 (payloadOf v)) (1025 + 9 * r) 0 behind
+        ∙ ap number (take-all 8 (numberBytes 8 (payloadOf v)) (omega (arith, length-numberBytes 8 (payloadOf v))))
+        ∙ number-numberBytes 8 (payloadOf v) (payload-below v stores)
+
+-- four bytes at a place
+pub number-four : (w : List ℕ) (at : ℕ) → byte w at + 256 * (byte w (at + 1) + 256 * (byte w (at + 2) + 256 * byte w (at + 3))) ≡ numberAt 4 w at
+number-four w at =
+    let two : at + 1 + 1 ≡ at + 2 = omega arith in
+    let three : at + 2 + 1 ≡ at + 3 = omega arith in
+    let later : numberAt 2 w (at + 2) ≡ byte w (at + 2) + 256 * byte w (at + 3) =
+    sym (number-two w (at + 2)) ∙ ap (λ (k : ℕ). byte w (at + 2) + 256 * byte w k) three in
+    let second : numberAt 3 w (at + 1) ≡ byte w (at + 1) + 256 * numberAt 2 w (at + 2) =
+    number-step 2 w (at + 1) ∙ ap (λ (k : ℕ). byte w (at + 1) + 256 * numberAt 2 w k) two in
+    omega (arith, number-step 3 w at)
+
+-- the value of a slot's kind and the halves of its payload, and that it can be stored
+pub slot-got : (w : List ℕ) (r low high : ℕ) (v : Value) → (low ≡ numberAt 4 w (1024 + 9 * r + 1)) × (low < 2 ^ 32) → (high ≡ numberAt 4 w (1024 + 9 * r + 5)) × (high < 2 ^ 32)
+    → v ≡ valueOf (byte w (1024 + 9 * r)) (low + 4294967296 * high) → (v ≡ slotAt w r) × Storable v
+slot-got w r low high v (p, a) (q, b) f = (
+  f ∙ ap (valueOf (byte w (1024 + 9 * r))) whole,
+  subst Storable (sym f) (valueOf-stores (byte w (1024 + 9 * r)) (low + 4294967296 * high) (omega arith)),
+)
+  where
+    lower : numberAt 4 w (1024 + 9 * r + 1) ≡ numberAt 4 w (1025 + 9 * r)
+    lower = let e : 1024 + 9 * r + 1 ≡ 1025 + 9 * r = omega arith in ap (numberAt 4 w) e
+
+    upper : numberAt 4 w (1024 + 9 * r + 5) ≡ numberAt 4 (drop (1025 + 9 * r) w) 4
+    upper =
+        let e : 1024 + 9 * r + 5 ≡ 1025 + 9 * r + 4 = omega arith in
+        ap (numberAt 4 w) e ∙ sym (ap (λ (m : List ℕ). number (take 4 m)) (drop-drop 4 (1025 + 9 * r) w))
+
+    whole : low + 4294967296 * high ≡ numberAt 8 w (1025 + 9 * r)
+    whole = omega (arith, p, q, lower, upper, number-split 4 4 (drop (1025 + 9 * r) w))

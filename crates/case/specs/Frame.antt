@@ -1,0 +1,73 @@
+-- A frame of the work buffer (01, What changes shape: filtered batches become row lists in the work buffer):
+--     0 .. 1024      the list of rows to evaluate, two bytes a row, the lower first
+--     1024 .. 5632   a slot for each row number: a value's kind, one byte, and its payload, eight
+--     5632 .. 6656   a second list, a CASE's own
+-- and the next frame behind it.
+use mathlib.Core.Path.{_≡_}
+use mathlib.Core.List.{List}
+use Prim.Native.Nat.{ℕ, _+_, _*_, _<_, _≤_}
+use lib.ListN.{length}
+use Rattle.layout.specs.Bytes.{byte, numberAt}
+use Rattle.scalar.specs.declared.value.Value.{Value}
+use Rattle.scalar.specs.Entry.{Entry, Outcome, entry}
+use Rattle.scalar.specs.Value.{valueOf}
+use Rattle.scalar.specs.Not.{notEntry}
+use Rattle.scalar.specs.Negative.{negativeEntry}
+use Rattle.scalar.specs.IsNotNull.{isNotNullEntry}
+use Rattle.scalar.specs.Cast.{castEntry}
+use Rattle.scalar.specs.TryCast.{tryCastEntry}
+use Rattle.case.specs.declared.rows.Op.{Op}
+use Rattle.case.specs.declared.rows.Op.the-variants.{Not, Negative, IsNotNull, Cast, TryCast}
+
+-- the i-th row of the list at a place
+abbrev pub rowAt : List ℕ → ℕ → ℕ → ℕ
+rowAt w at i = numberAt 2 w (at + 2 * i)
+
+-- the value in the slot of a row
+abbrev pub slotAt : List ℕ → ℕ → Value
+slotAt w r = valueOf (byte w (1024 + 9 * r)) (numberAt 8 w (1025 + 9 * r))
+
+-- the n rows of the list at a place rise, and are rows of a table of so many rows
+pub record Rows (w : List ℕ) (at n rows : ℕ) : Type 0 where
+  pub few : n ≤ 512
+  pub below : (i : ℕ) → i < n → rowAt w at i < rows
+  pub rising : (i j : ℕ) → i < j → j < n → rowAt w at i < rowAt w at j
+
+-- r is one of the first n rows of the list at a place
+abbrev pub Listed : List ℕ → ℕ → ℕ → ℕ → Type 0
+Listed w at n r = (i : ℕ) × (i < n) × (rowAt w at i ≡ r)
+
+-- w is now w′: the slot of row r has the value v, and nothing else is changed
+pub record SlotPut (w : List ℕ) (r : ℕ) (v : Value) (w′ : List ℕ) : Type 0 where
+  pub long : length w′ ≡ length w
+  pub here : slotAt w′ r ≡ v
+  pub others : (q : ℕ) → (q ≡ r → ⊥) → slotAt w′ q ≡ slotAt w q
+  pub low : (j : ℕ) → j < 1024 → byte w′ j ≡ byte w j
+  pub high : (j : ℕ) → 5632 ≤ j → byte w′ j ≡ byte w j
+
+-- w is now w′: what the slot of each of the first n listed rows has is right for the row, and nothing else is changed
+pub record Filled (right : ℕ → Value → Type 0) (w : List ℕ) (n : ℕ) (w′ : List ℕ) : Type 0 where
+  pub long : length w′ ≡ length w
+  pub here : (r : ℕ) → Listed w 0 n r → right r (slotAt w′ r)
+  pub others : (r : ℕ) → r < 512 → (Listed w 0 n r → ⊥) → slotAt w′ r ≡ slotAt w r
+  pub low : (j : ℕ) → j < 1024 → byte w′ j ≡ byte w j
+  pub high : (j : ℕ) → 5632 ≤ j → byte w′ j ≡ byte w j
+
+-- what a loop over the listed rows asks: the list lies in the frame and holds rows below 512, and the frame has room
+pub record Fillable (w : List ℕ) (n : ℕ) : Type 0 where
+  pub rows-ok : Rows w 0 n 512
+  pub room : 5632 ≤ length w
+
+-- the operations on one value
+abbrev pub operationOf : Op → Entry → Outcome
+operationOf Not e = entry (notEntry e)
+operationOf Negative e = entry (negativeEntry e)
+operationOf IsNotNull e = entry (isNotNullEntry e)
+operationOf (Cast to) e = castEntry to e
+operationOf (TryCast to) e = entry (tryCastEntry to e)
+
+-- w is now w′: the first n rows of the list at a place stand at another behind it too, and nothing before that is changed
+pub record Copied (w : List ℕ) (n from to : ℕ) (w′ : List ℕ) : Type 0 where
+  pub long : length w′ ≡ length w
+  pub rows-copied : (i : ℕ) → i < n → rowAt w′ to i ≡ rowAt w from i
+  pub before : (j : ℕ) → j < to → byte w′ j ≡ byte w j

@@ -1,0 +1,87 @@
+// The lists of rows of the work buffer, and what is done to the slots of the listed rows.
+use crate::slot::get_slot;
+use crate::slot::put_slot;
+use crate::slot::wide;
+use scalar::cast::cast;
+use scalar::is_not_null::is_not_null;
+use scalar::negative::negative;
+use scalar::not::not_value;
+use scalar::try_cast::try_cast;
+use scalar::types::DataType;
+use scalar::value::Value;
+ghost use mathlib.Core.Path.{_≡_};
+ghost use Prim.Native.Nat.{_+_, _*_, _≤_};
+ghost use lib.ListN.{length};
+ghost use Rattle.scalar.specs.Value.{Storable, Gives};
+ghost use Rattle.case.specs.Frame.{rowAt, slotAt, Fillable, Filled, operationOf, Copied};
+
+// The operations on one value.
+pub enum Op {
+    Not,
+    Negative,
+    IsNotNull,
+    Cast(DataType),
+    TryCast(DataType),
+}
+
+// The i-th row of the list at a place.
+pub(crate) fn row_at(work: &[u8], at: usize, i: usize) -> usize
+    requires { ⌜ at + 2 * i + 2 ≤ length (now work) ⌝ }
+    ensures { λ r. ⌜ r ≡ rowAt (now (work .entry)) at i ⌝ }
+{
+    let p = at + 2 * i;
+    (wide(work[p]) + 256 * wide(work[p + 1])) as usize
+}
+
+// The first n rows of the list at a place, to another behind it.
+pub(crate) fn copy_list(work: &mut [u8], n: usize, from: usize, to: usize)
+    requires { ⌜ (from + 2 * n ≤ to) × (to + 2 * n ≤ length (now work)) ⌝ }
+    ensures { λ _. ⌜ Copied (now (work .entry)) n from to (now (work .exit)) ⌝ }
+{
+    let size = 2 * n;
+    let mut i = 0;
+    while i < size {
+        work[to + i] = work[from + i];
+        i += 1;
+    }
+}
+
+// One value in the slot of each listed row.
+pub(crate) fn fill_value(work: &mut [u8], n: usize, v: Value)
+    requires { ⌜ Fillable (now work) n × Storable v ⌝ }
+    ensures { λ _. ⌜ Filled (λ r x. x ≡ v) (now (work .entry)) n (now (work .exit)) ⌝ }
+{
+    let mut i = 0;
+    while i < n {
+        let r = row_at(work, 0, i);
+        put_slot(work, r, v);
+        i += 1;
+    }
+}
+
+// An operation on one value.
+pub(crate) fn apply_one(op: Op, v: Value) -> Value
+    ensures { λ r. ⌜ Gives (operationOf op) v r ⌝ }
+{
+    match op {
+        Op::Not => not_value(v),
+        Op::Negative => negative(v),
+        Op::IsNotNull => is_not_null(v),
+        Op::Cast(to) => cast(to, v),
+        Op::TryCast(to) => try_cast(to, v),
+    }
+}
+
+// An operation on the value in the slot of each listed row.
+pub(crate) fn apply(work: &mut [u8], n: usize, op: Op)
+    requires { ⌜ Fillable (now work) n ⌝ }
+    ensures { λ _. ⌜ Filled (λ r x. Gives (operationOf op) (slotAt (now (work .entry)) r) x) (now (work .entry)) n (now (work .exit)) ⌝ }
+{
+    let mut i = 0;
+    while i < n {
+        let r = row_at(work, 0, i);
+        let v = get_slot(work, r);
+        put_slot(work, r, apply_one(op, v));
+        i += 1;
+    }
+}

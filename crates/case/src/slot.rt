@@ -1,0 +1,57 @@
+// The slots of the work buffer's frame: a value's kind, one byte, and its payload, eight.
+use scalar::value::Value;
+use scalar::value::kind;
+use scalar::value::payload;
+use scalar::value::value_of;
+ghost use mathlib.Core.Path.{_≡_};
+ghost use Prim.Native.Nat.{_+_, _^_, _<_, _≤_};
+ghost use lib.ListN.{length};
+ghost use Rattle.layout.specs.Bytes.{numberAt};
+ghost use Rattle.scalar.specs.Value.{Storable};
+ghost use Rattle.case.specs.Frame.{slotAt, SlotPut};
+
+// A byte as a number of 64 bits.
+pub(crate) fn wide(b: u8) -> u64
+    ensures { λ r. ⌜ (r ≡ b) × (r < 256) ⌝ }
+{
+    b as u64
+}
+
+// The number in the four bytes at a place.
+fn word(work: &[u8], at: usize) -> u64
+    requires { ⌜ at + 4 ≤ length (now work) ⌝ }
+    ensures { λ r. ⌜ (r ≡ numberAt 4 (now (work .entry)) at) × (r < 2 ^ 32) ⌝ }
+{
+    wide(work[at])
+        + 256 * (wide(work[at + 1]) + 256 * (wide(work[at + 2]) + 256 * wide(work[at + 3])))
+}
+
+// A value into the slot of a row.
+pub(crate) fn put_slot(work: &mut [u8], row: usize, v: Value)
+    requires { ⌜ (row < 512) × (5632 ≤ length (now work)) ⌝ }
+    requires { ⌜ Storable v ⌝ }
+    ensures { λ _. ⌜ SlotPut (now (work .entry)) row v (now (work .exit)) ⌝ }
+{
+    let at = 1024 + 9 * row;
+    let n = payload(v);
+    work[at] = kind(v);
+    work[at + 1] = (n % 256) as u8;
+    work[at + 2] = (n / 0x100 % 256) as u8;
+    work[at + 3] = (n / 0x1_0000 % 256) as u8;
+    work[at + 4] = (n / 0x100_0000 % 256) as u8;
+    work[at + 5] = (n / 0x1_0000_0000 % 256) as u8;
+    work[at + 6] = (n / 0x100_0000_0000 % 256) as u8;
+    work[at + 7] = (n / 0x1_0000_0000_0000 % 256) as u8;
+    work[at + 8] = (n / 0x100_0000_0000_0000 % 256) as u8;
+}
+
+// The value in the slot of a row.
+pub(crate) fn get_slot(work: &[u8], row: usize) -> Value
+    requires { ⌜ (row < 512) × (5632 ≤ length (now work)) ⌝ }
+    ensures { λ r. ⌜ (r ≡ slotAt (now (work .entry)) row) × Storable r ⌝ }
+{
+    let at = 1024 + 9 * row;
+    let low = word(work, at + 1);
+    let high = word(work, at + 5);
+    value_of(work[at], low + 0x1_0000_0000 * high)
+}
