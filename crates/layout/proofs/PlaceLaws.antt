@@ -86,7 +86,7 @@ there l at fits =
     let far : at + (3 + k) ≡ at + 3 + length (fieldAt m .content) = omega arith in
     let behind : drop (3 + k) m ≡ drop (at + 3 + length (fieldAt m .content)) l = drop-drop (3 + k) at l ∙ ap (λ (n : ℕ). drop n l) far in
     let inner : take k (drop 3 m) ≡ part l (at + 3) (at + 3 + length (fieldAt m .content)) =
-      ap (take k) back ∙ ap (λ (n : ℕ). take n (drop (at + 3) l)) (sym wide) in
+    ap (take k) back ∙ ap (λ (n : ℕ). take n (drop (at + 3) l)) (sym wide) in
     record {
       starts = refl;
       ordered = omega arith;

@@ -43,12 +43,16 @@ fn print_hex(n: u64, digits: usize) {
     io::print_hex(STDOUT_FILENO, n, digits);
 }
 
+fn wide(b: u8) -> u64 {
+    b as u64
+}
+
 // The bytes of a text in hex, behind a t.
 fn print_text(t: &[u8]) {
     print(b"t");
     let mut i = 0;
     while i < t.len() {
-        print_hex(t[i] as u64, 2);
+        print_hex(wide(t[i]), 2);
         i += 1;
     }
 }
@@ -93,7 +97,11 @@ fn print_head(column: usize, place: ColumnPlace) {
     print(b" type ");
     let kind = place.data_type;
     print_number(type_number(kind));
-    if place.nullable { print(b" nullable 1:") } else { print(b" nullable 0:") }
+    if place.nullable {
+        print(b" nullable 1:")
+    } else {
+        print(b" nullable 0:")
+    }
 }
 
 // A column's line. A table has at most 512 rows.

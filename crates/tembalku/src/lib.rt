@@ -1,8 +1,8 @@
 // The library for display makers: every function can be called from C and takes every argument.
 use rule::answer::RuleAnswer;
 use rule::answer::read as read_rule;
-use table::read::read as read_table;
 use scalar::types::DataType;
+use table::read::read as read_table;
 ghost use mathlib.Core.Path.{_≡_};
 ghost use Rattle.rule.specs.Reading.{readRule};
 ghost use Rattle.scalar.specs.Types.{typeNumber};
