@@ -2,7 +2,8 @@
 """make_cases.py CASES: writes the data of the programs that replay stored cases, from the folder with rules.txt and listing.txt.
 
 crates/rule_cases/data/rulesK.bin    records of: rule's length (2 bytes), rule, refusal number or 0, strategy, nullable, number of
-                                     columns, columns; all of rules.txt, and every rule of listing.txt that is refused as a rule
+                                     columns, columns; all of rules.txt, every rule of listing.txt that is refused as a rule, and ten
+                                     rules with a byte behind the root CASE
 crates/table_cases/data/tablesK.bin  records of: table's length (4 bytes), table; all refused tables of listing.txt, and 100 accepted
 crates/table_cases/stdout            for each table its number, and the refusal, or its rows and each column's entries
 
@@ -36,6 +37,10 @@ def rules(cases):
         rule = bytes.fromhex(f["rule"])
         columns = bytes([] if f["projection"] == "none" else [int(c) for c in f["projection"].split()])
         yield len(rule).to_bytes(2, "little") + rule + bytes([0, int(f["strategy"]), int(f["nullable"]), len(columns)]) + columns
+    # bytes behind the root CASE are 3
+    for lines in list(blocks(os.path.join(cases, "rules.txt")))[:10]:
+        rule = bytes.fromhex(fields(lines)["rule"]) + b"\0"
+        yield len(rule).to_bytes(2, "little") + rule + bytes([3, 0, 0, 0])
     for _, rule, _, _, _, want in listing(os.path.join(cases, "listing.txt")):
         if want[0] == "refused" and want[1] <= 8:
             yield len(rule).to_bytes(2, "little") + rule + bytes([want[1], 0, 0, 0])
