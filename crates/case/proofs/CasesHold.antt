@@ -19,10 +19,10 @@ use Rattle.table.specs.Column.{valueAt, entryAt}
 use Rattle.table.specs.Reading.{tagged, taggedPair, readValidity, readValues, readBody, readParts as readTableParts, noNull, readColumn as readTableColumn, readColumns, readTable}
 use Rattle.case.specs.Fits.{columnsFit}
 use Rattle.case.specs.Answer.{someNull, numbersOf, textsOf, columnBytes}
-use Rattle.case.specs.Run.{rowsFrom, entriesOf, written, runRead, run}
+use Rattle.case.specs.Run.{rowsFrom, entriesOf, writtenAs, runRead, run}
 use Rattle.case.specs.Cases.{Case, provedCases, given}
 
 -- every case gives what is expected
 pub cases-hold : map given provedCases ≡ map (λ c. c .expected) provedCases
-unfolding number numberBytes bitNumber header fieldBytes castEntry bitsOf pairOf sameBytes typeNumbered markNumbered branchCount bytesOf typeOf branchesTyped nodeTyped eval columnsOf constantFails kindAmong unlikeEarlier readColumn literalValue markedValue readLiteral closeNode readUnary readCast readBinary readBranches readOptional readParts readCase readLimitedCase readKind readField readRoot readTree readRule stripped replaced reachable nullable valueAt entryAt tagged taggedPair readValidity readValues readBody readTableParts noNull readTableColumn readColumns readTable columnsFit someNull numbersOf textsOf columnBytes rowsFrom entriesOf written runRead run
+unfolding number numberBytes bitNumber header fieldBytes castEntry bitsOf pairOf sameBytes typeNumbered markNumbered branchCount bytesOf typeOf branchesTyped nodeTyped eval columnsOf constantFails kindAmong unlikeEarlier readColumn literalValue markedValue readLiteral closeNode readUnary readCast readBinary readBranches readOptional readParts readCase readLimitedCase readKind readField readRoot readTree readRule stripped replaced reachable nullable valueAt entryAt tagged taggedPair readValidity readValues readBody readTableParts noNull readTableColumn readColumns readTable columnsFit someNull numbersOf textsOf columnBytes rowsFrom entriesOf writtenAs runRead run
 cases-hold = refl

@@ -17,7 +17,7 @@ use Rattle.rule.specs.Reading.{readRule}
 use Rattle.table.specs.Reading.{Table, readTable}
 use Rattle.case.specs.Fits.{fits, rowOf}
 use Rattle.case.specs.Answer.{textLength}
-use Rattle.case.specs.Run.{rowsFrom, outcomes, entriesOf, workLeast, textMost, answerBytes, written, runRead, run}
+use Rattle.case.specs.Run.{rowsFrom, outcomes, entriesOf, workLeast, textMost, answerBytes, writtenAs, written, runRead, run}
 
 -- ---- the rows
 
@@ -117,7 +117,7 @@ run-is rule table work output e t p q = simp (p, q)
 
 written-answered : (e : Expr) (es : List Entry) (output : ℕ) (answer : List ℕ) → written e es output ≡ ok answer
     → (textLength es ≤ textMost) × (answer ≡ answerBytes e es) × (length answer ≤ output)
-unfolding written
+unfolding writtenAs
 written-answered e es output answer r =
     let a = bind-ok (require (leb (textLength es) textMost) 16) _ answer r in
     let b = bind-ok (require (leb (length (answerBytes e es)) output) 17) _ answer (a .2) in
@@ -148,7 +148,7 @@ run-answered rule table work output answer e t p q r =
 
 -- writing is not refused with 15
 written-not-15 : (e : Expr) (es : List Entry) (output : ℕ) → written e es output ≡ refused 15 → ⊥
-unfolding written
+unfolding writtenAs
 written-not-15 e es output r = go (leb (textLength es) textMost) (leb (length (answerBytes e es)) output) r
   where
     go : (a b : Bool) → (require a 16 >>= λ _. require b 17 >>= λ _. ok (answerBytes e es)) ≡ refused 15 → ⊥

@@ -5,6 +5,7 @@
 -- and the next frame behind it.
 use mathlib.Core.Path.{_≡_}
 use mathlib.Core.List.{List}
+use mathlib.Core.Logic.{_⊎_}
 use Prim.Native.Nat.{ℕ, _+_, _*_, _<_, _≤_}
 use lib.ListN.{length}
 use Rattle.layout.specs.Bytes.{byte, numberAt}
@@ -45,15 +46,30 @@ pub record SlotPut (w : List ℕ) (r : ℕ) (v : Value) (w′ : List ℕ) : Type
   pub low : (j : ℕ) → j < 1024 → byte w′ j ≡ byte w j
   pub high : (j : ℕ) → 5632 ≤ j → byte w′ j ≡ byte w j
 
--- w is now w′: what the slot of each of the first n listed rows has is right for the row, and nothing else is changed
-pub record Filled (right : ℕ → Value → Type 0) (w : List ℕ) (n : ℕ) (w′ : List ℕ) : Type 0 where
+-- the value in the slot of a row of the next frame
+abbrev pub nextSlot : List ℕ → ℕ → Value
+nextSlot w r = valueOf (byte w (7680 + 9 * r)) (numberAt 8 w (7681 + 9 * r))
+
+-- w is now w′: what the slot of each of the first n rows of the list at a place has is right for the row, and nothing else is changed
+pub record FilledFrom (at : ℕ) (right : ℕ → Value → Type 0) (w : List ℕ) (n : ℕ) (w′ : List ℕ) : Type 0 where
   pub long : length w′ ≡ length w
-  pub here : (r : ℕ) → Listed w 0 n r → right r (slotAt w′ r)
-  pub others : (r : ℕ) → r < 512 → (Listed w 0 n r → ⊥) → slotAt w′ r ≡ slotAt w r
+  pub here : (r : ℕ) → Listed w at n r → right r (slotAt w′ r)
+  pub others : (r : ℕ) → r < 512 → (Listed w at n r → ⊥) → slotAt w′ r ≡ slotAt w r
   pub low : (j : ℕ) → j < 1024 → byte w′ j ≡ byte w j
   pub high : (j : ℕ) → 5632 ≤ j → byte w′ j ≡ byte w j
 
--- what a loop over the listed rows asks: the list lies in the frame and holds rows below 512, and the frame has room
+-- of the frame's own list
+abbrev pub Filled : (ℕ → Value → Type 0) → List ℕ → ℕ → List ℕ → Type 0
+Filled = FilledFrom 0
+
+-- what a loop over the rows of the list at a place asks: the list lies clear of the slots and holds rows below 512, and the buffer has room
+pub record FillableFrom (at : ℕ) (w : List ℕ) (n : ℕ) : Type 0 where
+  pub rows-ok : Rows w at n 512
+  pub room : 5632 ≤ length w
+  pub list-in : at + 2 * n ≤ length w
+  pub clear : (at + 2 * n ≤ 1024) ⊎ (5632 ≤ at)
+
+-- the same of the frame's own list
 pub record Fillable (w : List ℕ) (n : ℕ) : Type 0 where
   pub rows-ok : Rows w 0 n 512
   pub room : 5632 ≤ length w

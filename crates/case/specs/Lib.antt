@@ -6,5 +6,9 @@ pub mod Answer
 pub mod Run
 pub mod Promise
 pub mod Frame
+pub mod Choosing
+pub mod Taking
+pub mod LookUp
+pub mod Write
 pub mod Cases
 pub mod Demands

@@ -6,6 +6,7 @@ use lib.Dec.{leb}
 use lib.ListN.{length, drop, replicate}
 use Rattle.layout.specs.Result.{Result, refused, ok, _>>=_, require}
 use Rattle.scalar.specs.Entry.{Entry, Outcome, entry, unfit}
+use Rattle.scalar.specs.declared.types.DataType.{DataType}
 use Rattle.rule.specs.Tree.{Expr}
 use Rattle.rule.specs.Typing.{typeOf}
 use Rattle.rule.specs.Row.{eval}
@@ -43,12 +44,15 @@ abbrev pub answerBytes : Expr → List Entry → List ℕ
 answerBytes e es = columnBytes (columnOf (typeOf e) (nullable e) es)
 
 -- text above its limit (16), output shorter than the answer (17)
-unfoldable pub written : Expr → List Entry → ℕ → Result (List ℕ)
-written e es output = do
+unfoldable pub writtenAs : DataType → Bool → List Entry → ℕ → Result (List ℕ)
+writtenAs t n es output = do
   _ ← require (leb (textLength es) textMost) 16
-  let bytes : List ℕ = answerBytes e es
+  let bytes : List ℕ = columnBytes (columnOf t n es)
   _ ← require (leb (length bytes) output) 17
   ok bytes
+
+abbrev pub written : Expr → List Entry → ℕ → Result (List ℕ)
+written e es output = writtenAs (typeOf e) (nullable e) es output
 
 -- a rule and a table already read: 13, 14, 15, 16, 17
 unfoldable pub runRead : Expr → Table → ℕ → ℕ → Result (List ℕ)

@@ -2,4 +2,5 @@
 pub mod answer;
 pub mod builder;
 pub mod rows;
+pub(crate) mod settle;
 pub mod slot;

@@ -7,7 +7,7 @@ use scalar::value::float_value;
 ghost use Rattle.rule.specs.Walks.{LiteralGives};
 
 // The value of the literal at a place. A text is its place in the rule.
-pub(crate) fn literal_value(rule: &[u8], start: usize, end: usize) -> Value
+pub fn literal_value(rule: &[u8], start: usize, end: usize) -> Value
     ensures { λ r. ⌜ LiteralGives (now (rule .entry)) start end r ⌝ }
 {
     if rule.len() <= start {

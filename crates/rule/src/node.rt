@@ -16,12 +16,12 @@ ghost use Rattle.rule.specs.Steps.{refusal, accepted, closed, unbranched
 
 // What reading a field found: the number with which it is refused (0: none), its type, whether it is a null literal, where it ends in
 // the slice, and the columns met.
-pub(crate) struct NodeRead {
-    pub(crate) refused: u8,
-    pub(crate) result: DataType,
-    pub(crate) null: bool,
-    pub(crate) next: usize,
-    pub(crate) seen: Seen,
+pub struct NodeRead {
+    pub refused: u8,
+    pub result: DataType,
+    pub null: bool,
+    pub next: usize,
+    pub seen: Seen,
 }
 
 // What reading branches found: the number with which they are refused (0: none), the type of their THENs, whether all types fit, where

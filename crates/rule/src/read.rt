@@ -333,7 +333,7 @@ pub(crate) fn read_tree(rule: &[u8]) -> NodeRead
 }
 
 // A rule: its tree, and that no constant cast fails.
-pub(crate) fn read_rule(rule: &[u8]) -> NodeRead
+pub fn read_rule(rule: &[u8]) -> NodeRead
     ensures { λ r. ⌜ Gives (RuleRead r) (readRule (now (rule .entry))) (r .refused) ⌝ }
 {
     let r = read_tree(rule);

@@ -2,8 +2,8 @@
 ghost use mathlib.Core.List.{[]};
 ghost use Rattle.rule.specs.Seen.{SeenIs};
 
-pub(crate) struct Seen {
-    pub(crate) marks: [u8; 256],
+pub struct Seen {
+    pub marks: [u8; 256],
 }
 
 // No column met.

@@ -29,7 +29,7 @@ fn first_then(rule: &[u8], at: usize) -> usize
 }
 
 // The type of the node at a place: its own byte, its child's, or that of the first THEN.
-pub(crate) fn type_of(rule: &[u8], start: usize) -> DataType
+pub fn type_of(rule: &[u8], start: usize) -> DataType
     ensures { λ r. ⌜ TypeGives (now (rule .entry)) start r ⌝ }
 {
     let mut at = start;

@@ -4,7 +4,7 @@ use layout::field::field_at;
 ghost use Rattle.rule.specs.Walks.{EndGives, ChildrenGives, BehindGives};
 
 // Where the field at a place ends.
-pub(crate) fn field_end(rule: &[u8], at: usize) -> usize
+pub fn field_end(rule: &[u8], at: usize) -> usize
     ensures { λ r. ⌜ EndGives (now (rule .entry)) at r ⌝ }
 {
     if rule.len() <= at {
@@ -17,7 +17,7 @@ pub(crate) fn field_end(rule: &[u8], at: usize) -> usize
 }
 
 // Where a node's children stand: behind its header, a type byte of a cast, flags and count of a CASE; a leaf has none.
-pub(crate) fn children_at(rule: &[u8], at: usize) -> usize
+pub fn children_at(rule: &[u8], at: usize) -> usize
     ensures { λ r. ⌜ ChildrenGives (now (rule .entry)) at r ⌝ }
 {
     if rule.len() <= at {
@@ -34,7 +34,7 @@ pub(crate) fn children_at(rule: &[u8], at: usize) -> usize
 }
 
 // What stands behind so many fields.
-pub(crate) fn behind_fields(rule: &[u8], at: usize, count: usize) -> usize
+pub fn behind_fields(rule: &[u8], at: usize, count: usize) -> usize
     ensures { λ r. ⌜ BehindGives (now (rule .entry)) at count r ⌝ }
 {
     let mut place = at;

@@ -92,7 +92,7 @@ fn value_at(bytes: &[u8], place: ColumnPlace, row: usize) -> Value
 }
 
 // The entry of a row: null or its value.
-fn entry_in(bytes: &[u8], place: ColumnPlace, row: usize) -> Value
+pub fn entry_in(bytes: &[u8], place: ColumnPlace, row: usize) -> Value
     ensures { λ r. ⌜ ValueGives (now (bytes .entry)) (entryAt (columnIn (now (bytes .entry)) place) row) r ⌝ }
 {
     let validity = part_of(bytes, place.validity_start, place.validity_end);

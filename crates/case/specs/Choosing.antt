@@ -1,0 +1,64 @@
+-- Choosing, in the work buffer: which rows leave the open list of a CASE, and with which index of the builder (01, Strategies: `ResultBuilder`;
+-- What changes shape: one index a row).
+use mathlib.Core.Path.{_≡_}
+use mathlib.Core.Bool.{Bool, true, false, cond}
+use mathlib.Core.List.{List}
+use mathlib.Core.Option.{Option, some, none}
+use Prim.Native.Nat.{ℕ, _<_, _≤_}
+use lib.ListN.{length, getD}
+use Rattle.layout.specs.Bytes.{byte}
+use Rattle.scalar.specs.declared.value.Value.{Value}
+use Rattle.scalar.specs.Entry.{Outcome, entry, unfit, isNull, isTrue, onEntries}
+use Rattle.scalar.specs.Compare.{equalEntry}
+use Rattle.scalar.specs.Value.{meaning}
+use Rattle.case.specs.declared.builder.ResultBuilder.{ResultBuilder}
+use Rattle.case.specs.declared.settle.Leave.{Leave}
+use Rattle.case.specs.declared.settle.Leave.the-variants.{NullBase, TrueWhen, EqualWhen, Rest}
+use Rattle.case.specs.declared.settle.Settled.{Settled}
+use Rattle.case.specs.Builder.{holds}
+use Rattle.case.specs.BuilderStruct.{builderOf}
+use Rattle.case.specs.Frame.{slotAt, nextSlot, Rows, Listed}
+
+-- a row that failed leaves with one index, a row that passes with another; 0: it stays
+abbrev pub leaving : (Outcome → Bool) → ℕ → ℕ → Outcome → ℕ
+leaving passes index failed unfit = failed
+leaving passes index failed (entry v) = cond (passes (entry v)) index 0
+
+abbrev pub nullOutcome : Outcome → Bool
+nullOutcome (entry v) = isNull v
+nullOutcome unfit = false
+
+abbrev pub trueOutcome : Outcome → Bool
+trueOutcome (entry v) = isTrue v
+trueOutcome unfit = false
+
+-- the index with which a row leaves the open list: its base is null, its WHEN is true, its WHEN equals its base, or always
+abbrev pub classAt : Leave → List ℕ → List ℕ → List ℕ → ℕ → ℕ → ℕ → ℕ
+classAt NullBase rule table w index failed r = leaving nullOutcome index failed (meaning rule table (slotAt w r))
+classAt TrueWhen rule table w index failed r = leaving trueOutcome index failed (meaning rule table (nextSlot w r))
+classAt EqualWhen rule table w index failed r = leaving trueOutcome index failed (onEntries equalEntry (meaning rule table (slotAt w r)) (meaning rule table (nextSlot w r)))
+classAt Rest rule table w index failed r = index
+
+-- what a builder holds for a row
+abbrev pub heldBy : ResultBuilder → ℕ → Option ℕ
+heldBy b r = getD (builderOf b .held) r none
+
+-- a builder for so many rows, in which no row of the open list is held; the open list is at 5632
+pub record Open (b : ResultBuilder) (w : List ℕ) (left rows : ℕ) : Type 0 where
+  pub sized : b .rows ≡ rows
+  pub small : rows ≤ 512
+  pub list-ok : Rows w 5632 left rows
+  pub free : (r : ℕ) → Listed w 5632 left r → heldBy b r ≡ none
+  pub whole-done : b .whole ≡ true → left ≡ 0
+  pub part-held : b .part ≡ true → (r : ℕ) × (r < rows) × (holds (heldBy b r) ≡ true)
+
+-- w and b are now w′ and r: the rows of the open list that leave are held with their index, the others stay, and nothing but the open list is changed
+pub record Settles (class : ℕ → ℕ) (w : List ℕ) (left rows : ℕ) (b : ResultBuilder) (r : Settled) (w′ : List ℕ) : Type 0 where
+  pub long : length w′ ≡ length w
+  pub low : (j : ℕ) → j < 5632 → byte w′ j ≡ byte w j
+  pub high : (j : ℕ) → 6656 ≤ j → byte w′ j ≡ byte w j
+  pub still-open : Open (r .builder) w′ (r .left) rows
+  pub stays : (q : ℕ) → Listed w′ 5632 (r .left) q → Listed w 5632 left q × (class q ≡ 0)
+  pub kept : (q : ℕ) → Listed w 5632 left q → class q ≡ 0 → Listed w′ 5632 (r .left) q
+  pub gone : (q : ℕ) → Listed w 5632 left q → (class q ≡ 0 → ⊥) → heldBy (r .builder) q ≡ some (class q)
+  pub others : (q : ℕ) → (Listed w 5632 left q → ⊥) → heldBy (r .builder) q ≡ heldBy b q

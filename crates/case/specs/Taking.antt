@@ -1,0 +1,57 @@
+-- Taking, in the work buffer: the rows of an index go to the next frame's list, and their slots there come back.
+use mathlib.Core.Path.{_≡_}
+use mathlib.Core.Bool.{Bool, true, false}
+use mathlib.Core.List.{List}
+use Prim.Native.Nat.{ℕ, _<_, _≤_}
+use lib.Dec.{eqb}
+use lib.ListN.{length, getD}
+use Rattle.layout.specs.Bytes.{byte}
+use Rattle.scalar.specs.declared.value.Value.{Value}
+use Rattle.scalar.specs.declared.value.Value.the-variants.{Null, Failed}
+use Rattle.scalar.specs.Entry.{Outcome, entry, Entry}
+use Rattle.scalar.specs.Value.{meaning, GivesBoth}
+use Rattle.scalar.specs.Compare.{equalEntry, lessEntry}
+use Rattle.rule.specs.Row.{isTrueTest, chosen}
+use Rattle.table.specs.declared.places.ColumnPlace.{ColumnPlace}
+use Rattle.table.specs.Column.{entryAt}
+use Rattle.table.specs.Places.{columnIn}
+use Rattle.case.specs.Frame.{rowAt, slotAt, nextSlot, Rows, Listed}
+
+-- w is now w′: of the n rows of the list at the front, the m that are wanted stand at 6656, and nothing before that is changed
+pub record Picked (wanted : ℕ → Type 0) (w : List ℕ) (n m : ℕ) (w′ : List ℕ) : Type 0 where
+  pub long : length w′ ≡ length w
+  pub few : m ≤ n
+  pub low : (j : ℕ) → j < 6656 → byte w′ j ≡ byte w j
+  pub picked : (r : ℕ) → Listed w′ 6656 m r → Listed w 0 n r × wanted r
+  pub all : (r : ℕ) → Listed w 0 n r → wanted r → Listed w′ 6656 m r
+  pub rising : (i j : ℕ) → i < j → j < m → rowAt w′ 6656 i < rowAt w′ 6656 j
+
+-- the rows of an index
+abbrev pub HasIndex : List ℕ → ℕ → ℕ → Type 0
+HasIndex values k r = getD values r 0 ≡ k
+
+-- what a slot has before the rows are taken: failed, or null
+abbrev pub startOf : Bool → Value
+startOf true = Failed
+startOf false = Null
+
+abbrev pub startAt : List ℕ → ℕ → ℕ → Value
+startAt values failed r = startOf (eqb (getD values r 0) failed)
+
+-- the entry of a column in a slot
+abbrev pub EntryRight : List ℕ → ColumnPlace → ℕ → Value → Type 0
+EntryRight table place r v = (rule : List ℕ) → meaning rule table v ≡ entry (entryAt (columnIn table place) r)
+
+-- less or equal
+abbrev pub comparison : Bool → Entry → Entry → Entry
+comparison true = lessEntry
+comparison false = equalEntry
+
+-- the one value where the slot is true, else the other; where it failed, it stays so
+abbrev pub ScalarRight : Value → Value → List ℕ → ℕ → Value → Type 0
+ScalarRight then els w r v = (rule table : List ℕ) → meaning rule table v ≡ chosen isTrueTest (meaning rule table (slotAt w r)) (meaning rule table then) (meaning rule table els)
+
+-- the column's entry where the slot is true, else null
+abbrev pub ColumnRight : List ℕ → ColumnPlace → List ℕ → ℕ → Value → Type 0
+ColumnRight table place w r v =
+    (rule : List ℕ) → meaning rule table v ≡ chosen isTrueTest (meaning rule table (slotAt w r)) (entry (entryAt (columnIn table place) r)) (entry Entry.null)
