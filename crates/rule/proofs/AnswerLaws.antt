@@ -64,10 +64,10 @@ module _ (rule : List ℕ) (a : NodeRead) (h : Gives (RuleRead a) (readRule rule
         let (e, is, g) = was-read (readRule rule) h z in
         ap OfRule.Accepted (g .type-is) ∙ ap ruleAnswer (sym is)
 
-    pub strategy-answer : Bytes rule → (r : Strategy) → StrategyGives rule r → OfStrategy.By r ≡ strategyAnswer (readRule rule)
+    pub strategy-answer : Bytes rule → (r : Strategy) → StrategyGives rule 0 (length rule) r → OfStrategy.By r ≡ strategyAnswer (readRule rule)
     strategy-answer b r s =
         let (e, is, g) = was-read (readRule rule) h z in
-        ap OfStrategy.By (s .is e (accepted-node rule e b is)) ∙ ap strategyAnswer (sym is)
+        ap OfStrategy.By (s .is e 8 (accepted-node rule e b is)) ∙ ap strategyAnswer (sym is)
 
     pub nullable-answer : Bytes rule → (r : Bool) → RuleNullableGives rule r → OfNullable.Nullable r ≡ nullableAnswer (readRule rule)
     nullable-answer b r s =

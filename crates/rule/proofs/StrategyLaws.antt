@@ -21,7 +21,7 @@ use Rattle.rule.specs.Node.{NodeAt}
 use Rattle.rule.specs.Walks.{branchTrees, optionalTrees, nodeTag, TreesAt, EndGives, BehindGives, TypeGives}
 use Rattle.rule.specs.AnswerWalks.{treesLiteral, NullLiteralGives, ElseThereGives, LiteralsGives, SomeWhenGives, ElseServesGives, TableServesGives, SingleGives, StrategyGives}
 use Rattle.rule.proofs.NodeLaws.{Tagged, ofColumn, ofLiteral, ofNegation, ofNegative, ofIsNotNull, ofCast, ofTryCast, ofEqual, ofLess, ofCase, tagged-by, node-byte, node-children, case-counted, trees-split, trees-one, trees-none, trees-some}
-use Rattle.rule.proofs.WalkLaws.{node-of-tag, first-tree, first-two, base-flag, branches-length}
+use Rattle.rule.proofs.WalkLaws.{node-of-tag, nothing-behind, first-tree, first-two, base-flag, branches-length}
 use Rattle.rule.proofs.LiteralLaws.{mark-told}
 
 -- a literal is told by its tag
@@ -323,10 +323,14 @@ module _ {rule : List ℕ} {at end count : ℕ} where
               let behind-is = behind .stand end (branchTrees (branch w u bs)) (optionalTrees o) depth (omega arith) t in
               rw (a, b, c) (serves .is o depth k u depth behind-is second)
 
--- the root's strategy: none where it is no CASE
-pub strategy-other : {rule : List ℕ} {tag : ℕ} → tag ≡ byte rule 0 → (tag ≡ 25 → ⊥) → StrategyGives rule NoExpression
+-- no node stands behind the rule's end
+pub strategy-behind : {rule : List ℕ} {start end : ℕ} → length rule ≤ start → StrategyGives rule start end NoExpression
+strategy-behind h = record { is = λ e depth n. absurd (let k = nothing-behind n in omega arith) }
+
+-- the strategy at a place: none where it is no CASE
+pub strategy-other : {rule : List ℕ} {start end tag : ℕ} → tag ≡ byte rule start → (tag ≡ 25 → ⊥) → StrategyGives rule start end NoExpression
 unfolding strategy
-strategy-other {rule} read is = record { is = λ e n. go (node-of-tag n (sym read)) is }
+strategy-other {rule} read is = record { is = λ e depth n. go (node-of-tag n (sym read)) is }
   where
     go : {tag : ℕ} {e : Expr} → Tagged tag e → (tag ≡ 25 → ⊥) → NoExpression ≡ strategy e
     go (ofColumn c) p = refl
@@ -340,59 +344,59 @@ strategy-other {rule} read is = record { is = λ e n. go (node-of-tag n (sym rea
     go (ofLess a b) p = refl
     go (ofCase b bs e) p = absurd (p refl)
 
-module _ {rule : List ℕ} {tag flags count at : ℕ} (read : tag ≡ byte rule 0) (is : tag ≡ 25) (flag : flags ≡ byte rule 3) (counted : count ≡ byte rule 4)
-    (behind : BehindGives rule 5 (flags % 2) at) where
+module _ {rule : List ℕ} {start end tag flags count at : ℕ} (read : tag ≡ byte rule start) (is : tag ≡ 25) (flag : flags ≡ byte rule (start + 3)) (counted : count ≡ byte rule (start + 4))
+    (behind : BehindGives rule (start + 5) (flags % 2) at) where
   -- by base, branches and ELSE, which stand at the place
   root : {r : Strategy}
-      → ((b : Optional) (bs : Branches) (els : Optional) → flags % 2 ≡ length (optionalTrees b) → 0 < branchCount bs → branchCount bs ≡ count
-      → TreesAt rule at (length rule) (branchTrees bs ++ optionalTrees els) 7 → r ≡ strategyOf b bs els) → StrategyGives rule r
+      → ((b : Optional) (bs : Branches) (els : Optional) (depth : ℕ) → flags % 2 ≡ length (optionalTrees b) → 0 < branchCount bs → branchCount bs ≡ count
+      → TreesAt rule at end (branchTrees bs ++ optionalTrees els) depth → r ≡ strategyOf b bs els) → StrategyGives rule start end r
   unfolding strategy
-  root {r} told = record { is = λ e n. go e (node-of-tag n (sym read ∙ is)) n }
+  root {r} told = record { is = λ e depth n. go e depth (node-of-tag n (sym read ∙ is)) n }
     where
-      go : (e : Expr) → Tagged 25 e → NodeAt rule 0 (length rule) e 8 → r ≡ strategy e
-      go e (ofCase b bs els) n =
-          let flags-is = node-byte 0 3 n (omega arith) refl in
-          let count-is = node-byte 1 4 n (omega arith) refl in
+      go : (e : Expr) (depth : ℕ) → Tagged 25 e → NodeAt rule start end e depth → r ≡ strategy e
+      go e depth (ofCase b bs els) n =
+          let flags-is = node-byte 0 (start + 3) n (omega arith) (omega arith) in
+          let count-is = node-byte 1 (start + 4) n (omega arith) (omega arith) in
           let base-is = base-flag b els in
-          let trees = node-children 5 n refl in
-          told b bs els (omega arith) (case-counted n .0) (omega arith) (behind .stand (length rule) (optionalTrees b) (branchTrees bs ++ optionalTrees els) 7 (omega arith) trees)
+          let trees = node-children (start + 5) n (omega arith) in
+          told b bs els (depth - 1) (omega arith) (case-counted n .0) (omega arith) (behind .stand end (optionalTrees b) (branchTrees bs ++ optionalTrees els) (depth - 1) (omega arith) trees)
 
-  pub strategy-table : {serves : Bool} → flags % 2 ≡ 1 → TableServesGives rule at (length rule) count serves → serves ≡ true → StrategyGives rule WithExprScalarLookupTable
+  pub strategy-table : {serves : Bool} → flags % 2 ≡ 1 → TableServesGives rule at end count serves → serves ≡ true → StrategyGives rule start end WithExprScalarLookupTable
   unfolding strategyOf
   strategy-table one gives some = root go
     where
-      go : (b : Optional) (bs : Branches) (els : Optional) → flags % 2 ≡ length (optionalTrees b) → 0 < branchCount bs → branchCount bs ≡ count
-          → TreesAt rule at (length rule) (branchTrees bs ++ optionalTrees els) 7 → WithExprScalarLookupTable ≡ strategyOf b bs els
-      go absent bs els p c n t = absurd (omega arith)
-      go (present b) bs els p c n t = ap (λ (x : Bool). cond x WithExprScalarLookupTable WithExpression) (sym some ∙ gives .is bs els 7 n t)
+      go : (b : Optional) (bs : Branches) (els : Optional) (depth : ℕ) → flags % 2 ≡ length (optionalTrees b) → 0 < branchCount bs → branchCount bs ≡ count
+          → TreesAt rule at end (branchTrees bs ++ optionalTrees els) depth → WithExprScalarLookupTable ≡ strategyOf b bs els
+      go absent bs els depth p c n t = absurd (omega arith)
+      go (present b) bs els depth p c n t = ap (λ (x : Bool). cond x WithExprScalarLookupTable WithExpression) (sym some ∙ gives .is bs els depth n t)
 
-  pub strategy-base : {serves : Bool} → flags % 2 ≡ 1 → TableServesGives rule at (length rule) count serves → serves ≡ false → StrategyGives rule WithExpression
+  pub strategy-base : {serves : Bool} → flags % 2 ≡ 1 → TableServesGives rule at end count serves → serves ≡ false → StrategyGives rule start end WithExpression
   unfolding strategyOf
   strategy-base one gives none = root go
     where
-      go : (b : Optional) (bs : Branches) (els : Optional) → flags % 2 ≡ length (optionalTrees b) → 0 < branchCount bs → branchCount bs ≡ count
-          → TreesAt rule at (length rule) (branchTrees bs ++ optionalTrees els) 7 → WithExpression ≡ strategyOf b bs els
-      go absent bs els p c n t = absurd (omega arith)
-      go (present b) bs els p c n t = ap (λ (x : Bool). cond x WithExprScalarLookupTable WithExpression) (sym none ∙ gives .is bs els 7 n t)
+      go : (b : Optional) (bs : Branches) (els : Optional) (depth : ℕ) → flags % 2 ≡ length (optionalTrees b) → 0 < branchCount bs → branchCount bs ≡ count
+          → TreesAt rule at end (branchTrees bs ++ optionalTrees els) depth → WithExpression ≡ strategyOf b bs els
+      go absent bs els depth p c n t = absurd (omega arith)
+      go (present b) bs els depth p c n t = ap (λ (x : Bool). cond x WithExprScalarLookupTable WithExpression) (sym none ∙ gives .is bs els depth n t)
 
-  pub strategy-single : {r : Strategy} → (flags % 2 ≡ 1 → ⊥) → count ≡ 1 → SingleGives rule at (length rule) r → StrategyGives rule r
+  pub strategy-single : {r : Strategy} → (flags % 2 ≡ 1 → ⊥) → count ≡ 1 → SingleGives rule at end r → StrategyGives rule start end r
   unfolding strategyOf branchCount
   strategy-single {r} no-base one gives = root go
     where
-      go : (b : Optional) (bs : Branches) (els : Optional) → flags % 2 ≡ length (optionalTrees b) → 0 < branchCount bs → branchCount bs ≡ count
-          → TreesAt rule at (length rule) (branchTrees bs ++ optionalTrees els) 7 → r ≡ strategyOf b bs els
-      go (present b) bs els p c n t = absurd (no-base (omega arith))
-      go absent noMore els p c n t = absurd (omega arith)
-      go absent (branch w u noMore) els p c n t = gives .is w u els 7 t
-      go absent (branch w u (branch v x bs)) els p c n t = absurd (omega arith)
+      go : (b : Optional) (bs : Branches) (els : Optional) (depth : ℕ) → flags % 2 ≡ length (optionalTrees b) → 0 < branchCount bs → branchCount bs ≡ count
+          → TreesAt rule at end (branchTrees bs ++ optionalTrees els) depth → r ≡ strategyOf b bs els
+      go (present b) bs els depth p c n t = absurd (no-base (omega arith))
+      go absent noMore els depth p c n t = absurd (omega arith)
+      go absent (branch w u noMore) els depth p c n t = gives .is w u els depth t
+      go absent (branch w u (branch v x bs)) els depth p c n t = absurd (omega arith)
 
-  pub strategy-several : (flags % 2 ≡ 1 → ⊥) → (count ≡ 1 → ⊥) → StrategyGives rule NoExpression
+  pub strategy-several : (flags % 2 ≡ 1 → ⊥) → (count ≡ 1 → ⊥) → StrategyGives rule start end NoExpression
   unfolding strategyOf branchCount
   strategy-several no-base more = root go
     where
-      go : (b : Optional) (bs : Branches) (els : Optional) → flags % 2 ≡ length (optionalTrees b) → 0 < branchCount bs → branchCount bs ≡ count
-          → TreesAt rule at (length rule) (branchTrees bs ++ optionalTrees els) 7 → NoExpression ≡ strategyOf b bs els
-      go (present b) bs els p c n t = absurd (no-base (omega arith))
-      go absent noMore els p c n t = refl
-      go absent (branch w u noMore) els p c n t = absurd (more (sym n))
-      go absent (branch w u (branch v x bs)) els p c n t = refl
+      go : (b : Optional) (bs : Branches) (els : Optional) (depth : ℕ) → flags % 2 ≡ length (optionalTrees b) → 0 < branchCount bs → branchCount bs ≡ count
+          → TreesAt rule at end (branchTrees bs ++ optionalTrees els) depth → NoExpression ≡ strategyOf b bs els
+      go (present b) bs els depth p c n t = absurd (no-base (omega arith))
+      go absent noMore els depth p c n t = refl
+      go absent (branch w u noMore) els depth p c n t = absurd (more (sym n))
+      go absent (branch w u (branch v x bs)) els depth p c n t = refl

@@ -45,9 +45,9 @@ pub record TableServesGives (rule : List ℕ) (at end count : ℕ) (r : Bool) : 
 pub record SingleGives (rule : List ℕ) (at end : ℕ) (r : Strategy) : Type 0 where
   pub is : (w t : Expr) (els : Optional) (depth : ℕ) → TreesAt rule at end (w ∷ t ∷ optionalTrees els) depth → r ≡ singleBranch t (dropNull els)
 
--- and of the rule
-pub record StrategyGives (rule : List ℕ) (r : Strategy) : Type 0 where
-  pub is : (e : Expr) → NodeAt rule 0 (length rule) e 8 → r ≡ strategy e
+-- and of whatever node stands at a place
+pub record StrategyGives (rule : List ℕ) (start end : ℕ) (r : Strategy) : Type 0 where
+  pub is : (e : Expr) (depth : ℕ) → NodeAt rule start end e depth → r ≡ strategy e
 
 -- where whatever node stands at a place stands, stripped,
 pub record StrippedGives (rule : List ℕ) (at r : ℕ) : Type 0 where

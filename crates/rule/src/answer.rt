@@ -3,7 +3,7 @@ use crate::nullable::nullable_of;
 use crate::projection::projected;
 use crate::read::read_rule;
 use crate::strategy::Strategy;
-use crate::strategy::strategy_of;
+use crate::strategy::strategy_at;
 use scalar::types::DataType;
 ghost use mathlib.Core.Path.{_≡_};
 ghost use Rattle.rule.specs.Reading.{readRule};
@@ -54,7 +54,7 @@ pub fn strategy(rule: &[u8]) -> StrategyAnswer
     if r.refused != 0 {
         return StrategyAnswer::Refused(r.refused);
     }
-    StrategyAnswer::By(strategy_of(rule))
+    StrategyAnswer::By(strategy_at(rule, 0, rule.len()))
 }
 
 // Whether the answer of a rule is marked nullable.

@@ -129,25 +129,28 @@ fn single_branch(rule: &[u8], at: usize, end: usize) -> Strategy
     Strategy::InfallibleExprOrNull
 }
 
-// The root CASE's strategy.
-pub(crate) fn strategy_of(rule: &[u8]) -> Strategy
-    ensures { λ r. ⌜ StrategyGives (now (rule .entry)) r ⌝ }
+// The strategy of the CASE at a place.
+pub fn strategy_at(rule: &[u8], start: usize, end: usize) -> Strategy
+    ensures { λ r. ⌜ StrategyGives (now (rule .entry)) start end r ⌝ }
 {
-    if byte_at(rule, 0) != 25 {
+    if rule.len() <= start {
         return Strategy::NoExpression;
     }
-    let base = byte_at(rule, 3) % 2;
-    let count = byte_at(rule, 4);
-    let at = behind_fields(rule, 5, base as usize);
+    if rule[start] != 25 {
+        return Strategy::NoExpression;
+    }
+    let base = byte_at(rule, start + 3) % 2;
+    let count = byte_at(rule, start + 4);
+    let at = behind_fields(rule, start + 5, base as usize);
     if base == 1 {
-        let serves = table_serves(rule, at, rule.len(), count);
+        let serves = table_serves(rule, at, end, count);
         if serves {
             return Strategy::WithExprScalarLookupTable;
         }
         return Strategy::WithExpression;
     }
     if count == 1 {
-        return single_branch(rule, at, rule.len());
+        return single_branch(rule, at, end);
     }
     Strategy::NoExpression
 }
