@@ -4,6 +4,9 @@ pub mod RunLaws
 pub mod BuilderLaws
 pub mod SlotLaws
 pub mod RowsLaws
+pub mod FrameLaws
+pub mod ExprLaws
+pub mod CaseLaws
 pub mod AnswerLaws
 pub mod RowsTyped
 pub mod DemandsHold

@@ -2,6 +2,8 @@
 use crate::slot::get_slot;
 use crate::slot::put_slot;
 use crate::slot::wide;
+use layout::number::byte_at;
+use rule::type_of::type_numbered;
 use scalar::cast::cast;
 use scalar::is_not_null::is_not_null;
 use scalar::negative::negative;
@@ -13,6 +15,7 @@ ghost use mathlib.Core.Path.{_≡_};
 ghost use Prim.Native.Nat.{_+_, _*_, _≤_};
 ghost use lib.ListN.{length};
 ghost use Rattle.scalar.specs.Value.{Storable, Gives};
+ghost use Rattle.case.specs.Evaluation.{OperatorGives};
 ghost use Rattle.case.specs.Frame.{rowAt, slotAt, Fillable, Filled, operationOf, Copied};
 
 // The operations on one value.
@@ -22,6 +25,22 @@ pub enum Op {
     IsNotNull,
     Cast(DataType),
     TryCast(DataType),
+}
+
+// The operation of the node at a place of the rule, by its tag and its type byte.
+pub(crate) fn operator_at(rule: &[u8], start: usize) -> Op
+    ensures { λ r. ⌜ OperatorGives (now (rule .entry)) start r ⌝ }
+{
+    if rule.len() <= start {
+        return Op::Not;
+    }
+    match rule[start] {
+        19 => Op::Negative,
+        20 => Op::IsNotNull,
+        21 => Op::Cast(type_numbered(byte_at(rule, start + 3))),
+        22 => Op::TryCast(type_numbered(byte_at(rule, start + 3))),
+        _ => Op::Not,
+    }
 }
 
 // The i-th row of the list at a place.

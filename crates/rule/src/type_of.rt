@@ -5,7 +5,7 @@ use scalar::types::DataType;
 ghost use Rattle.rule.specs.Walks.{NumberedGives, ThenGives, TypeGives};
 
 // The type of a number.
-pub(crate) fn type_numbered(n: u8) -> DataType
+pub fn type_numbered(n: u8) -> DataType
     ensures { λ r. ⌜ NumberedGives n r ⌝ }
 {
     match n {
