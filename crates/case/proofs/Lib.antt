@@ -4,6 +4,9 @@ pub mod RunLaws
 pub mod BuilderLaws
 pub mod SlotLaws
 pub mod RowsLaws
+pub mod TruthLaws
+pub mod ClassLaws
+pub mod SiftLaws
 pub mod AnswerLaws
 pub mod RowsTyped
 pub mod DemandsHold
