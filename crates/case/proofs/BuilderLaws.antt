@@ -236,7 +236,7 @@ finish-gives b count i out e f q a v = record {
 -- ---- a list of all rows
 
 -- rising rows are no more than fit below the count
-rising-length : (from count : ℕ) (rows : List ℕ) → from ≤ count → risingBelow from count rows ≡ true → from + length rows ≤ count
+pub rising-length : (from count : ℕ) (rows : List ℕ) → from ≤ count → risingBelow from count rows ≡ true → from + length rows ≤ count
 unfolding risingBelow
 rising-length from count [] h p = omega arith
 rising-length from count (r ∷ rows) h p =
@@ -290,7 +290,7 @@ withBranch b rows values = record {
 }
 
 module _ (b : ResultBuilder) (rows values : List ℕ) (long : length (b .held) ≡ 512) (long-values : length (b .values) ≡ 512) where
-  count-is : length (heldIn (countOf b) (b .held) (b .values)) ≡ countOf b
+  pub count-is : length (heldIn (countOf b) (b .held) (b .values)) ≡ countOf b
   count-is = length-take-le (countOf b) (heldAll (b .held) (b .values)) (rw (length-held (b .held) (b .values) (long ∙ sym long-values)) (omega arith))
 
   add-is : addBranchResult (builderOf b) rows values
@@ -347,3 +347,13 @@ module _ (b : ResultBuilder) (rows values : List ℕ) (long : length (b .held) �
               same-rows = h .same-rows;
               unchanged = λ n. absurd (n refl);
             }
+
+        -- no refusal where no row is held
+        pub add-goes : someHeld (builderOf b .held) rows ≡ false
+            → addBranchResult (builderOf b) rows values
+            ≡ ok (record { part = b .part || not (isWhole (builderOf b) rows); whole = isWhole (builderOf b) rows; held = holdAll (builderOf b .held) rows values })
+        unfolding steps
+        add-goes held =
+            let tests : addBranchResult (builderOf b) rows values ≡ ok (withBranch b rows values) =
+            add-is ∙ simp (eq-eqb _ _ same, rises, count-is, not-false (not (b .whole) && not (b .part && eqb (length rows) (countOf b))) fits, held) in
+            tests ∙ (λ i. ok (record { part = b .part || not (isWhole (builderOf b) rows); whole = isWhole (builderOf b) rows; held = held-after i }))
