@@ -63,15 +63,20 @@ rows-few : (n : ℕ) {w : List ℕ} {at rows : ℕ} → Rows w at n rows → n �
 rows-few zero {w} {at} ok = omega arith
 rows-few (suc n) {w} {at} ok = omega (arith, place-least (rowAt w at) (suc n) (ok .rising) n (omega arith), ok .below n (omega arith))
 
+-- the open list as one of rows of a frame
+pub open-rows : {w : List ℕ} {left : ℕ} {b : ResultBuilder} → Open b w left (b .rows) → Rows w 5632 left 512
+open-rows o = record { few = o .list-ok .few; below = λ i h. omega (arith, o .list-ok .below i h, o .small); rising = o .list-ok .rising }
+
 module _ {class : ℕ → ℕ} {w : List ℕ} {left : ℕ} {b : ResultBuilder} (ready : Open b w left (b .rows)) {m : ℕ} {rows values w′ : List ℕ} (g : Parted class w left m rows values w′)
     (long : length rows ≡ 512) (long-values : length values ≡ 512) where
   few : m ≤ 512
   few = omega (arith, g .gone .few, ready .list-ok .few)
 
-  size : length (take m rows) ≡ m
+  -- how many rows the part has
+  pub size : length (take m rows) ≡ m
   size = length-take-le m rows (omega (arith, few))
 
-  size-values : length (take m values) ≡ m
+  pub size-values : length (take m values) ≡ m
   size-values = length-take-le m values (omega (arith, few))
 
   row-is : (k : ℕ) → k < length (take m rows) → getD (take m rows) k 0 ≡ getD rows k 0
