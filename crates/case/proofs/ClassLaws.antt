@@ -3,7 +3,7 @@ use mathlib.Core.Path.{_≡_, refl, sym, ap, ap₂, _∙_}
 use mathlib.Core.List.{List}
 use Prim.Native.Nat.{ℕ}
 use Rattle.scalar.specs.declared.value.Value.{Value}
-use Rattle.scalar.specs.Entry.{Outcome, onEntries}
+use Rattle.scalar.specs.Entry.{onEntries}
 use Rattle.scalar.specs.Compare.{equalEntry}
 use Rattle.scalar.specs.Value.{meaning, GivesBoth}
 use Rattle.case.specs.declared.settle.Leave.{Leave}

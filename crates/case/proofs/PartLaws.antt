@@ -1,22 +1,22 @@
 -- A part that a builder is given: none of its refusals occurs, and what is held afterwards. Assumes nothing.
-use mathlib.Core.Path.{_≡_, refl, sym, ap, ap₂, subst, _∙_}
-use mathlib.Core.Bool.{Bool, true, false, cond, not, _&&_, _||_, false≢true}
+use mathlib.Core.Path.{_≡_, refl, sym, ap, ap₂, _∙_}
+use mathlib.Core.Bool.{Bool, true, false, not, _&&_, _||_, false≢true}
 use mathlib.Core.List.{List, [], _∷_}
-use mathlib.Core.Logic.{_⊎_, inl, inr}
+use mathlib.Core.Logic.{inl, inr}
 use mathlib.Core.Option.{Option, some, none}
-use Prim.Native.Nat.{ℕ, zero, suc, _+_, _<_, _≤_, min}
+use Prim.Native.Nat.{ℕ, zero, suc, _+_, _<_, _≤_}
 use native.Mathlib.Decide.{ℕ-discrete}
 use native.Mathlib.Omega.{arith}
 use lib.Dec.{leb, ltb, eqb}
 use lib.ListN.{length, getD, set, length-set}
 use lib.Seq.{getD-set-same, getD-set-other}
 use borrow.Author.Tests.{le-leb, lt-ltb, ltb-true, leb-true, eqb-true}
-use Rattle.layout.specs.Result.{Result, refused, ok}
+use Rattle.layout.specs.Result.{refused, ok}
 use Rattle.layout.proofs.TestLaws.{both-hold}
 use Rattle.layout.proofs.ResultLaws.{ok-injective, refused-not-ok}
 use Rattle.case.specs.declared.builder.ResultBuilder.{ResultBuilder}
 use Rattle.case.specs.declared.builder.BuilderAnswer.{BuilderAnswer}
-use Rattle.case.specs.Builder.{Builder, risingBelow, isWhole, holds, someHeld, holdAll, addBranchResult}
+use Rattle.case.specs.Builder.{Builder, risingBelow, holds, someHeld, holdAll}
 use Rattle.case.specs.BuilderStruct.{countOf, builderOf, answerOf, AddGives}
 use Rattle.case.specs.Choosing.{heldBy}
 use Rattle.case.specs.Parting.{Among, PartAsks, PartGives}

@@ -1,10 +1,10 @@
 -- Settling: the rows that leave go to the builder, and the open list stays one. Assumes nothing.
 use mathlib.Core.Path.{_≡_, refl, sym, ap, subst, _∙_}
-use mathlib.Core.Bool.{Bool, true, false, false≢true}
-use mathlib.Core.List.{List, map}
-use mathlib.Core.Logic.{_⊎_, inl, inr, ⊎-elim}
+use mathlib.Core.Bool.{true, false, false≢true}
+use mathlib.Core.List.{List}
+use mathlib.Core.Logic.{⊎-elim}
 use mathlib.Core.Option.{Option, some, none}
-use Prim.Native.Nat.{ℕ, zero, suc, _-_, _<_, _≤_, min}
+use Prim.Native.Nat.{ℕ, zero, suc, _-_, _<_, _≤_}
 use native.Mathlib.Omega.{arith}
 use lib.ListN.{length, getD, take, replicate, List·getD-map}
 use lib.Seq.{getD-take, length-take-le}
@@ -12,12 +12,11 @@ use borrow.Author.Tests.{le-leb}
 use Rattle.case.specs.declared.builder.ResultBuilder.{ResultBuilder}
 use Rattle.case.specs.declared.builder.BuilderAnswer.{BuilderAnswer}
 use Rattle.case.specs.declared.builder.Finished.{Finished}
-use Rattle.case.specs.declared.settle.Settled.{Settled}
 use Rattle.case.specs.Builder.{Builder, holds, orElse}
 use Rattle.case.specs.BuilderStruct.{builderOf, NewGives, FinishGives}
 use Rattle.case.specs.Frame.{rowAt, Rows, Listed}
 use Rattle.case.specs.Choosing.{heldBy, Open, Settles}
-use Rattle.case.specs.Parting.{Among, Sifted, Parted, PartAsks, PartGives}
+use Rattle.case.specs.Parting.{Among, Parted, PartAsks, PartGives}
 use Rattle.case.proofs.PartLaws.{answer-is}
 
 -- ---- the beginning and the end
@@ -109,7 +108,7 @@ module _ {class : ℕ → ℕ} {w : List ℕ} {left : ℕ} {b : ResultBuilder} (
     listed-leaves : (q : ℕ) → Leaves q → Listed w 5632 left q × (class q ≡ 0 → ⊥)
     listed-leaves q l = subst (λ (x : ℕ). Listed w 5632 left x × (class x ≡ 0 → ⊥)) (l .2) (from-open (l .0) (l .1))
 
-    pub others-kept : (q : ℕ) → (Listed w 5632 left q → ⊥) → heldBy r q ≡ heldBy b q
+    others-kept : (q : ℕ) → (Listed w 5632 left q → ⊥) → heldBy r q ≡ heldBy b q
     others-kept q n = p .others q (λ l. n (listed-leaves q l .0))
 
     stays-listed : (q : ℕ) → Listed w′ 5632 (left - m) q → Listed w 5632 left q × (class q ≡ 0)

@@ -1,12 +1,12 @@
 -- Whether a value is true, and what is chosen by it. Assumes nothing.
-use mathlib.Core.Path.{_≡_, refl, sym, ap, subst, _∙_}
+use mathlib.Core.Path.{_≡_, refl, sym, ap, _∙_}
 use mathlib.Core.Bool.{Bool, true, false, cond}
 use mathlib.Core.List.{List}
 use Prim.Native.Nat.{ℕ}
 use native.Mathlib.Omega.{arith}
 use Rattle.scalar.specs.declared.value.Value.{Value}
 use Rattle.scalar.specs.declared.value.Value.the-variants.{Null, Boolean, Int32, Int64, Float64, Nan, RuleText, TableText, Failed}
-use Rattle.scalar.specs.Entry.{Entry, Outcome, entry, unfit, isNull, isTrue}
+use Rattle.scalar.specs.Entry.{Outcome, entry, unfit, isTrue}
 use Rattle.scalar.specs.Value.{meaning, kindOf}
 use Rattle.rule.specs.Row.{isTrueTest, chosen}
 use Rattle.case.specs.declared.truth.Truth.{Truth}

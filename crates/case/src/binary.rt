@@ -22,7 +22,7 @@ fn compared(rule: &[u8], table: &[u8], below: bool, a: Value, b: Value) -> Value
     equal(rule, table, a, b)
 }
 
-// The slot of each listed row beside the row's slot of the next frame.
+// Whether the slot of each listed row is less than the row's slot of the next frame, or equal to it, in the row's slot.
 pub(crate) fn compare_rows(rule: &[u8], table: &[u8], work: &mut [u8], n: usize, less: bool)
     requires { ⌜ Fillable (now work) n ⌝ }
     requires { ⌜ 12288 ≤ length (now work) ⌝ }
@@ -38,8 +38,15 @@ pub(crate) fn compare_rows(rule: &[u8], table: &[u8], work: &mut [u8], n: usize,
     }
 }
 
-// The slot of each listed row beside one value.
-pub(crate) fn compare_value(rule: &[u8], table: &[u8], work: &mut [u8], n: usize, less: bool, b: Value)
+// Whether the slot of each listed row is less than one value, or equal to it, in the row's slot.
+pub(crate) fn compare_value(
+    rule: &[u8],
+    table: &[u8],
+    work: &mut [u8],
+    n: usize,
+    less: bool,
+    b: Value,
+)
     requires { ⌜ Fillable (now work) n ⌝ }
     ensures { λ _. ⌜ Filled (λ r v. GivesBoth (comparison less) (now (rule .entry)) (now (table .entry)) (slotAt (now (work .entry)) r) b v) (now (work .entry)) n (now (work .exit)) ⌝ }
 {

@@ -76,7 +76,15 @@ fn true_class(when: Value, index: u16, failed: u16) -> u16
 }
 
 // The index with which a row leaves, 0 where it stays.
-fn class_at(rule: &[u8], table: &[u8], work: &[u8], how: Leave, index: u16, failed: u16, row: usize) -> u16
+fn class_at(
+    rule: &[u8],
+    table: &[u8],
+    work: &[u8],
+    how: Leave,
+    index: u16,
+    failed: u16,
+    row: usize,
+) -> u16
     requires { ⌜ (row < 512) × (12288 ≤ length (now work)) ⌝ }
     ensures { λ r. ⌜ r ≡ classAt how (now (rule .entry)) (now (table .entry)) (now (work .entry)) index failed row ⌝ }
 {
@@ -154,7 +162,17 @@ pub(crate) fn settle(
 {
     let mut rows = [0u16; 512];
     let mut values = [0u16; 512];
-    let m = split(rule, table, work, left, how, index, failed, &mut rows, &mut values);
+    let m = split(
+        rule,
+        table,
+        work,
+        left,
+        how,
+        index,
+        failed,
+        &mut rows,
+        &mut values,
+    );
     let builder = add_part(b, &rows[..m], &values[..m]);
     Settled {
         left: left - m,

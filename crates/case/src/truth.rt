@@ -20,13 +20,7 @@ pub(crate) fn truth_of(v: Value) -> Truth
 {
     match v {
         Value::Null => Truth::No,
-        Value::Boolean(b) => {
-            if b {
-                Truth::Yes
-            } else {
-                Truth::No
-            }
-        }
+        Value::Boolean(b) => if b { Truth::Yes } else { Truth::No },
         Value::Int32(_) => Truth::No,
         Value::Int64(_) => Truth::No,
         Value::Float64(_) => Truth::No,

@@ -1,9 +1,8 @@
 -- `fill_column` puts a column's entries in the slots of the listed rows. The loop's invariant: so far it is there.
-use Prim.Native.Nat.{ℕ, _-_}
+use Prim.Native.Nat.{_-_}
 use native.Mathlib.Omega.{arith}
 use Rattle.case.proofs.RowsLaws.{FilledSoFar, none-yet, ends, row-in, row-fits, next}
 use Rattle.case.specs.Taking.{EntryRight}
-use Rattle.scalar.specs.declared.value.Value.{Value}
 use Rattle.case.proofs.column.fill_column.Statement.{statement}
 use Rattle.case.proofs.column.fill_column.Tie as tie
 
