@@ -211,8 +211,8 @@ held-replicate (suc n) zero h = absurd (omega arith)
 held-replicate (suc n) (suc m) h = ap (λ (l : List (Option ℕ)). none ∷ l) (held-replicate n m (omega arith))
 
 -- too many rows
-pub new-refused : (rows : ℕ) (b : ResultBuilder) → 512 < rows → NewGives rows (record { refused = 10; builder = b })
-new-refused rows b h = record { says = simp (lt-leb rows 512 h) }
+pub new-refused : (rows : ℕ) (b : ResultBuilder) → 512 < rows → b .rows ≡ rows → NewGives rows (record { refused = 10; builder = b })
+new-refused rows b h e = record { says = simp (lt-leb rows 512 h); same-rows = e }
 
 pub new-given : (rows : ℕ) → rows ≤ 512
     → NewGives rows (record { refused = 0; builder = record { rows = rows; part = false; whole = false; held = replicate 512 0; values = replicate 512 0 } })
@@ -220,7 +220,7 @@ new-given rows h =
     let few : min rows 512 ≡ rows = omega arith in
     let held : heldIn (min rows 512) (replicate 512 0) (replicate 512 0) ≡ replicate rows none =
     ap (λ (n : ℕ). heldIn n (replicate 512 0) (replicate 512 0)) few ∙ held-replicate rows 512 h in
-    record { says = simp (le-leb rows 512 h) (λ i. ok (record { part = false; whole = false; held = held i })) }
+    record { says = simp (le-leb rows 512 h) (λ i. ok (record { part = false; whole = false; held = held i })); same-rows = refl }
 
 pub kept-value : (m v : ℕ) → (m ≡ 0 → ⊥) → v ≡ orElse 0 (marked m v)
 kept-value zero v n = absurd (n refl)
@@ -236,7 +236,7 @@ finish-gives b count i out e f q a v = record {
 -- ---- a list of all rows
 
 -- rising rows are no more than fit below the count
-rising-length : (from count : ℕ) (rows : List ℕ) → from ≤ count → risingBelow from count rows ≡ true → from + length rows ≤ count
+pub rising-length : (from count : ℕ) (rows : List ℕ) → from ≤ count → risingBelow from count rows ≡ true → from + length rows ≤ count
 unfolding risingBelow
 rising-length from count [] h p = omega arith
 rising-length from count (r ∷ rows) h p =
@@ -290,7 +290,7 @@ withBranch b rows values = record {
 }
 
 module _ (b : ResultBuilder) (rows values : List ℕ) (long : length (b .held) ≡ 512) (long-values : length (b .values) ≡ 512) where
-  count-is : length (heldIn (countOf b) (b .held) (b .values)) ≡ countOf b
+  pub count-is : length (heldIn (countOf b) (b .held) (b .values)) ≡ countOf b
   count-is = length-take-le (countOf b) (heldAll (b .held) (b .values)) (rw (length-held (b .held) (b .values) (long ∙ sym long-values)) (omega arith))
 
   add-is : addBranchResult (builderOf b) rows values
@@ -300,7 +300,7 @@ module _ (b : ResultBuilder) (rows values : List ℕ) (long : length (b .held) �
 
   -- a refusal returns the builder unchanged
   refused-gives : (n : ℕ) → refused (suc n) ≡ addBranchResult (builderOf b) rows values → AddGives b rows values (record { refused = suc n; builder = b })
-  refused-gives n p = record { says = p; unchanged = λ _. refl }
+  refused-gives n p = record { says = p; same-rows = refl; unchanged = λ _. refl }
 
   pub add-19 : (length rows ≡ length values → ⊥) → AddGives b rows values (record { refused = 19; builder = b })
   unfolding steps
@@ -344,5 +344,16 @@ module _ (b : ResultBuilder) (rows values : List ℕ) (long : length (b .held) �
             record {
               says = (λ i. ok (record { part = part-is i; whole = whole-is i; held = rows-are i }))
                   ∙ sym (add-is ∙ simp (eq-eqb _ _ same, rises, count-is, not-false (not (b .whole) && not (b .part && eqb (length rows) (countOf b))) fits, held));
+              same-rows = h .same-rows;
               unchanged = λ n. absurd (n refl);
             }
+
+        -- no refusal where no row is held
+        pub add-goes : someHeld (builderOf b .held) rows ≡ false
+            → addBranchResult (builderOf b) rows values
+            ≡ ok (record { part = b .part || not (isWhole (builderOf b) rows); whole = isWhole (builderOf b) rows; held = holdAll (builderOf b .held) rows values })
+        unfolding steps
+        add-goes held =
+            let tests : addBranchResult (builderOf b) rows values ≡ ok (withBranch b rows values) =
+            add-is ∙ simp (eq-eqb _ _ same, rises, count-is, not-false (not (b .whole) && not (b .part && eqb (length rows) (countOf b))) fits, held) in
+            tests ∙ (λ i. ok (record { part = b .part || not (isWhole (builderOf b) rows); whole = isWhole (builderOf b) rows; held = held-after i }))

@@ -4,6 +4,13 @@ pub mod RunLaws
 pub mod BuilderLaws
 pub mod SlotLaws
 pub mod RowsLaws
+pub mod TruthLaws
+pub mod ClassLaws
+pub mod SiftLaws
+pub mod SplitLaws
+pub mod PartLaws
+pub mod SettleLaws
+pub mod TakingLaws
 pub mod FrameLaws
 pub mod ExprLaws
 pub mod CaseLaws

@@ -1,6 +1,7 @@
 -- Loops over the listed rows of the work buffer: one row a turn. Assumes nothing.
 use mathlib.Core.Path.{_≡_, refl, sym, ap, subst, _∙_}
 use mathlib.Core.List.{List}
+use mathlib.Core.Logic.{inl, ⊎-elim}
 use Prim.Native.Nat.{ℕ, _+_, _*_, _<_, _≤_}
 use native.Mathlib.Decide.{ℕ-discrete}
 use native.Mathlib.Omega.{arith}
@@ -10,8 +11,8 @@ use Rattle.layout.specs.Bytes.{byte}
 use Rattle.scalar.specs.declared.value.Value.{Value}
 use Rattle.scalar.specs.Value.{Gives}
 use Rattle.case.specs.declared.rows.Op.{Op}
-use Rattle.case.specs.Frame.{operationOf, rowAt, slotAt, Listed, SlotPut, Filled, Fillable, Copied}
-use Rattle.case.proofs.SlotLaws.{number-same}
+use Rattle.case.specs.Frame.{operationOf, rowAt, slotAt, nextSlot, Listed, SlotPut, FilledFrom, Fillable, FillableFrom, Copied}
+use Rattle.case.proofs.SlotLaws.{number-same, next-same}
 
 -- what an operation gives, by its name
 pub operation-gives : {op o : Op} {v r : Value} → op ≡ o → Gives (operationOf o) v r → Gives (operationOf op) v r
@@ -19,12 +20,16 @@ operation-gives {op} {o} {v} {r} e g = subst (λ (x : Op). Gives (operationOf x)
 
 -- ---- the slots of the listed rows
 
--- where the loop stands: i of the n rows are done
-pub record FilledSoFar (right : ℕ → Value → Type 0) (w : List ℕ) (n i : ℕ) (w′ : List ℕ) : Type 0 where
+-- where the loop stands: i of the n rows of the list at a place are done
+pub record FilledFromSoFar (at : ℕ) (right : ℕ → Value → Type 0) (w : List ℕ) (n i : ℕ) (w′ : List ℕ) : Type 0 where
   pub few : i ≤ n
-  pub done : Filled right w i w′
+  pub done : FilledFrom at right w i w′
 
-pub none-yet : {right : ℕ → Value → Type 0} {w : List ℕ} {n : ℕ} → FilledSoFar right w n 0 w
+-- of the frame's own list
+abbrev pub FilledSoFar : (ℕ → Value → Type 0) → List ℕ → ℕ → ℕ → List ℕ → Type 0
+FilledSoFar = FilledFromSoFar 0
+
+pub none-yet : {at : ℕ} {right : ℕ → Value → Type 0} {w : List ℕ} {n : ℕ} → FilledFromSoFar at right w n 0 w
 none-yet = record {
   few = omega arith;
   done = record {
@@ -36,37 +41,46 @@ none-yet = record {
   };
 }
 
-pub ends : {right : ℕ → Value → Type 0} {w : List ℕ} {n i : ℕ} {w′ : List ℕ} → FilledSoFar right w n i w′ → n ≤ i → Filled right w n w′
-ends {right} {w} {n} {i} {w′} s h =
+pub ends : {at : ℕ} {right : ℕ → Value → Type 0} {w : List ℕ} {n i : ℕ} {w′ : List ℕ} → FilledFromSoFar at right w n i w′ → n ≤ i → FilledFrom at right w n w′
+ends {at} {right} {w} {n} {i} {w′} s h =
     let few = s .few in
     let e : i ≡ n = omega arith in
-    subst (λ (k : ℕ). Filled right w k w′) e (s .done)
+    subst (λ (k : ℕ). FilledFrom at right w k w′) e (s .done)
 
 -- one turn, at the row that is read
-module _ {right : ℕ → Value → Type 0} {w : List ℕ} {n i : ℕ} {m : List ℕ} (s : FilledSoFar right w n i m) (ok : Fillable w n) (more : i < n) where
+module _ {at : ℕ} {right : ℕ → Value → Type 0} {w : List ℕ} {n i : ℕ} {m : List ℕ} (s : FilledFromSoFar at right w n i m) (ok : FillableFrom at w n) (more : i < n) where
   -- the row lies in the buffer
-  pub row-in : 0 + 2 * i + 2 ≤ length m
-  row-in = omega (arith, ok .rows-ok .few, ok .room, s .done .long)
+  pub row-in-from : at + 2 * i + 2 ≤ length m
+  row-in-from = omega (arith, ok .list-in, s .done .long)
 
-  module _ {r : ℕ} (e : r ≡ rowAt m 0 i) where
+  module _ {r : ℕ} (e : r ≡ rowAt m at i) where
     -- the list is as it was
-    same-row : r ≡ rowAt w 0 i
-    same-row = let few = ok .rows-ok .few in e ∙ number-same 2 m w (0 + 2 * i) (0 + 2 * i) (λ j b. s .done .low (0 + 2 * i + j) (omega arith))
+    same-row : r ≡ rowAt w at i
+    same-row =
+        e ∙ number-same 2 m w (at + 2 * i) (at + 2 * i)
+        (λ j b. ⊎-elim
+        (λ (c : at + 2 * n ≤ 1024). s .done .low (at + 2 * i + j) (omega arith))
+        (λ (c : 5632 ≤ at). s .done .high (at + 2 * i + j) (omega arith))
+        (ok .clear))
 
     -- its slot lies in the buffer
-    pub row-fits : (r < 512) × (5632 ≤ length m)
-    row-fits = (omega (arith, same-row, ok .rows-ok .below i more), omega (arith, ok .room, s .done .long))
+    pub row-fits-from : (r < 512) × (5632 ≤ length m)
+    row-fits-from = (omega (arith, same-row, ok .rows-ok .below i more), omega (arith, ok .room, s .done .long))
 
     -- the row has not been written
-    fresh : Listed w 0 i r → ⊥
+    fresh : Listed w at i r → ⊥
     fresh l = let b = l .1 in omega (arith, ok .rows-ok .rising (l .0) i b more, l .2, same-row)
 
-    pub slot-fresh : slotAt m r ≡ slotAt w r
-    slot-fresh = s .done .others r (row-fits .0) fresh
+    pub slot-fresh-from : slotAt m r ≡ slotAt w r
+    slot-fresh-from = s .done .others r (row-fits-from .0) fresh
+
+    -- the next frame is as it was
+    pub next-fresh-from : nextSlot m r ≡ nextSlot w r
+    next-fresh-from = next-same m w r (λ j a b. s .done .high j (omega arith))
 
     -- a right value in its slot
-    pub next : {v : Value} {m′ : List ℕ} → SlotPut m r v m′ → right r v → FilledSoFar right w n (i + 1) m′
-    next {v} {m′} put fits = record {
+    pub next-from : {v : Value} {m′ : List ℕ} → SlotPut m r v m′ → right r v → FilledFromSoFar at right w n (i + 1) m′
+    next-from {v} {m′} put fits = record {
       few = omega arith;
       done = record {
         long = put .long ∙ s .done .long;
@@ -77,14 +91,41 @@ module _ {right : ℕ → Value → Type 0} {w : List ℕ} {n i : ℕ} {m : List
       };
     }
       where
-        earlier : (q k : ℕ) → k < i + 1 → rowAt w 0 k ≡ q → (q ≡ r → ⊥) → Dec (k ≡ i) → k < i
-        earlier q k b p ne (yes t) = absurd (ne (sym p ∙ ap (rowAt w 0) t ∙ sym same-row))
+        earlier : (q k : ℕ) → k < i + 1 → rowAt w at k ≡ q → (q ≡ r → ⊥) → Dec (k ≡ i) → k < i
+        earlier q k b p ne (yes t) = absurd (ne (sym p ∙ ap (rowAt w at) t ∙ sym same-row))
         earlier q k b p ne (no t) = omega arith
 
-        here-at : (q : ℕ) → Listed w 0 (i + 1) q → Dec (q ≡ r) → right q (slotAt m′ q)
+        here-at : (q : ℕ) → Listed w at (i + 1) q → Dec (q ≡ r) → right q (slotAt m′ q)
         here-at q l (yes p) = subst (λ (x : ℕ). right x (slotAt m′ x)) (sym p) (subst (right r) (sym (put .here)) fits)
         here-at q l (no p) =
             subst (right q) (sym (put .others q p)) (s .done .here q (l .0, earlier q (l .0) (l .1) (l .2) p (ℕ-discrete (l .0) i), l .2))
+
+-- the frame's own list
+own : {w : List ℕ} {n : ℕ} → Fillable w n → FillableFrom 0 w n
+own ok = record {
+  rows-ok = ok .rows-ok;
+  room = ok .room;
+  list-in = omega (arith, ok .rows-ok .few, ok .room);
+  clear = inl (omega (arith, ok .rows-ok .few));
+}
+
+-- one turn over it
+module _ {right : ℕ → Value → Type 0} {w : List ℕ} {n i : ℕ} {m : List ℕ} (s : FilledSoFar right w n i m) (ok : Fillable w n) (more : i < n) where
+  pub row-in : 0 + 2 * i + 2 ≤ length m
+  row-in = row-in-from s (own ok) more
+
+  module _ {r : ℕ} (e : r ≡ rowAt m 0 i) where
+    pub row-fits : (r < 512) × (5632 ≤ length m)
+    row-fits = row-fits-from s (own ok) more e
+
+    pub slot-fresh : slotAt m r ≡ slotAt w r
+    slot-fresh = slot-fresh-from s (own ok) more e
+
+    pub next-fresh : nextSlot m r ≡ nextSlot w r
+    next-fresh = next-fresh-from s (own ok) more e
+
+    pub next : {v : Value} {m′ : List ℕ} → SlotPut m r v m′ → right r v → FilledSoFar right w n (i + 1) m′
+    next = next-from s (own ok) more e
 
 -- ---- a list, copied behind it byte by byte
 

@@ -14,7 +14,7 @@ use Rattle.layout.proofs.BytesLaws.{length-numberBytes, number-numberBytes}
 use Rattle.scalar.specs.declared.value.Value.{Value}
 use Rattle.scalar.specs.Value.{kindOf, payloadOf, valueOf, Storable}
 use Rattle.scalar.proofs.ValueLaws.{payload-back, payload-below, valueOf-stores}
-use Rattle.case.specs.Frame.{slotAt, SlotPut}
+use Rattle.case.specs.Frame.{slotAt, nextSlot, SlotPut}
 
 -- ---- a run of stores
 
@@ -74,6 +74,12 @@ pub slot-same : (l m : List ℕ) (r : ℕ) → ((j : ℕ) → 1024 + 9 * r ≤ j
 slot-same l m r h =
     ap₂ valueOf (h (1024 + 9 * r) (omega arith) (omega arith))
     (number-same 8 l m (1025 + 9 * r) (1025 + 9 * r) (λ j b. h (1025 + 9 * r + j) (omega arith) (omega arith)))
+
+-- of the next frame too
+pub next-same : (l m : List ℕ) (r : ℕ) → ((j : ℕ) → 7680 + 9 * r ≤ j → j < 7689 + 9 * r → byte l j ≡ byte m j) → nextSlot l r ≡ nextSlot m r
+next-same l m r h =
+    ap₂ valueOf (h (7680 + 9 * r) (omega arith) (omega arith))
+    (number-same 8 l m (7681 + 9 * r) (7681 + 9 * r) (λ j b. h (7681 + 9 * r + j) (omega arith) (omega arith)))
 
 -- the slots of two rows stand apart
 rows-apart : (r q : ℕ) → (q ≡ r → ⊥) → (1033 + 9 * q ≤ 1024 + 9 * r) ⊎ (1033 + 9 * r ≤ 1024 + 9 * q)
@@ -139,20 +145,22 @@ number-four w at =
     omega (arith, number-step 3 w at)
 
 -- the value of a slot's kind and the halves of its payload, and that it can be stored
-pub slot-got : (w : List ℕ) (r low high : ℕ) (v : Value) → (low ≡ numberAt 4 w (1024 + 9 * r + 1)) × (low < 2 ^ 32) → (high ≡ numberAt 4 w (1024 + 9 * r + 5)) × (high < 2 ^ 32)
-    → v ≡ valueOf (byte w (1024 + 9 * r)) (low + 4294967296 * high) → (v ≡ slotAt w r) × Storable v
-slot-got w r low high v (p, a) (q, b) f = (
-  f ∙ ap (valueOf (byte w (1024 + 9 * r))) whole,
-  subst Storable (sym f) (valueOf-stores (byte w (1024 + 9 * r)) (low + 4294967296 * high) (omega arith)),
+pub slot-got : (w : List ℕ) (at low high : ℕ) (v : Value) → (low ≡ numberAt 4 w (at + 1)) × (low < 2 ^ 32) → (high ≡ numberAt 4 w (at + 5)) × (high < 2 ^ 32)
+    → v ≡ valueOf (byte w at) (low + 4294967296 * high) → (v ≡ valueOf (byte w at) (numberAt 8 w (at + 1))) × Storable v
+slot-got w at low high v (p, a) (q, b) f = (
+  f ∙ ap (valueOf (byte w at)) whole,
+  subst Storable (sym f) (valueOf-stores (byte w at) (low + 4294967296 * high) (omega arith)),
 )
   where
-    lower : numberAt 4 w (1024 + 9 * r + 1) ≡ numberAt 4 w (1025 + 9 * r)
-    lower = let e : 1024 + 9 * r + 1 ≡ 1025 + 9 * r = omega arith in ap (numberAt 4 w) e
-
-    upper : numberAt 4 w (1024 + 9 * r + 5) ≡ numberAt 4 (drop (1025 + 9 * r) w) 4
+    upper : numberAt 4 w (at + 5) ≡ numberAt 4 (drop (at + 1) w) 4
     upper =
-        let e : 1024 + 9 * r + 5 ≡ 1025 + 9 * r + 4 = omega arith in
-        ap (numberAt 4 w) e ∙ sym (ap (λ (m : List ℕ). number (take 4 m)) (drop-drop 4 (1025 + 9 * r) w))
+        let e : at + 5 ≡ at + 1 + 4 = omega arith in
+        ap (numberAt 4 w) e ∙ sym (ap (λ (m : List ℕ). number (take 4 m)) (drop-drop 4 (at + 1) w))
 
-    whole : low + 4294967296 * high ≡ numberAt 8 w (1025 + 9 * r)
-    whole = omega (arith, p, q, lower, upper, number-split 4 4 (drop (1025 + 9 * r) w))
+    whole : low + 4294967296 * high ≡ numberAt 8 w (at + 1)
+    whole = omega (arith, p, q, upper, number-split 4 4 (drop (at + 1) w))
+
+-- the value at a slot's place, its payload right behind
+pub slot-there : (w : List ℕ) (at behind : ℕ) (v : Value) → at + 1 ≡ behind → (v ≡ valueOf (byte w at) (numberAt 8 w (at + 1))) × Storable v
+    → (v ≡ valueOf (byte w at) (numberAt 8 w behind)) × Storable v
+slot-there w at behind v e (p, s) = (p ∙ ap (λ (k : ℕ). valueOf (byte w at) (numberAt 8 w k)) e, s)

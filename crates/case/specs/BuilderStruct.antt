@@ -46,10 +46,12 @@ answerOf (suc n) b = refused (suc n)
 
 pub record NewGives (rows : ℕ) (r : BuilderAnswer) : Type 0 where
   pub says : answerOf (r .refused) (r .builder) ≡ newBuilder rows
+  pub same-rows : r .builder .rows ≡ rows
 
 -- 18 to 21 return the builder unchanged
 pub record AddGives (b : ResultBuilder) (rows values : List ℕ) (r : BuilderAnswer) : Type 0 where
   pub says : answerOf (r .refused) (r .builder) ≡ addBranchResult (builderOf b) rows values
+  pub same-rows : r .builder .rows ≡ b .rows
   pub unchanged : (r .refused ≡ 0 → ⊥) → r .builder ≡ b
 
 pub record FinishGives (b : ResultBuilder) (r : Finished) : Type 0 where

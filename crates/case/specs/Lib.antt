@@ -7,6 +7,7 @@ pub mod Run
 pub mod Promise
 pub mod Frame
 pub mod Choosing
+pub mod Parting
 pub mod Taking
 pub mod LookUp
 pub mod Write

@@ -1,8 +1,10 @@
 // Expressions and CASEs over a list of rows, in the lent work buffer. `depth` is how deep a node, or what is below a CASE, may nest; the frame
 // of a call is at the front of `work`, and what it calls for other rows works in the part beyond.
 use crate::builder::ResultBuilder;
-use crate::column::fill_cells;
-use crate::column::cells_or_null;
+use crate::binary::compare_rows;
+use crate::binary::compare_value;
+use crate::cells::cells_or_null;
+use crate::cells::fill_cells;
 use crate::literal::fill_literal;
 use crate::literal::scalar_rows;
 use crate::merge::else_values;
@@ -12,14 +14,12 @@ use crate::rows::copy_list;
 use crate::rows::operator_at;
 use crate::settle::Leave;
 use crate::settle::Settled;
-use crate::stubs::compare_rows;
-use crate::stubs::compare_value;
-use crate::stubs::copy_slots;
+use crate::settle::open_builder;
+use crate::settle::settle;
 use crate::stubs::look_up;
-use crate::stubs::open_builder;
-use crate::stubs::pick;
-use crate::stubs::settle;
-use crate::stubs::start_slots;
+use crate::taking::copy_slots;
+use crate::taking::pick;
+use crate::taking::start_slots;
 use layout::number::byte_at;
 use rule::literal::literal_value;
 use rule::strategy::Strategy;
@@ -196,7 +196,7 @@ fn case_when_no_expr(
     let at = children_at(rule, start);
     let to = type_of(rule, start);
     copy_list(work, n, 0, 5632);
-    let b = open_builder(work, n, t.rows);
+    let b = open_builder(t.rows);
     branches(rule, at, end, table, t, work, n, n, Leave::TrueWhen, count, to, b, depth);
 }
 
@@ -244,7 +244,7 @@ fn by_base(
     ensures { λ _. ⌜ Done (BasedRight (now (rule .entry)) at end (now (table .entry)) t depth count to (now (work .entry))) (now (work .entry)) n (now (work .exit)) ⌝ }
 {
     copy_list(work, n, 0, 5632);
-    let b = open_builder(work, n, t.rows);
+    let b = open_builder(t.rows);
     let els = count as u16 + 1;
     let s = settle(rule, table, work, n, Leave::NullBase, els, els + 1, b);
     let builder = s.builder;
@@ -309,7 +309,7 @@ fn expr_or_expr(
     let at = children_at(rule, start);
     let to = type_of(rule, start);
     copy_list(work, n, 0, 5632);
-    let b = open_builder(work, n, t.rows);
+    let b = open_builder(t.rows);
     branches(rule, at, end, table, t, work, n, n, Leave::TrueWhen, 1, to, b, depth);
 }
 

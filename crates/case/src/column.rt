@@ -1,59 +1,62 @@
-// The entries of a column of the table in the slots of the listed rows.
-use crate::rows::fill_value;
-use crate::stubs2::choose_scalar;
-use crate::stubs2::column_or_null;
-use crate::stubs2::fill_column;
-use layout::number::byte_at;
+// The entries of a column in the slots of the listed rows.
+use crate::rows::row_at;
+use crate::slot::get_slot;
+use crate::slot::put_slot;
+use crate::truth::Truth;
+use crate::truth::truth_of;
 use scalar::value::Value;
-use table::places::Table;
-ghost use Prim.Native.Nat.{_^_, _<_};
+use table::entry::entry_in;
+use table::places::ColumnPlace;
+ghost use mathlib.Core.Path.{_≡_};
+ghost use mathlib.Core.List.{List};
+ghost use Prim.Native.Nat.{ℕ, _^_, _<_};
 ghost use lib.ListN.{length};
+ghost use Rattle.scalar.specs.Entry.{Entry, entry};
+ghost use Rattle.scalar.specs.Value.{meaning, Storable};
+ghost use Rattle.rule.specs.Row.{isTrueTest, chosen};
+ghost use Rattle.table.specs.Column.{entryAt};
+ghost use Rattle.table.specs.Places.{columnIn};
 ghost use Rattle.case.specs.Frame.{Fillable, Filled};
-ghost use Rattle.case.specs.Evaluation.{CellRight, CellsRight};
+ghost use Rattle.case.specs.Taking.{EntryRight, ColumnRight};
 
-// The entry of a column at each listed row; null where the table has no such column.
-pub(crate) fn fill_cells(table: &[u8], t: Table, column: u8, work: &mut [u8], n: usize)
-    requires { ⌜ Fillable (now work) n × (length (now table) < 2 ^ 32) ⌝ }
-    ensures { λ _. ⌜ Filled (CellRight (now (table .entry)) t column) (now (work .entry)) n (now (work .exit)) ⌝ }
+// A column's entry in the slot of each listed row.
+pub(crate) fn fill_column(table: &[u8], place: ColumnPlace, work: &mut [u8], n: usize)
+    requires { ⌜ Fillable (now work) n ⌝ }
+    requires { ⌜ length (now table) < 2 ^ 32 ⌝ }
+    ensures { λ _. ⌜ Filled (EntryRight (now (table .entry)) place) (now (work .entry)) n (now (work .exit)) ⌝ }
 {
-    let c = column as usize;
-    if t.count <= c {
-        fill_value(work, n, Value::Null);
-        return;
+    let mut i = 0;
+    while i < n {
+        let r = row_at(work, 0, i);
+        let v = entry_in(table, place, r);
+        put_slot(work, r, v);
+        i += 1;
     }
-    if 16 <= c {
-        fill_value(work, n, Value::Null);
-        return;
-    }
-    let place = t.columns[c];
-    fill_column(table, place, work, n);
 }
 
-// Where a row's slot is true, the entry of the column whose node stands at a place of the rule, else null.
-pub(crate) fn cells_or_null(
-    rule: &[u8],
-    at: usize,
-    table: &[u8],
-    t: Table,
-    work: &mut [u8],
-    n: usize,
-)
-    requires { ⌜ Fillable (now work) n × (length (now table) < 2 ^ 32) ⌝ }
-    ensures { λ _. ⌜ Filled (CellsRight (now (rule .entry)) at (now (table .entry)) t (now (work .entry))) (now (work .entry)) n (now (work .exit)) ⌝ }
+// A column's entry at a row where the test is true, null elsewhere; where it failed, it stays so.
+fn entry_or_null(table: &[u8], place: ColumnPlace, row: usize, test: Value) -> Value
+    requires { ⌜ length (now table) < 2 ^ 32 ⌝ }
+    ensures { λ r. ⌜ ((rule : List ℕ) → meaning rule (now (table .entry)) r ≡ chosen isTrueTest (meaning rule (now (table .entry)) test) (entry (entryAt (columnIn (now (table .entry)) place) row)) (entry Entry.null)) × Storable r ⌝ }
 {
-    if rule.len() <= at {
-        fill_value(work, n, Value::Null);
-        return;
+    match truth_of(test) {
+        Truth::Yes => entry_in(table, place, row),
+        Truth::No => Value::Null,
+        Truth::Unfit => Value::Failed,
     }
-    let c = byte_at(rule, at + 3) as usize;
-    if t.count <= c {
-        choose_scalar(work, n, Value::Null, Value::Null);
-        return;
+}
+
+// A column's entry in the slot of each listed row where it is true, null elsewhere; where it failed, it stays so.
+pub(crate) fn column_or_null(table: &[u8], place: ColumnPlace, work: &mut [u8], n: usize)
+    requires { ⌜ Fillable (now work) n ⌝ }
+    requires { ⌜ length (now table) < 2 ^ 32 ⌝ }
+    ensures { λ _. ⌜ Filled (ColumnRight (now (table .entry)) place (now (work .entry))) (now (work .entry)) n (now (work .exit)) ⌝ }
+{
+    let mut i = 0;
+    while i < n {
+        let r = row_at(work, 0, i);
+        let test = get_slot(work, r);
+        put_slot(work, r, entry_or_null(table, place, r, test));
+        i += 1;
     }
-    if 16 <= c {
-        choose_scalar(work, n, Value::Null, Value::Null);
-        return;
-    }
-    let place = t.columns[c];
-    column_or_null(table, place, work, n);
 }

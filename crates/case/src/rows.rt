@@ -2,6 +2,7 @@
 use crate::slot::get_slot;
 use crate::slot::put_slot;
 use crate::slot::wide;
+use crate::truth::choose;
 use layout::number::byte_at;
 use rule::type_of::type_numbered;
 use scalar::cast::cast;
@@ -12,11 +13,13 @@ use scalar::try_cast::try_cast;
 use scalar::types::DataType;
 use scalar::value::Value;
 ghost use mathlib.Core.Path.{_≡_};
-ghost use Prim.Native.Nat.{_+_, _*_, _≤_};
+ghost use Prim.Native.Nat.{_+_, _*_, _<_, _≤_};
 ghost use lib.ListN.{length};
 ghost use Rattle.scalar.specs.Value.{Storable, Gives};
 ghost use Rattle.case.specs.Evaluation.{OperatorGives};
 ghost use Rattle.case.specs.Frame.{rowAt, slotAt, Fillable, Filled, operationOf, Copied};
+ghost use Rattle.case.specs.Parting.{RowPut};
+ghost use Rattle.case.specs.Taking.{ScalarRight};
 
 // The operations on one value.
 pub enum Op {
@@ -50,6 +53,16 @@ pub(crate) fn row_at(work: &[u8], at: usize, i: usize) -> usize
 {
     let p = at + 2 * i;
     (wide(work[p]) + 256 * wide(work[p + 1])) as usize
+}
+
+// A row as the i-th of the list at a place.
+pub(crate) fn put_row(work: &mut [u8], at: usize, i: usize, row: usize)
+    requires { ⌜ (at + 2 * i + 2 ≤ length (now work)) × (row < 65536) ⌝ }
+    ensures { λ _. ⌜ RowPut (now (work .entry)) at i row (now (work .exit)) ⌝ }
+{
+    let p = at + 2 * i;
+    work[p] = (row % 256) as u8;
+    work[p + 1] = (row / 256) as u8;
 }
 
 // The first n rows of the list at a place, to another behind it.
@@ -101,6 +114,21 @@ pub(crate) fn apply(work: &mut [u8], n: usize, op: Op)
         let r = row_at(work, 0, i);
         let v = get_slot(work, r);
         put_slot(work, r, apply_one(op, v));
+        i += 1;
+    }
+}
+
+// One value in the slot of each listed row where it is true, another elsewhere; where it failed, it stays so.
+pub(crate) fn choose_scalar(work: &mut [u8], n: usize, then: Value, els: Value)
+    requires { ⌜ Fillable (now work) n ⌝ }
+    requires { ⌜ Storable then × Storable els ⌝ }
+    ensures { λ _. ⌜ Filled (ScalarRight then els (now (work .entry))) (now (work .entry)) n (now (work .exit)) ⌝ }
+{
+    let mut i = 0;
+    while i < n {
+        let r = row_at(work, 0, i);
+        let test = get_slot(work, r);
+        put_slot(work, r, choose(test, then, els));
         i += 1;
     }
 }

@@ -6,9 +6,9 @@ use scalar::value::value_of;
 ghost use mathlib.Core.Path.{_≡_};
 ghost use Prim.Native.Nat.{_+_, _^_, _<_, _≤_};
 ghost use lib.ListN.{length};
-ghost use Rattle.layout.specs.Bytes.{numberAt};
-ghost use Rattle.scalar.specs.Value.{Storable};
-ghost use Rattle.case.specs.Frame.{slotAt, SlotPut};
+ghost use Rattle.layout.specs.Bytes.{byte, numberAt};
+ghost use Rattle.scalar.specs.Value.{Storable, valueOf};
+ghost use Rattle.case.specs.Frame.{slotAt, nextSlot, SlotPut};
 
 // A byte as a number of 64 bits.
 pub(crate) fn wide(b: u8) -> u64
@@ -45,13 +45,28 @@ pub(crate) fn put_slot(work: &mut [u8], row: usize, v: Value)
     work[at + 8] = (n / 0x100_0000_0000_0000 % 256) as u8;
 }
 
+// The value in the nine bytes at a place.
+fn slot_value(work: &[u8], at: usize) -> Value
+    requires { ⌜ at + 9 ≤ length (now work) ⌝ }
+    ensures { λ r. ⌜ (r ≡ valueOf (byte (now (work .entry)) at) (numberAt 8 (now (work .entry)) (at + 1))) × Storable r ⌝ }
+{
+    let low = word(work, at + 1);
+    let high = word(work, at + 5);
+    value_of(work[at], low + 0x1_0000_0000 * high)
+}
+
 // The value in the slot of a row.
 pub(crate) fn get_slot(work: &[u8], row: usize) -> Value
     requires { ⌜ (row < 512) × (5632 ≤ length (now work)) ⌝ }
     ensures { λ r. ⌜ (r ≡ slotAt (now (work .entry)) row) × Storable r ⌝ }
 {
-    let at = 1024 + 9 * row;
-    let low = word(work, at + 1);
-    let high = word(work, at + 5);
-    value_of(work[at], low + 0x1_0000_0000 * high)
+    slot_value(work, 1024 + 9 * row)
+}
+
+// The value in the slot of a row of the next frame.
+pub(crate) fn next_slot(work: &[u8], row: usize) -> Value
+    requires { ⌜ (row < 512) × (12288 ≤ length (now work)) ⌝ }
+    ensures { λ r. ⌜ (r ≡ nextSlot (now (work .entry)) row) × Storable r ⌝ }
+{
+    slot_value(work, 7680 + 9 * row)
 }

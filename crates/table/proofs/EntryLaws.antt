@@ -39,7 +39,7 @@ valid-none (b ∷ v) i e = absurd (omega arith)
 
 -- no text
 text-none : (l t : List ℕ) → [] ≡ t → ValueGives l (utf8 t) (TableText 0 0)
-text-none l t e = record { says = ap (λ (x : List ℕ). entry (utf8 x)) e; stores = λ _. (omega arith, omega arith) }
+text-none l t e = record { says = λ _. ap (λ (x : List ℕ). entry (utf8 x)) e; stores = λ _. (omega arith, omega arith) }
 
 -- a part of a part, by its place in the whole
 part-part : (l : List ℕ) (start end from last : ℕ) → last ≤ length (part l start end)
@@ -83,7 +83,7 @@ module _ (l : List ℕ) (start end from to last : ℕ) (m : List ℕ) (is : m �
 
     pub text-there : ValueGives l (utf8 (textBetween from to (part l start end))) (TableText (start + from) (last - from))
     text-there = record {
-      says = ap (λ (x : List ℕ). entry (utf8 x)) (part-part l start end from last (omega (arith, last-is)) ∙ ap (λ (k : ℕ). part (part l start end) k last) whole ∙ text-cut);
+      says = λ _. ap (λ (x : List ℕ). entry (utf8 x)) (part-part l start end from last (omega (arith, last-is)) ∙ ap (λ (k : ℕ). part (part l start end) k last) whole ∙ text-cut);
       stores = λ b. (omega (arith, text-inside), omega (arith, text-inside, last-is, length-part l start end));
     }
       where
@@ -126,23 +126,23 @@ module _ (l offsets values : List ℕ) (row : ℕ) (t : DataType) where
     pub boolean-gives : (b : Bool) → t ≡ types.Boolean → b ≡ bitAt m row → ValueGives l (valueAt t offsets values row) (Boolean b)
     unfolding valueAt
     boolean-gives b k p =
-        value-of-type types.Boolean (Boolean b) k (record { says = ap (λ (x : Bool). entry (boolean x)) (p ∙ ap (λ (x : List ℕ). bitAt x row) e); stores = λ _. tt })
+        value-of-type types.Boolean (Boolean b) k (record { says = λ _. ap (λ (x : Bool). entry (boolean x)) (p ∙ ap (λ (x : List ℕ). bitAt x row) e); stores = λ _. tt })
 
     pub int32-gives : (n : ℕ) → t ≡ types.Int32 → n ≡ numberAt 4 m (4 * row) → n < 2 ^ 32 → ValueGives l (valueAt t offsets values row) (Int32 n)
     unfolding valueAt
     int32-gives n k p b =
-        value-of-type types.Int32 (Int32 n) k (record { says = ap (λ (x : ℕ). entry (int32 x)) (p ∙ ap (λ (x : List ℕ). numberAt 4 x (4 * row)) e); stores = λ _. b })
+        value-of-type types.Int32 (Int32 n) k (record { says = λ _. ap (λ (x : ℕ). entry (int32 x)) (p ∙ ap (λ (x : List ℕ). numberAt 4 x (4 * row)) e); stores = λ _. b })
 
     pub int64-gives : (n : ℕ) → t ≡ types.Int64 → n ≡ numberAt 8 m (8 * row) → n < 2 ^ 64 → ValueGives l (valueAt t offsets values row) (Int64 n)
     unfolding valueAt
     int64-gives n k p b =
-        value-of-type types.Int64 (Int64 n) k (record { says = ap (λ (x : ℕ). entry (int64 x)) (p ∙ ap (λ (x : List ℕ). numberAt 8 x (8 * row)) e); stores = λ _. b })
+        value-of-type types.Int64 (Int64 n) k (record { says = λ _. ap (λ (x : ℕ). entry (int64 x)) (p ∙ ap (λ (x : List ℕ). numberAt 8 x (8 * row)) e); stores = λ _. b })
 
     pub float-gives : (n : ℕ) (v : Value) → t ≡ types.Float64 → n ≡ numberAt 8 m (8 * row) → n < 2 ^ 64 → v ≡ floatValue n → ValueGives l (valueAt t offsets values row) v
     unfolding valueAt
     float-gives n v k p b q =
         value-of-type types.Float64 v k (record {
-          says = ap (meaning [] l) q ∙ float-means n b [] l ∙ ap (λ (x : ℕ). entry (float64 x)) (p ∙ ap (λ (x : List ℕ). numberAt 8 x (8 * row)) e);
+          says = λ rule. ap (meaning rule l) q ∙ float-means n b rule l ∙ ap (λ (x : ℕ). entry (float64 x)) (p ∙ ap (λ (x : List ℕ). numberAt 8 x (8 * row)) e);
           stores = λ _. subst Storable (sym q) (float-stores n b);
         })
 
@@ -160,7 +160,7 @@ module _ (l : List ℕ) (p : ColumnPlace) (row : ℕ) (m : List ℕ) (e : m ≡ 
   entry-valid q v = subst (λ (x : Entry). ValueGives l x v) (entry-is true q)
 
   pub entry-null : b ≡ false → ValueGives l (entryAt (columnIn l p) row) Null
-  entry-null q = record { says = ap entry (entry-is false q); stores = λ _. tt }
+  entry-null q = record { says = λ _. ap entry (entry-is false q); stores = λ _. tt }
 
 -- ---- in a table
 
@@ -200,7 +200,7 @@ module _ {A : Type 0} (f : ColumnPlace → A) (l : List ℕ) (t : Table) (long :
     pub has-entry : row < t .rows → (v : Value) → ValueGives l (entryAt (columnIn l (getD (t .columns) column noPlace)) row) v
         → EntryGives l (ok (tableIn l t)) column row (AnEntry v)
     has-entry m v g = record {
-      says = sym (ap (λ (c : Option TableColumn). entryOfColumn c (t .rows) row) column-there ∙ simp (lt-ltb row (t .rows) m, g .says));
+      says = sym (ap (λ (c : Option TableColumn). entryOfColumn c (t .rows) row) column-there ∙ simp (lt-ltb row (t .rows) m, g .says []));
       stores = g .stores;
     }
 

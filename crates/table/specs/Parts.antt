@@ -113,7 +113,7 @@ columnsStep rows bytes = do
 
 -- ---- an entry
 
--- a value beside an entry: what it means with the table's bytes, and that it can be stored where they are fewer than 2 ^ 32
+-- a value beside an entry: what it means with the table's bytes, whatever the rule's, and that it can be stored where they are fewer than 2 ^ 32
 pub record ValueGives (bytes : List ℕ) (e : Entry) (v : Value) : Type 0 where
-  pub says : meaning [] bytes v ≡ entry e
+  pub says : (rule : List ℕ) → meaning rule bytes v ≡ entry e
   pub stores : length bytes < 2 ^ 32 → Storable v

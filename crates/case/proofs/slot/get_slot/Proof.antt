@@ -1,7 +1,9 @@
--- `get_slot` reads a slot's kind and payload.
-use denote.Ref.{now}
-use Rattle.case.proofs.SlotLaws.{slot-got}
+-- `get_slot` reads the slot at its place.
+use Prim.Native.Nat.{_+_, _*_}
 use borrow.Author.Needs.{needs}
+use denote.Ref.{now}
+use native.Mathlib.Omega.{arith}
+use Rattle.case.proofs.SlotLaws.{slot-there}
 use Rattle.case.proofs.slot.get_slot.Statement.{statement}
 use Rattle.case.proofs.slot.get_slot.Tie as tie
 
@@ -11,12 +13,5 @@ get-slot-spec =
     (tie.spec
     (λ c. search needs)
     (λ c. search needs)
-    (λ c. search needs)
     (λ c κs. search needs)
-    (λ c. search needs)
-    (λ c κs. search needs)
-    (λ c. search needs)
-    (λ c. search needs)
-    (λ c. search needs)
-    (λ c κs. search needs)
-    (λ c. slot-got (now (c .before .before .before .before .before .args .work)) (c .before .before .before .before .before .args .row) (c .before .before .before .word .result) (c .before .before .word2 .result) (c .value-of .result) (c .before .before .before .word .ensures) (c .before .before .word2 .ensures) (c .value-of .ensures)))
+    (λ c. slot-there (now (c .before .before .args .work)) (1024 + 9 * c .before .before .args .row) (1025 + 9 * c .before .before .args .row) (c .slot-value .result) (omega arith) (c .slot-value .ensures)))
