@@ -10,8 +10,10 @@ use Rattle.layout.specs.Bytes.{byte}
 use Rattle.layout.proofs.TestLaws.{both-hold}
 use Rattle.scalar.specs.declared.value.Value.{Value}
 use Rattle.scalar.specs.declared.types.DataType.{DataType}
+use Rattle.scalar.specs.declared.types.DataType.the-variants.{Boolean, Int32, Int64, Float64, Utf8}
 use Rattle.scalar.specs.Entry.{Entry, null, boolean, int32, int64, float64, utf8, isNull, Outcome, entry, unfit, onEntry, onEntries}
 use Rattle.scalar.specs.Value.{meaning}
+use Rattle.scalar.specs.Cast.{castEntry}
 use Rattle.scalar.specs.TryCast.{tryCastEntry}
 use Rattle.rule.specs.declared.strategy.Strategy.{Strategy}
 use Rattle.rule.specs.declared.strategy.Strategy.the-variants.{NoExpression, WithExpression, InfallibleExprOrNull, ScalarOrScalar, ExpressionOrExpression, WithExprScalarLookupTable}
@@ -224,6 +226,15 @@ null-literal (equal a b) p = absurd (false≢true p)
 null-literal (less a b) p = absurd (false≢true p)
 null-literal (caseWhen b bs e) p = absurd (false≢true p)
 
+-- null try-casts to null
+try-null : (to : DataType) → tryCastEntry to null ≡ null
+unfolding castEntry
+try-null Boolean = refl
+try-null Int32 = refl
+try-null Int64 = refl
+try-null Float64 = refl
+try-null Utf8 = refl
+
 -- an ELSE that is dropped is null
 else-dropped : (els : Optional) (row : Row) (to : DataType) → dropNull els ≡ absent → evalElse els row to ≡ entry null
 unfolding eval
@@ -236,7 +247,7 @@ else-dropped (present x) row to p = go (isNullLiteral x) refl p
     go : (y : Bool) → isNullLiteral x ≡ y → cond y absent (present x) ≡ absent → onEntry (λ v. entry (tryCastEntry to v)) (eval x row) ≡ entry null
     go true i q =
         let (d, e) = null-literal x i in
-        ap (λ (z : Expr). onEntry (λ v. entry (tryCastEntry to v)) (eval z row)) e
+        ap (λ (z : Expr). onEntry (λ v. entry (tryCastEntry to v)) (eval z row)) e ∙ ap entry (try-null to)
     go false i q = absurd (no q)
 
 module _ {rule : List ℕ} {start at then end : ℕ} {table : List ℕ} {t : Table} {depth : ℕ} {w w₁ w₂ : List ℕ} {n : ℕ} (few : n ≤ 512)
@@ -263,7 +274,7 @@ module _ {rule : List ℕ} {start at then end : ℕ} {table : List ℕ} {t : Tab
               ∙ ap (λ (e : Expr). eval e (rowIn table t r)) (sym same)
 
   pub column-gives : Filled (CellsRight rule then table t w₁) w₁ n w₂ → Done (CaseRight columnCase rule start end table t depth) w n w₂
-  unfolding eval
+  unfolding eval typeOf
   column-gives d = done-filled few (first .long) (first .low) d (λ r v l g. record { is = go r v (first .here r l) g })
     where
       go : (r : ℕ) (v : Value) → ExprRight rule at then table t depth r (slotAt w₁ r) → CellsRight rule then table t w₁ r v → (b : Optional) (bs : Branches) (els : Optional)
@@ -363,6 +374,44 @@ with-expr-gives {rule} {start} {at} {first} {end} {table} {t} {depth} {count} {t
         ∙ ap₂ (λ (o : Outcome) (f : DataType). withBase o (λ test. evalBranches bs (rowIn table t r) test (evalElse els (rowIn table t r) f)) (evalElse els (rowIn table t r) f)) (c .is x test) type-is
         ∙ ap (λ (e : Expr). eval e (rowIn table t r)) (sym same)
 
+-- one row behind its base
+module _ {rule : List ℕ} {at end : ℕ} {table : List ℕ} {t : Table} {depth count : ℕ} {to : DataType} {w w₁ w₂ : List ℕ} {n rows : ℕ} {b : ResultBuilder} {s : Settled}
+    (copied : Copied w n 0 5632 w₁) (settles : Settles (classAt NullBase rule table w₁ (count + 1) (count + 1 + 1)) w₁ n rows b s w₂)
+    (r : ℕ) (v : Value) (l : Listed w₁ 5632 n r) (small : r < 512) (g : MergedRight rule at end table t depth EqualWhen count to w₂ (s .left) (s .builder) r v)
+    (bs : Branches) (els : Optional) (trees : TreesAt rule at end (branchTrees bs ++ optionalTrees els) depth) (c : branchCount bs ≡ count) where
+  slot-1 : meaning rule table (slotAt w₁ r) ≡ meaning rule table (slotAt w r)
+  slot-1 = ap (meaning rule table) (kept-slot w w₁ (λ j h. copied .before j h) r small)
+
+  slot-2 : meaning rule table (slotAt w₂ r) ≡ meaning rule table (slotAt w r)
+  slot-2 = ap (meaning rule table) (kept-slot w₁ w₂ (settles .low) r small) ∙ slot-1
+
+  class-is : (o : Outcome) → meaning rule table (slotAt w r) ≡ o → classAt NullBase rule table w₁ (count + 1) (count + 1 + 1) r ≡ leaving nullOutcome (count + 1) (count + 1 + 1) o
+  class-is o p = ap (leaving nullOutcome (count + 1) (count + 1 + 1)) (slot-1 ∙ p)
+
+  held : (k : ℕ) → classAt NullBase rule table w₁ (count + 1) (count + 1 + 1) r ≡ suc k → k < count + 2 → meaning rule table v ≡ resultAt bs (rowIn table t r) (evalElse els (rowIn table t r) to) k
+  held k e small-k =
+      let h : heldBy (s .builder) r ≡ some (suc k) = settles .gone r l (λ z. omega arith) ∙ ap some e in
+      g .of-held (suc k) h (omega arith) bs els trees c
+
+  value : (x : Entry) → meaning rule table (slotAt w r) ≡ entry x → (y : Bool) → isNull x ≡ y
+      → meaning rule table v ≡ cond y (evalElse els (rowIn table t r) to) (evalBranches bs (rowIn table t r) (equalsTest x) (evalElse els (rowIn table t r) to))
+  value x p true i =
+      let n-1 : count + 1 ≡ suc count = omega arith in
+      held count (class-is (entry x) p ∙ ap (λ (y : Bool). cond y (count + 1) 0) i ∙ n-1) (omega arith)
+      ∙ ap (resultAt bs (rowIn table t r) (evalElse els (rowIn table t r) to)) (sym c) ∙ result-else bs (rowIn table t r) (evalElse els (rowIn table t r) to)
+  value x p false i =
+      let z : classAt NullBase rule table w₁ (count + 1) (count + 1 + 1) r ≡ 0 = class-is (entry x) p ∙ ap (λ (y : Bool). cond y (count + 1) 0) i in
+      g .of-open (settles .kept r l z) .is bs els (equalsTest x) trees c (x, slot-2 ∙ p, refl)
+
+  by-base-row : (o : Outcome) → meaning rule table (slotAt w r) ≡ o → meaning rule table v
+      ≡ withBase (meaning rule table (slotAt w r)) (λ test. evalBranches bs (rowIn table t r) test (evalElse els (rowIn table t r) to)) (evalElse els (rowIn table t r) to)
+  by-base-row unfit p =
+      let n-2 : count + 1 + 1 ≡ suc (suc count) = omega arith in
+      held (suc count) (class-is unfit p ∙ n-2) (omega arith)
+      ∙ ap (λ (k : ℕ). resultAt bs (rowIn table t r) (evalElse els (rowIn table t r) to) (suc k)) (sym c) ∙ result-failed bs (rowIn table t r) (evalElse els (rowIn table t r) to)
+      ∙ ap (λ (o : Outcome). withBase o (λ test. evalBranches bs (rowIn table t r) test (evalElse els (rowIn table t r) to)) (evalElse els (rowIn table t r) to)) (sym p)
+  by-base-row (entry x) p = value x p (isNull x) refl ∙ ap (λ (o : Outcome). withBase o (λ test. evalBranches bs (rowIn table t r) test (evalElse els (rowIn table t r) to)) (evalElse els (rowIn table t r) to)) (sym p)
+
 -- null bases leave for ELSE, those that failed are failed, the others go through the branches
 pub by-base-gives : {rule : List ℕ} {at end : ℕ} {table : List ℕ} {t : Table} {depth count : ℕ} {to : DataType} {w w₁ w₂ w₃ : List ℕ} {n rows : ℕ} {b : ResultBuilder} {s : Settled} → n ≤ 512
     → Rows w 0 n 512 → Copied w n 0 5632 w₁ → Settles (classAt NullBase rule table w₁ (count + 1) (count + 1 + 1)) w₁ n rows b s w₂
@@ -371,42 +420,4 @@ pub by-base-gives : {rule : List ℕ} {at end : ℕ} {table : List ℕ} {t : Tab
 by-base-gives {rule} {at} {end} {table} {t} {depth} {count} {to} {w} {w₁} {w₂} {w₃} {n} {rows} {b} {s} few ok copied settles d =
     done-done few (settles .long ∙ copied .long) (λ j h. settles .low j (omega arith) ∙ copied .before j (omega arith)) d
     (λ r v l g. record { is = λ bs els trees c.
-        go r v (listed-to w w₁ 0 5632 n (copied .rows-copied) r l) (listed-below ok r l) g bs els trees c (meaning rule table (slotAt w r)) refl })
-  where
-    module _ (r : ℕ) (v : Value) (l : Listed w₁ 5632 n r) (small : r < 512) (g : MergedRight rule at end table t depth EqualWhen count to w₂ (s .left) (s .builder) r v)
-        (bs : Branches) (els : Optional) (trees : TreesAt rule at end (branchTrees bs ++ optionalTrees els) depth) (c : branchCount bs ≡ count) where
-      E : Outcome
-      E = evalElse els (rowIn table t r) to
-
-      slot-1 : meaning rule table (slotAt w₁ r) ≡ meaning rule table (slotAt w r)
-      slot-1 = ap (meaning rule table) (kept-slot w w₁ (λ j h. copied .before j h) r small)
-
-      slot-2 : meaning rule table (slotAt w₂ r) ≡ meaning rule table (slotAt w r)
-      slot-2 = ap (meaning rule table) (kept-slot w₁ w₂ (settles .low) r small) ∙ slot-1
-
-      class-is : (o : Outcome) → meaning rule table (slotAt w r) ≡ o → classAt NullBase rule table w₁ (count + 1) (count + 1 + 1) r ≡ leaving nullOutcome (count + 1) (count + 1 + 1) o
-      class-is o p = ap (leaving nullOutcome (count + 1) (count + 1 + 1)) (slot-1 ∙ p)
-
-      held : (k : ℕ) → classAt NullBase rule table w₁ (count + 1) (count + 1 + 1) r ≡ suc k → k < count + 2 → meaning rule table v ≡ resultAt bs (rowIn table t r) E k
-      held k e small-k =
-          let h : heldBy (s .builder) r ≡ some (suc k) = settles .gone r l (λ z. omega arith) ∙ ap some e in
-          g .of-held (suc k) h (omega arith) bs els trees c
-
-      value : (x : Entry) → meaning rule table (slotAt w r) ≡ entry x → (y : Bool) → isNull x ≡ y
-          → meaning rule table v ≡ cond y E (evalBranches bs (rowIn table t r) (equalsTest x) E)
-      value x p true i =
-          let n-1 : count + 1 ≡ suc count = omega arith in
-          held count (class-is (entry x) p ∙ ap (λ (y : Bool). cond y (count + 1) 0) i ∙ n-1) (omega arith)
-          ∙ ap (resultAt bs (rowIn table t r) E) (sym c) ∙ result-else bs (rowIn table t r) E
-      value x p false i =
-          let z : classAt NullBase rule table w₁ (count + 1) (count + 1 + 1) r ≡ 0 = class-is (entry x) p ∙ ap (λ (y : Bool). cond y (count + 1) 0) i in
-          g .of-open (settles .kept r l z) .is bs els (equalsTest x) trees c (x, slot-2 ∙ p, refl)
-
-      go : (o : Outcome) → meaning rule table (slotAt w r) ≡ o → meaning rule table v
-          ≡ withBase (meaning rule table (slotAt w r)) (λ test. evalBranches bs (rowIn table t r) test E) E
-      go unfit p =
-          let n-2 : count + 1 + 1 ≡ suc (suc count) = omega arith in
-          held (suc count) (class-is unfit p ∙ n-2) (omega arith)
-          ∙ ap (λ (k : ℕ). resultAt bs (rowIn table t r) E (suc k)) (sym c) ∙ result-failed bs (rowIn table t r) E
-          ∙ ap (λ (o : Outcome). withBase o (λ test. evalBranches bs (rowIn table t r) test E) E) (sym p)
-      go (entry x) p = value x p (isNull x) refl ∙ ap (λ (o : Outcome). withBase o (λ test. evalBranches bs (rowIn table t r) test E) E) (sym p)
+        by-base-row copied settles r v (listed-to w w₁ 0 5632 n (copied .rows-copied) r l) (listed-below ok r l) g bs els trees c (meaning rule table (slotAt w r)) refl })

@@ -174,10 +174,9 @@ indexedOr bs row els (suc k) = resultAt bs row els k
 
 -- the index that so many branches at a place give a row: 0 where none takes it
 pub record BranchesIndex (rule : List ℕ) (at : ℕ) (table : List ℕ) (t : Table) (depth : ℕ) (how : Leave) (count : ℕ) (w : List ℕ) (q : ℕ) (c : ℕ) : Type 0 where
-  pub few : c ≤ count + 2
   pub is : (bs : Branches) (rest : List Expr) (end : ℕ) (test : Test) (els : Outcome) → TreesAt rule at end (branchTrees bs ++ rest) depth → branchCount bs ≡ count
       → TestFor how (meaning rule table (slotAt w q)) test
-      → evalBranches bs (rowIn table t q) test els ≡ indexedOr bs (rowIn table t q) els c
+      → (c ≤ count + 2) × (evalBranches bs (rowIn table t q) test els ≡ indexedOr bs (rowIn table t q) els c)
 
 -- the outcome of branches and ELSE at a place, by what the slots have,
 pub record BranchesRight (rule : List ℕ) (at : ℕ) (end : ℕ) (table : List ℕ) (t : Table) (depth : ℕ) (how : Leave) (count : ℕ) (to : DataType) (w : List ℕ) (r : ℕ) (v : Value) : Type 0 where

@@ -1,0 +1,343 @@
+-- Choosing: the open list through the branches in turn. Assumes nothing.
+use mathlib.Core.Path.{_≡_, refl, sym, ap, ap₂, subst, _∙_}
+use mathlib.Core.Bool.{Bool, true, false, cond}
+use mathlib.Core.List.{List, [], _∷_, _++_, append-assoc}
+use mathlib.Core.Option.{Option, some, none}
+use mathlib.Core.Logic.{_⊎_, inl, inr, ⊎-elim}
+use Prim.Native.Nat.{ℕ, zero, suc, _+_, _-_, _*_, _^_, _<_, _≤_}
+use native.Mathlib.Omega.{arith}
+use lib.ListN.{length}
+use Rattle.layout.specs.Bytes.{byte}
+use Rattle.scalar.specs.declared.value.Value.{Value}
+use Rattle.scalar.specs.Entry.{Entry, isTrue, Outcome, entry, unfit, onEntries}
+use Rattle.scalar.specs.Compare.{equalEntry}
+use Rattle.scalar.specs.Value.{meaning}
+use Rattle.rule.specs.Tree.{Expr, Branches, noMore, branch, branchCount}
+use Rattle.rule.specs.Row.{Row, Test, isTrueTest, equalsTest, passes, chosen, eval, evalBranches}
+use Rattle.rule.specs.Node.{NodeAt}
+use Rattle.rule.specs.Walks.{branchTrees, TreesAt, EndGives, BehindGives}
+use Rattle.rule.proofs.WalkLaws.{first-tree, first-two}
+use Rattle.table.specs.declared.places.Table.{Table}
+use Rattle.case.specs.declared.builder.ResultBuilder.{ResultBuilder}
+use Rattle.case.specs.declared.settle.Leave.{Leave}
+use Rattle.case.specs.declared.settle.Leave.the-variants.{NullBase, TrueWhen, EqualWhen, Rest}
+use Rattle.case.specs.declared.settle.Settled.{Settled}
+use Rattle.case.specs.Frame.{rowAt, slotAt, nextSlot, Rows, Listed, Copied}
+use Rattle.case.specs.Choosing.{leaving, trueOutcome, classAt, heldBy, Open, Settles}
+use Rattle.case.specs.Evaluation.{Framed, Done, Ahead, rowIn, ExprRight, resultAt, indexedOr, TestFor, passesTest, WhenRight, Sifts, BranchesIndex}
+use Rattle.case.proofs.FrameLaws.{Kept, SameRows, kept-rows, kept-slot, listed-to, listed-from, rows-to, rows-small, listed-below, lent, back, lent-framed, NextDone, next-done}
+use Rattle.case.proofs.CaseLaws.{result-failed}
+
+-- the open list where it stands unchanged
+pub open-kept : {b : ResultBuilder} {w : List ℕ} {left rows : ℕ} (w′ : List ℕ) → SameRows w 5632 w′ 5632 left → Open b w left rows → Open b w′ left rows
+open-kept {b} {w} {left} {rows} w′ same o = record {
+  sized = o .sized;
+  small = o .small;
+  list-ok = rows-to w w′ 5632 5632 left rows same (o .list-ok);
+  free = λ r l. o .free r (listed-from w w′ 5632 5632 left same r l);
+  whole-done = o .whole-done;
+  part-held = o .part-held;
+}
+
+open-rows : {b : ResultBuilder} {w : List ℕ} {left rows : ℕ} (rows′ : ℕ) → rows ≡ rows′ → Open b w left rows → Open b w left rows′
+open-rows {b} {w} {left} rows′ e o = subst (Open b w left) e o
+
+-- ---- one branch
+
+-- the index with which a row leaves, by what its WHEN is
+class-when : (how : Leave) (rule table w : List ℕ) (index failed q : ℕ) (base when : Outcome) (test : Test) → meaning rule table (slotAt w q) ≡ base → meaning rule table (nextSlot w q) ≡ when
+    → TestFor how base test → classAt how rule table w index failed q ≡ leaving (passesTest test) index failed when
+class-when NullBase rule table w index failed q base when test p n h = absurd h
+class-when Rest rule table w index failed q base when test p n h = absurd h
+class-when TrueWhen rule table w index failed q base when test p n h =
+    ap (leaving trueOutcome index failed) n ∙ go when ∙ ap (λ (x : Test). leaving (passesTest x) index failed when) (sym h)
+  where
+    go : (o : Outcome) → leaving trueOutcome index failed o ≡ leaving (passesTest isTrueTest) index failed o
+    go unfit = refl
+    go (entry v) = refl
+class-when EqualWhen rule table w index failed q base when test p n (b, e, h) =
+    ap₂ (λ (x y : Outcome). leaving trueOutcome index failed (onEntries equalEntry x y)) (p ∙ e) n ∙ go when ∙ ap (λ (x : Test). leaving (passesTest x) index failed when) (sym h)
+  where
+    go : (o : Outcome) → leaving trueOutcome index failed (onEntries equalEntry (entry b) o) ≡ leaving (passesTest (equalsTest b)) index failed o
+    go unfit = refl
+    go (entry v) = refl
+
+module _ {table : List ℕ} {t : Table} {depth : ℕ} {w w₁ : List ℕ} {left : ℕ} {b : ResultBuilder} (a : Ahead table t w left b depth) (copied : Copied w left 5632 6656 w₁) where
+  turn-few : left ≤ 512
+  turn-few = a .is-open .list-ok .few
+
+  pub turn-room : 13312 ≤ length w₁
+  turn-room = let r = a .room in let l = copied .long in let d = a .deep in omega arith
+
+  pub turn-asks : Framed table t (lent w₁) left depth
+  turn-asks =
+      lent-framed depth (rows-to w w₁ 5632 6656 left (t .rows) (copied .rows-copied) (a .is-open .list-ok)) (a .is-open .small)
+      (let r = a .room in let l = copied .long in omega arith) (a .short)
+
+  module _ {rule : List ℕ} {start end : ℕ} {ys : List ℕ} (d : Done (ExprRight rule start end table t depth) (lent w₁) left ys) where
+    turn-next : NextDone (ExprRight rule start end table t depth) w₁ left (back w₁ ys)
+    turn-next = next-done turn-few turn-room d
+
+    pub turn-long : length (back w₁ ys) ≡ length w
+    turn-long = turn-next .long ∙ copied .long
+
+    turn-kept : Kept 6656 w (back w₁ ys)
+    turn-kept j h = turn-next .low j h ∙ copied .before j h
+
+    turn-list : SameRows w 5632 (back w₁ ys) 5632 left
+    turn-list = kept-rows 6656 w (back w₁ ys) 5632 left (let f = turn-few in omega arith) turn-kept
+
+    pub turn-open : Open b (back w₁ ys) left (b .rows) × (12288 ≤ length (back w₁ ys))
+    turn-open = (
+      open-kept (back w₁ ys) turn-list (open-rows (b .rows) (sym (a .is-open .sized)) (a .is-open)),
+      (let r = a .room in let l = turn-long in let e = a .deep in omega arith),
+    )
+
+    module _ (how : Leave) (index failed : ℕ) {s : Settled} {w₂ : List ℕ}
+        (settles : Settles (classAt how rule table (back w₁ ys) index failed) (back w₁ ys) left (b .rows) b s w₂) where
+      right-class : (q c : ℕ) → Listed w 5632 left q → classAt how rule table (back w₁ ys) index failed q ≡ c → WhenRight rule start end table t depth how index failed w q c
+      right-class q c l e = record {
+        is = λ x test node for.
+            let small : q < 512 = listed-below (rows-small (a .is-open .small) (a .is-open .list-ok)) q l in
+            let base = ap (meaning rule table) (kept-slot w (back w₁ ys) (λ j h. turn-kept j (omega arith)) q small) in
+            let when = turn-next .here q small (listed-to w w₁ 5632 6656 left (copied .rows-copied) q l) .is x node in
+            sym e ∙ class-when how rule table (back w₁ ys) index failed q (meaning rule table (slotAt w q)) (eval x (rowIn table t q)) test base when for;
+      }
+
+      pub turn-gives : Sifts (WhenRight rule start end table t depth how index failed w) w left (t .rows) b (s .left) (s .builder) w₂
+      turn-gives = record {
+        long = settles .long ∙ turn-long;
+        low = λ j h. settles .low j h ∙ turn-kept j (omega arith);
+        still-open = open-rows (t .rows) (a .is-open .sized) (settles .still-open);
+        stays = λ q l.
+            let (m, z) = settles .stays q l in
+            let m′ = listed-from w (back w₁ ys) 5632 5632 left turn-list q m in
+            (m′, right-class q 0 m′ z);
+        each = λ q l. each-row q l (classAt how rule table (back w₁ ys) index failed q) refl;
+        others = λ q n. settles .others q (λ m. n (listed-from w (back w₁ ys) 5632 5632 left turn-list q m));
+      }
+        where
+          each-row : (q : ℕ) → Listed w 5632 left q → (c : ℕ) → classAt how rule table (back w₁ ys) index failed q ≡ c
+              → Listed w₂ 5632 (s .left) q ⊎ ((k : ℕ) × (heldBy (s .builder) q ≡ some (suc k)) × WhenRight rule start end table t depth how index failed w q (suc k))
+          each-row q l zero e = inl (settles .kept q (listed-to w (back w₁ ys) 5632 5632 left turn-list q l) e)
+          each-row q l (suc k) e =
+              inr (k, settles .gone q (listed-to w (back w₁ ys) 5632 5632 left turn-list q l) (λ z. let y : suc k ≡ 0 = sym e ∙ z in omega arith) ∙ ap some e, right-class q (suc k) l e)
+
+-- ---- two steps as one
+
+-- nothing is sifted yet
+pub sifts-none : {index : ℕ → ℕ → Type 0} {w : List ℕ} {left rows : ℕ} {b : ResultBuilder} → Open b w left rows → ((q : ℕ) → index q 0) → Sifts index w left rows b left b w
+sifts-none o zero-right = record {
+  long = refl;
+  low = λ j h. refl;
+  still-open = o;
+  stays = λ q l. (l, zero-right q);
+  each = λ q l. inl l;
+  others = λ q n. refl;
+}
+
+none-some : {A : Type 0} {x : A} → _≡_ {A = Option A} none (some x) → ⊥
+none-some p = let z : _≡_ {A = ℕ} 0 1 = cc in omega arith
+
+pub sifts-more : {first second both : ℕ → ℕ → Type 0} {w w₁ w₂ : List ℕ} {left left₁ left₂ rows : ℕ} {b b₁ b₂ : ResultBuilder}
+    → Sifts first w left rows b left₁ b₁ w₁ → Sifts second w₁ left₁ rows b₁ left₂ b₂ w₂
+    → ((q c : ℕ) → Listed w 5632 left q → first q 0 → second q c → both q c) → ((q k : ℕ) → Listed w 5632 left q → first q (suc k) → both q (suc k))
+    → Sifts both w left rows b left₂ b₂ w₂
+sifts-more {first} {second} {both} {w} {w₁} {w₂} {left} {left₁} {left₂} {rows} {b} {b₁} {b₂} f s later earlier = record {
+  long = s .long ∙ f .long;
+  low = λ j h. s .low j h ∙ f .low j h;
+  still-open = s .still-open;
+  stays = λ q l.
+      let (l₁, c) = s .stays q l in
+      let (l₀, z) = f .stays q l₁ in
+      (l₀, later q 0 l₀ z c);
+  each = λ q l. go q l (f .each q l);
+  others = λ q n. s .others q (λ l. n (f .stays q l .0)) ∙ f .others q n;
+}
+  where
+    go : (q : ℕ) → Listed w 5632 left q → (Listed w₁ 5632 left₁ q ⊎ ((k : ℕ) × (heldBy b₁ q ≡ some (suc k)) × first q (suc k)))
+        → Listed w₂ 5632 left₂ q ⊎ ((k : ℕ) × (heldBy b₂ q ≡ some (suc k)) × both q (suc k))
+    go q l (inl l₁) = ⊎-elim (λ m. inl m) (λ m. inr (m .0, m .1, later q (suc (m .0)) l (f .stays q l₁ .1) (m .2))) (s .each q l₁)
+    go q l (inr (k, held, right)) = inr (k, s .others q (λ l₁. none-some (sym (f .still-open .free q l₁) ∙ held)) ∙ held, earlier q k l right)
+
+-- ---- branches one after the other
+
+-- the branches behind the first so many
+unfoldable pub dropBranches : ℕ → Branches → Branches
+dropBranches zero bs = bs
+dropBranches (suc i) noMore = noMore
+dropBranches (suc i) (branch w t bs) = dropBranches i bs
+
+drop-all : (bs : Branches) → dropBranches (branchCount bs) bs ≡ noMore
+unfolding dropBranches branchCount
+drop-all noMore = refl
+drop-all (branch w t bs) = drop-all bs
+
+-- the branch behind the first i
+record BranchAt (i : ℕ) (bs : Branches) : Type 0 where
+  when-is : Expr
+  then-is : Expr
+  later : Branches
+  before : List Expr
+  here : dropBranches i bs ≡ branch when-is then-is later
+  behind : dropBranches (suc i) bs ≡ later
+  result : (row : Row) (els : Outcome) → resultAt bs row els i ≡ eval then-is row
+  many : length before ≡ 2 * i
+  trees : branchTrees bs ≡ before ++ (when-is ∷ then-is ∷ branchTrees later)
+
+branch-at : (i : ℕ) (bs : Branches) → i < branchCount bs → BranchAt i bs
+unfolding dropBranches branchCount resultAt
+branch-at i noMore h = absurd (omega arith)
+branch-at zero (branch w t bs) h = record {
+  when-is = w; then-is = t; later = bs; before = []; here = refl; behind = drop-none bs; result = λ row els. refl; many = refl; trees = refl;
+}
+  where
+    drop-none : (bs : Branches) → dropBranches zero bs ≡ bs
+    drop-none bs = refl
+branch-at (suc i) (branch w t bs) h =
+    let a = branch-at i bs (omega arith) in
+    record {
+      when-is = a .when-is; then-is = a .then-is; later = a .later; before = w ∷ t ∷ a .before; here = a .here; behind = a .behind; result = a .result;
+      many = (let m = a .many in omega arith);
+      trees = ap (λ (l : List Expr). w ∷ t ∷ l) (a .trees);
+    }
+
+-- the last two of a list
+last-two : (es : List Expr) (n : ℕ) → length es ≡ n + 2 → (first : List Expr) × (x : Expr) × (y : Expr) × (length first ≡ n) × (es ≡ first ++ (x ∷ y ∷ []))
+last-two [] n h = absurd (omega arith)
+last-two (x ∷ []) n h = absurd (omega arith)
+last-two (x ∷ y ∷ []) zero h = ([], x, y, refl, refl)
+last-two (x ∷ y ∷ []) (suc n) h = absurd (omega arith)
+last-two (x ∷ y ∷ z ∷ es) zero h = absurd (omega arith)
+last-two (x ∷ y ∷ z ∷ es) (suc n) h =
+    let (first, u, v, f, g) = last-two (y ∷ z ∷ es) n (omega arith) in
+    (x ∷ first, u, v, ap suc f, ap (λ (l : List Expr). x ∷ l) g)
+
+-- what an index says where i branches have been tried
+unfoldable pub soFar : ℕ → Branches → Row → Test → Outcome → ℕ → Outcome
+soFar i bs row test els zero = evalBranches (dropBranches i bs) row test els
+soFar i bs row test els (suc k) = resultAt bs row els k
+
+pub record IndexSoFar (rule : List ℕ) (at : ℕ) (table : List ℕ) (t : Table) (depth : ℕ) (how : Leave) (count i : ℕ) (w : List ℕ) (q : ℕ) (c : ℕ) : Type 0 where
+  pub is : (bs : Branches) (rest : List Expr) (end : ℕ) (test : Test) (els : Outcome) → TreesAt rule at end (branchTrees bs ++ rest) depth → branchCount bs ≡ count
+      → TestFor how (meaning rule table (slotAt w q)) test
+      → (c ≤ count + 2) × (evalBranches bs (rowIn table t q) test els ≡ soFar i bs (rowIn table t q) test els c)
+
+-- where the loop stands: i branches have been tried, and the others stand at the place
+pub record Chosen (rule : List ℕ) (at : ℕ) (table : List ℕ) (t : Table) (depth : ℕ) (how : Leave) (count : ℕ) (w : List ℕ) (left : ℕ) (b : ResultBuilder)
+    (i place left′ : ℕ) (b′ : ResultBuilder) (w′ : List ℕ) : Type 0 where
+  pub few : i ≤ count
+  pub behind : BehindGives rule at (2 * i) place
+  pub sifts : Sifts (IndexSoFar rule at table t depth how count i w) w left (t .rows) b left′ b′ w′
+
+module _ {rule : List ℕ} {at : ℕ} {table : List ℕ} {t : Table} {depth : ℕ} {how : Leave} {count : ℕ} {w : List ℕ} {left : ℕ} {b : ResultBuilder} (a : Ahead table t w left b depth) where
+  pub choose-none : Chosen rule at table t depth how count w left b 0 at left b w
+  unfolding soFar dropBranches
+  choose-none = record {
+    few = omega arith;
+    behind = record { stand = none-behind; onward = omega arith };
+    sifts = sifts-none (a .is-open) (λ q. record { is = λ bs rest end test els trees c for. (omega arith, refl) });
+  }
+    where
+      none-behind : (end : ℕ) (es rest : List Expr) (depth : ℕ) → length es ≡ 2 * 0 → TreesAt rule at end (es ++ rest) depth → TreesAt rule at end rest depth
+      none-behind end [] rest depth p trees = trees
+      none-behind end (e ∷ es) rest depth p trees = absurd (omega arith)
+
+  module _ {i place left₁ : ℕ} {b₁ : ResultBuilder} {w₁ : List ℕ} (s : Chosen rule at table t depth how count w left b i place left₁ b₁ w₁) where
+    pub choose-ahead : Ahead table t w₁ left₁ b₁ depth
+    choose-ahead = record { deep = a .deep; is-open = s .sifts .still-open; room = (let l = s .sifts .long in let r = a .room in omega arith); short = a .short }
+
+    pub choose-end : count ≤ i → Sifts (BranchesIndex rule at table t depth how count w) w left (t .rows) b left₁ b₁ w₁
+    unfolding soFar evalBranches
+    choose-end all = sifts-as (s .sifts) (λ q c l x. record { is = λ bs rest end test els trees n for. ends q c x bs rest end test els trees n for })
+      where
+        sifts-as : {first both : ℕ → ℕ → Type 0} {w w₁ : List ℕ} {left left₁ rows : ℕ} {b b₁ : ResultBuilder} → Sifts first w left rows b left₁ b₁ w₁
+            → ((q c : ℕ) → Listed w 5632 left q → first q c → both q c) → Sifts both w left rows b left₁ b₁ w₁
+        sifts-as f to = record {
+          long = f .long;
+          low = f .low;
+          still-open = f .still-open;
+          stays = λ q l. (f .stays q l .0, to q 0 (f .stays q l .0) (f .stays q l .1));
+          each = λ q l. ⊎-elim (λ m. inl m) (λ m. inr (m .0, m .1, to q (suc (m .0)) l (m .2))) (f .each q l);
+          others = f .others;
+        }
+
+        ends : (q c : ℕ) → IndexSoFar rule at table t depth how count i w q c → (bs : Branches) (rest : List Expr) (end : ℕ) (test : Test) (els : Outcome)
+            → TreesAt rule at end (branchTrees bs ++ rest) depth → branchCount bs ≡ count → TestFor how (meaning rule table (slotAt w q)) test
+            → (c ≤ count + 2) × (evalBranches bs (rowIn table t q) test els ≡ indexedOr bs (rowIn table t q) els c)
+        ends q zero x bs rest end test els trees n for =
+            let (f, e) = x .is bs rest end test els trees n for in
+            let here : i ≡ branchCount bs = let k = s .few in omega arith in
+            (f, e ∙ ap (λ (j : ℕ). evalBranches (dropBranches j bs) (rowIn table t q) test els) here ∙ ap (λ (l : Branches). evalBranches l (rowIn table t q) test els) (drop-all bs))
+        ends q (suc k) x bs rest end test els trees n for = x .is bs rest end test els trees n for
+
+    module _ (more : i < count) {then next left₂ : ℕ} {b₂ : ResultBuilder} {w₂ : List ℕ} (to-then : EndGives rule place then) (to-next : EndGives rule then next)
+        (turned : Sifts (WhenRight rule place then table t depth how (i + 1) (count + 2) w₁) w₁ left₁ (t .rows) b₁ left₂ b₂ w₂) where
+      -- the branch that was tried
+      tried : (bs : Branches) (rest : List Expr) (end : ℕ) (at-i : BranchAt i bs) → TreesAt rule at end (branchTrees bs ++ rest) depth
+          → TreesAt rule place end (at-i .when-is ∷ at-i .then-is ∷ (branchTrees (at-i .later) ++ rest)) depth
+      tried bs rest end x trees =
+          s .behind .stand end (x .before) (x .when-is ∷ x .then-is ∷ (branchTrees (x .later) ++ rest)) depth (x .many)
+          (subst (λ (l : List Expr). TreesAt rule at end l depth) (ap (λ (l : List Expr). l ++ rest) (x .trees) ∙ append-assoc (x .before) (x .when-is ∷ x .then-is ∷ branchTrees (x .later)) rest) trees)
+
+      choose-index : (q c : ℕ) → Listed w 5632 left q → IndexSoFar rule at table t depth how count i w q 0 → WhenRight rule place then table t depth how (i + 1) (count + 2) w₁ q c
+          → IndexSoFar rule at table t depth how count (i + 1) w q c
+      unfolding soFar evalBranches
+      choose-index q c l x right = record {
+        is = λ bs rest end test els trees n for.
+            let at-i = branch-at i bs (omega arith) in
+            let small : q < 512 = listed-below (rows-small (a .is-open .small) (a .is-open .list-ok)) q l in
+            let same = ap (meaning rule table) (kept-slot w w₁ (s .sifts .low) q small) in
+            let for′ = subst (λ (o : Outcome). TestFor how o test) (sym same) for in
+            let (when-node, others) = first-tree to-then (tried bs rest end at-i trees) in
+            let before = x .is bs rest end test els trees n for .1 ∙ ap (λ (y : Branches). evalBranches y (rowIn table t q) test els) (at-i .here) in
+            by bs test els at-i n c (eval (at-i .when-is) (rowIn table t q)) refl (right .is (at-i .when-is) test when-node for′) before;
+      }
+        where
+          by : (bs : Branches) (test : Test) (els : Outcome) (x : BranchAt i bs) → branchCount bs ≡ count → (c : ℕ) (o : Outcome) → eval (x .when-is) (rowIn table t q) ≡ o
+              → c ≡ leaving (passesTest test) (i + 1) (count + 2) (eval (x .when-is) (rowIn table t q))
+              → evalBranches bs (rowIn table t q) test els ≡ chosen test (eval (x .when-is) (rowIn table t q)) (eval (x .then-is) (rowIn table t q)) (evalBranches (x .later) (rowIn table t q) test els)
+              → (c ≤ count + 2) × (evalBranches bs (rowIn table t q) test els ≡ soFar (i + 1) bs (rowIn table t q) test els c)
+          by bs test els x n c unfit p e before =
+              let is : c ≡ suc (suc (branchCount bs)) = e ∙ ap (leaving (passesTest test) (i + 1) (count + 2)) p ∙ (let k : count + 2 ≡ suc (suc (branchCount bs)) = omega arith in k) in
+              (omega arith,
+              before ∙ ap (λ (o : Outcome). chosen test o (eval (x .then-is) (rowIn table t q)) (evalBranches (x .later) (rowIn table t q) test els)) p
+              ∙ sym (result-failed bs (rowIn table t q) els) ∙ ap (soFar (i + 1) bs (rowIn table t q) test els) (sym is))
+          by bs test els x n c (entry v) p e before = passed (passes test v) refl
+            where
+              later-is : evalBranches bs (rowIn table t q) test els ≡ cond (passes test v) (eval (x .then-is) (rowIn table t q)) (evalBranches (x .later) (rowIn table t q) test els)
+              later-is = before ∙ ap (λ (o : Outcome). chosen test o (eval (x .then-is) (rowIn table t q)) (evalBranches (x .later) (rowIn table t q) test els)) p
+
+              class-is : c ≡ cond (passes test v) (i + 1) 0
+              class-is = e ∙ ap (leaving (passesTest test) (i + 1) (count + 2)) p
+
+              passed : (y : Bool) → passes test v ≡ y → (c ≤ count + 2) × (evalBranches bs (rowIn table t q) test els ≡ soFar (i + 1) bs (rowIn table t q) test els c)
+              passed true z =
+                  let is : c ≡ suc i = class-is ∙ ap (λ (y : Bool). cond y (i + 1) 0) z ∙ (let k : i + 1 ≡ suc i = omega arith in k) in
+                  (omega arith,
+                  later-is ∙ ap (λ (y : Bool). cond y (eval (x .then-is) (rowIn table t q)) (evalBranches (x .later) (rowIn table t q) test els)) z
+                  ∙ sym (x .result (rowIn table t q) els) ∙ ap (soFar (i + 1) bs (rowIn table t q) test els) (sym is))
+              passed false z =
+                  let is : c ≡ 0 = class-is ∙ ap (λ (y : Bool). cond y (i + 1) 0) z in
+                  let one : suc i ≡ i + 1 = omega arith in
+                  (omega arith,
+                  later-is ∙ ap (λ (y : Bool). cond y (eval (x .then-is) (rowIn table t q)) (evalBranches (x .later) (rowIn table t q) test els)) z
+                  ∙ ap (λ (y : Branches). evalBranches y (rowIn table t q) test els) (sym (x .behind) ∙ ap (λ (j : ℕ). dropBranches j bs) one)
+                  ∙ ap (soFar (i + 1) bs (rowIn table t q) test els) (sym is))
+
+      held-index : (q k : ℕ) → Listed w 5632 left q → IndexSoFar rule at table t depth how count i w q (suc k) → IndexSoFar rule at table t depth how count (i + 1) w q (suc k)
+      unfolding soFar
+      held-index q k l x = record { is = x .is }
+
+      pub choose-more : Chosen rule at table t depth how count w left b (i + 1) next left₂ b₂ w₂
+      choose-more = record {
+        few = omega arith;
+        behind = record { stand = next-behind; onward = (let h = s .behind .onward in let m = to-then .onward in let k = to-next .onward in omega arith) };
+        sifts = sifts-more (s .sifts) turned choose-index held-index;
+      }
+        where
+          next-behind : (end : ℕ) (es rest : List Expr) (depth : ℕ) → length es ≡ 2 * (i + 1) → TreesAt rule at end (es ++ rest) depth → TreesAt rule next end rest depth
+          next-behind end es rest depth p trees =
+              let (first, x, y, f, g) = last-two es (2 * i) (omega arith) in
+              let moved = subst (λ (l : List Expr). TreesAt rule at end l depth) (ap (λ (l : List Expr). l ++ rest) g ∙ append-assoc first (x ∷ y ∷ []) rest) trees in
+              first-two to-then to-next (s .behind .stand end first (x ∷ y ∷ rest) depth f moved) .2
