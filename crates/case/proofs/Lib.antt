@@ -4,6 +4,8 @@ pub mod RunLaws
 pub mod BuilderLaws
 pub mod SlotLaws
 pub mod RowsLaws
+pub mod WroteLaws
+pub mod ClearLaws
 pub mod AnswerLaws
 pub mod RowsTyped
 pub mod DemandsHold

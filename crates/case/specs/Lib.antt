@@ -10,5 +10,6 @@ pub mod Choosing
 pub mod Taking
 pub mod LookUp
 pub mod Write
+pub mod Writing
 pub mod Cases
 pub mod Demands
