@@ -5,6 +5,7 @@ pub mod BuilderLaws
 pub mod SlotLaws
 pub mod RowsLaws
 pub mod WroteLaws
+pub mod WriteLaws
 pub mod ClearLaws
 pub mod AnswerLaws
 pub mod RowsTyped

@@ -194,6 +194,24 @@ pub put-eight : {out : List ℕ} {at n : ℕ} {wide done : Bool} {m : List ℕ} 
     → Wrote out at (numberBytes (widthOf wide) n) (at + 8) m
 put-eight e h w = rw e (wrote-number 8 (rw e at h) w)
 
-pub put-four : {out : List ℕ} {at n : ℕ} {wide done : Bool} {m : List ℕ} → wide ≡ false → at + widthOf wide ≤ length out → Written 4 out at (n % 4294967296) done m
+pub put-four : {out : List ℕ} {at : ℕ} (n : ℕ) {wide done : Bool} {m : List ℕ} → wide ≡ false → at + widthOf wide ≤ length out → Written 4 out at (n % 4294967296) done m
     → Wrote out at (numberBytes (widthOf wide) n) (at + 4) m
-put-four {n = n} e h w = rw e (wrote-as (low-bytes n) (wrote-number 4 (rw e at h) w))
+put-four n e h w = rw e (wrote-as (low-bytes n) (wrote-number 4 (rw e at h) w))
+
+-- a byte by what it is
+pub wrote-byte : {out : List ℕ} {at a b : ℕ} {p : ℕ} {m : List ℕ} → a ≡ b → Wrote out at (a ∷ []) p m → Wrote out at (b ∷ []) p m
+wrote-byte e w = wrote-as (ap (λ (x : ℕ). x ∷ []) e) w
+
+-- ---- room behind a run
+
+-- behind a header
+pub header-room : {out : List ℕ} {at tag p : ℕ} {m : List ℕ} (size : ℕ) → Wrote out at (tag ∷ numberBytes 2 size) p m → (k : ℕ) → at + 3 + k ≤ length out → p + k ≤ length m
+header-room size w k h = omega (arith, w .ends, wrote-long w, length-numberBytes 2 size)
+
+-- the same room by another name of the bytes
+pub room-as : (at n : ℕ) {xs ys : List ℕ} → xs ≡ ys → at + length ys ≤ n → at + length xs ≤ n
+room-as at n e h = subst (λ (l : List ℕ). at + length l ≤ n) (sym e) h
+
+-- a number's room
+pub number-room : (k x p n : ℕ) → p + length (numberBytes k x) ≤ n → p + k ≤ n
+number-room k x p n h = let e = length-numberBytes k x in omega arith

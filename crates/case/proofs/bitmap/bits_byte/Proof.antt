@@ -1,58 +1,16 @@
+-- `bits_byte` takes the bits from the last to the first. The loop's invariant: the bits from k on.
+use native.Mathlib.Omega.{arith}
+use Prim.Native.Nat.{_*_}
+use Rattle.case.specs.Writing.{flagAt}
+use Rattle.case.proofs.WriteLaws.{BitsSoFar, bits-none, bits-more, bits-end}
 use Rattle.case.proofs.bitmap.bits_byte.Statement.{statement}
 use Rattle.case.proofs.bitmap.bits_byte.Tie as tie
-use Rattle.case.proofs.bitmap.bits_byte.Reads as reads
-use Rattle.case.proofs.bitmap.bits_byte.Lts as lts
-use Rattle.case.proofs.bitmap.bit.Reads as bit-reads
 
 abbrev Inv-loop : tie.InvT-loop
-Inv-loop work rows truth j n₀ k₀ n k = ?
+Inv-loop work rows truth j n₀ k₀ n k = BitsSoFar (flagAt truth work rows) (8 * j) k n
 
 abbrev μ-loop : tie.MeasureT-loop
-μ-loop work rows truth j n₀ k₀ n k = ?
-
--- src/bitmap.rt:58:5
-loop-holds : tie.Need-loop-holds Inv-loop μ-loop
-loop-holds c = ?
-
--- src/bitmap.rt:59:9
-sub-k : tie.Need-sub-k Inv-loop μ-loop
-sub-k c = ?
-
--- src/bitmap.rt:60:36
-mul-bit : tie.Need-mul-bit Inv-loop μ-loop
-mul-bit c = ?
-
--- src/bitmap.rt:60:36
-add-bit : tie.Need-add-bit Inv-loop μ-loop
-add-bit c = ?
-
--- src/bitmap.rt:60:13
-bit-requires : tie.Need-bit-requires Inv-loop μ-loop
-bit-requires c κs = ?
-
--- src/bitmap.rt:60:49
-mul-n : tie.Need-mul-n Inv-loop μ-loop
-mul-n c = ?
-
--- src/bitmap.rt:60:13
-add-n : tie.Need-add-n Inv-loop μ-loop
-add-n c = ?
-
--- src/bitmap.rt:58:5
-loop-less : tie.Need-loop-less Inv-loop μ-loop
-loop-less c = ?
-
--- src/bitmap.rt:58:5
-loop-again : tie.Need-loop-again Inv-loop μ-loop
-loop-again c = ?
-
--- src/bitmap.rt:62:5
-cast-result : tie.Need-cast-result Inv-loop μ-loop
-cast-result c = ?
-
--- src/bitmap.rt:52:1
-returns : tie.Need-returns Inv-loop μ-loop
-returns c = ?
+μ-loop work rows truth j n₀ k₀ n k = k
 
 pub bits-byte-spec : {M : Type 1} → statement M
 bits-byte-spec =
@@ -60,14 +18,14 @@ bits-byte-spec =
     (tie.spec
     Inv-loop
     μ-loop
-    loop-holds
-    sub-k
-    mul-bit
-    add-bit
-    bit-requires
-    mul-n
-    add-n
-    loop-less
-    loop-again
-    cast-result
-    returns)
+    (λ c. bits-none)
+    (λ c. omega arith)
+    (λ c. omega (arith, c .before .before .before .pre .1))
+    (λ c. omega (arith, c .before .before .before .pre .1, c .before .loop .inv .few))
+    (λ c κs. c .before .before .before .pre .0)
+    (λ c. omega (arith, c .before .before .loop .inv .small))
+    (λ c. omega (arith, c .before .before .loop .inv .small, bits-more (c .before .before .loop .inv) (c .before .loop-test .taken) (c .bit .ensures) .small))
+    (λ c. omega arith)
+    (λ c. bits-more (c .before .before .loop .inv) (c .before .loop-test .taken) (c .bit .ensures))
+    (λ c. omega (arith, c .before .loop .inv .small))
+    (λ c. bits-end (c .before .loop .inv) (c .loop-test .left)))

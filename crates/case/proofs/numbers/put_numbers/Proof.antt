@@ -1,52 +1,18 @@
+-- `put_numbers` puts the rows' numbers. The loop's invariant: so far they are there.
+use native.Mathlib.Omega.{arith}
+use mathlib.Core.Path.{ap, _∙_}
+use Prim.Native.Nat.{_-_}
+use Rattle.layout.specs.Bytes.{numberBytes}
+use Rattle.case.specs.Writing.{numberOf, widthOf, slotNumbers}
+use Rattle.case.proofs.WroteLaws.{SoFar, so-far-none, so-far-room, so-far-more, so-far-ends, wrote-as, wrote-long, number-room}
 use Rattle.case.proofs.numbers.put_numbers.Statement.{statement}
 use Rattle.case.proofs.numbers.put_numbers.Tie as tie
-use Rattle.case.proofs.numbers.put_numbers.Reads as reads
-use Rattle.case.proofs.numbers.put_numbers.Lts as lts
-use Rattle.case.proofs.numbers.number_of.Reads as number-of-reads
-use Rattle.case.proofs.put.put_number.Reads as put-number-reads
-use Rattle.case.proofs.slot.get_slot.Reads as get-slot-reads
 
 abbrev Inv-loop : tie.InvT-loop
-Inv-loop work rows wide at output₀ p₀ i₀ output p i = ?
+Inv-loop work rows wide at output₀ p₀ i₀ output p i = SoFar (slotNumbers wide work) output₀ at rows i p output
 
 abbrev μ-loop : tie.MeasureT-loop
-μ-loop work rows wide at output₀ p₀ i₀ output p i = ?
-
--- src/numbers.rt:35:5
-loop-holds : tie.Need-loop-holds Inv-loop μ-loop
-loop-holds c = ?
-
--- src/numbers.rt:36:51
-get-slot-requires : tie.Need-get-slot-requires Inv-loop μ-loop
-get-slot-requires c κs = ?
-
--- src/numbers.rt:36:41
-number-of-requires : tie.Need-number-of-requires Inv-loop μ-loop
-number-of-requires c κs = ?
-
--- src/numbers.rt:36:9
-put-number-requires : tie.Need-put-number-requires Inv-loop μ-loop
-put-number-requires c κs = ?
-
--- src/numbers.rt:37:9
-add-i : tie.Need-add-i Inv-loop μ-loop
-add-i c = ?
-
--- src/numbers.rt:35:5
-loop-less : tie.Need-loop-less Inv-loop μ-loop
-loop-less c = ?
-
--- src/numbers.rt:35:5
-loop-again : tie.Need-loop-again Inv-loop μ-loop
-loop-again c = ?
-
--- src/numbers.rt:29:1
-same-length : tie.Need-same-length Inv-loop μ-loop
-same-length c = ?
-
--- src/numbers.rt:29:1
-returns : tie.Need-returns Inv-loop μ-loop
-returns c = ?
+μ-loop work rows wide at output₀ p₀ i₀ output p i = rows - i
 
 pub put-numbers-spec : {M : Type 1} → statement M
 put-numbers-spec =
@@ -54,12 +20,12 @@ put-numbers-spec =
     (tie.spec
     Inv-loop
     μ-loop
-    loop-holds
-    get-slot-requires
-    number-of-requires
-    put-number-requires
-    add-i
-    loop-less
-    loop-again
-    same-length
-    returns)
+    (λ c. so-far-none (c .before .before .pre .1))
+    (λ c κs. (omega (arith, c .before .before .before .before .before .pre .0 .few, c .before .loop-test .taken), c .before .before .before .before .before .pre .0 .room))
+    (λ c κs. tt)
+    (λ c κs. number-room (widthOf (c .before .before .before .before .before .before .before .args .wide)) _ _ _ (so-far-room (c .before .before .before .before .loop .inv) (c .before .before .before .before .before .before .before .pre .1) (c .before .before .before .loop-test .taken)))
+    (λ c. omega arith)
+    (λ c. omega arith)
+    (λ c. so-far-more (c .before .before .before .before .before .before .before .loop .inv) (c .before .before .before .before .before .before .loop-test .taken) (wrote-as (ap (numberBytes (widthOf (c .before .before .before .before .before .before .before .before .before .before .args .wide))) (c .before .before .before .number-of .ensures ∙ ap numberOf (c .before .before .before .before .get-slot .ensures .0))) (c .before .before .put-number .ensures)))
+    (λ c. wrote-long (c .before .loop .inv .done))
+    (λ c. so-far-ends (c .before .loop .inv) (c .loop-test .left)))

@@ -1,49 +1,26 @@
+-- `put_type` puts a header and two bytes behind it.
 use borrow.Author.Needs.{needs}
+use native.Mathlib.Omega.{arith}
+use mathlib.Core.Path.{ap₂}
+use mathlib.Core.List.{[], _∷_}
+use Rattle.layout.specs.Bytes.{numberBytes}
+use Rattle.layout.specs.Field.{fieldBytes}
+use Rattle.case.proofs.WroteLaws.{wrote-then, wrote-long, wrote-byte, header-room}
 use Rattle.case.proofs.put.put_type.Statement.{statement}
 use Rattle.case.proofs.put.put_type.Tie as tie
-use Rattle.case.proofs.put.put_type.Reads as reads
-use Rattle.case.proofs.put.put_type.Lts as lts
-use Rattle.case.proofs.put.mark_number.Reads as mark-number-reads
-use Rattle.case.proofs.put.put_byte.Reads as put-byte-reads
-use Rattle.case.proofs.put.put_header.Reads as put-header-reads
-use Rattle.case.proofs.put.type_number.Reads as type-number-reads
 
--- src/put.rt:86:9
-put-header-requires : tie.Need-put-header-requires
-put-header-requires c κs = search needs
-
--- src/put.rt:87:33
-type-number-requires : tie.Need-type-number-requires
-type-number-requires c κs = search needs
-
--- src/put.rt:87:9
-put-byte-requires : tie.Need-put-byte-requires
-put-byte-requires c κs = ?
-
--- src/put.rt:88:25
-mark-number-requires : tie.Need-mark-number-requires
-mark-number-requires c κs = search needs
-
--- src/put.rt:88:5
-put-byte-requires-2 : tie.Need-put-byte-requires-2
-put-byte-requires-2 c κs = ?
-
--- src/put.rt:82:1
-same-length : tie.Need-same-length
-same-length c = search needs
-
--- src/put.rt:82:1
 returns : tie.Need-returns
-returns c = ?
+unfolding fieldBytes numberBytes
+returns c = wrote-then (wrote-then (c .before .before .before .before .before .before .before .before .before .before .before .before .put-header .ensures) (wrote-byte (c .before .before .before .before .before .before .before .before .type-number .ensures) (c .before .before .before .before .before .before .before .put-byte .ensures))) (wrote-byte (c .before .before .before .mark-number .ensures) (c .before .before .put-byte2 .ensures))
 
 pub put-type-spec : {M : Type 1} → statement M
 put-type-spec =
     tie.close
     (tie.spec
-    put-header-requires
-    type-number-requires
-    put-byte-requires
-    mark-number-requires
-    put-byte-requires-2
-    same-length
+    (λ c κs. search needs)
+    (λ c κs. search needs)
+    (λ c κs. header-room 2 (c .before .before .before .before .put-header .ensures) 1 (omega arith))
+    (λ c κs. search needs)
+    (λ c κs. omega (arith, header-room 2 (c .before .before .before .before .before .before .before .before .before .put-header .ensures) 2 (omega arith), c .before .before .before .before .put-byte .ensures .ends, wrote-long (c .before .before .before .before .put-byte .ensures)))
+    (λ c. search needs)
     returns)

@@ -1,67 +1,26 @@
+-- `put_text_of`, arm by arm.
 use borrow.Author.Needs.{needs}
+use native.Mathlib.Omega.{arith}
+use denote.Ref.{now}
+use mathlib.Core.Path.{sym, ap, _∙_}
+use Rattle.scalar.specs.Order.{textIn}
+use Rattle.case.proofs.WroteLaws.{wrote-none, wrote-as, room-as}
+use Rattle.case.proofs.WriteLaws.{no-text}
 use Rattle.case.proofs.texts.put_text_of.Statement.{statement}
 use Rattle.case.proofs.texts.put_text_of.Tie as tie
-use Rattle.case.proofs.texts.put_text_of.Reads as reads
-use Rattle.case.proofs.texts.put_text_of.Lts as lts
-use Rattle.case.proofs.put.put_text.Reads as put-text-reads
-use Rattle.scalar.proofs.text.place_text.Reads as place-text-reads
-
--- src/texts.rt:36:25
-enum-known-v : tie.Need-enum-known-v
-enum-known-v c = search needs
-
--- src/texts.rt:36:62
-place-text-requires : tie.Need-place-text-requires
-place-text-requires c κs = search needs
-
--- src/texts.rt:36:41
-put-text-requires : tie.Need-put-text-requires
-put-text-requires c κs = ?
-
--- src/texts.rt:37:26
-enum-known-v-2 : tie.Need-enum-known-v-2
-enum-known-v-2 c = search needs
-
--- src/texts.rt:37:63
-place-text-requires-2 : tie.Need-place-text-requires-2
-place-text-requires-2 c κs = search needs
-
--- src/texts.rt:37:42
-put-text-requires-2 : tie.Need-put-text-requires-2
-put-text-requires-2 c κs = ?
-
--- src/texts.rt:31:1
-same-length : tie.Need-same-length
-same-length c = search needs
-
--- src/texts.rt:31:1
-returns : tie.Need-returns
-returns c = ?
-
--- src/texts.rt:31:1
-same-length-2 : tie.Need-same-length-2
-same-length-2 c = search needs
-
--- src/texts.rt:31:1
-returns-2 : tie.Need-returns-2
-returns-2 c = ?
-
--- src/texts.rt:31:1
-returns-3 : tie.Need-returns-3
-returns-3 c = ?
 
 pub put-text-of-spec : {M : Type 1} → statement M
 put-text-of-spec =
     tie.close
     (tie.spec
-    enum-known-v
-    place-text-requires
-    put-text-requires
-    enum-known-v-2
-    place-text-requires-2
-    put-text-requires-2
-    same-length
-    returns
-    same-length-2
-    returns-2
-    returns-3)
+    (λ c. search needs)
+    (λ c κs. search needs)
+    (λ c κs. room-as _ _ (c .place-text .ensures ∙ sym (ap (textIn (now (c .before .before .before .before .before .before .before .before .args .rule)) (now (c .before .before .before .before .before .before .before .before .args .table))) (c .before .before .before .v .given .1))) (c .before .before .before .before .before .before .before .before .pre))
+    (λ c. search needs)
+    (λ c κs. search needs)
+    (λ c κs. room-as _ _ (c .place-text2 .ensures ∙ sym (ap (textIn (now (c .before .before .before .before .before .before .before .before .args .rule)) (now (c .before .before .before .before .before .before .before .before .args .table))) (c .before .before .before .v2 .given .1))) (c .before .before .before .before .before .before .before .before .pre))
+    (λ c. search needs)
+    (λ c. wrote-as (c .before .before .before .place-text .ensures ∙ sym (ap (textIn (now (c .before .before .before .before .before .before .before .before .before .before .before .args .rule)) (now (c .before .before .before .before .before .before .before .before .before .before .before .args .table))) (c .before .before .before .before .before .before .v .given .1))) (c .before .before .put-text .ensures))
+    (λ c. search needs)
+    (λ c. wrote-as (c .before .before .before .place-text2 .ensures ∙ sym (ap (textIn (now (c .before .before .before .before .before .before .before .before .before .before .before .args .rule)) (now (c .before .before .before .before .before .before .before .before .before .before .before .args .table))) (c .before .before .before .before .before .before .v2 .given .1))) (c .before .before .put-text2 .ensures))
+    (λ c. wrote-as (sym (no-text (c .before .before .before .before .args .v) (c .match .keys3) (now (c .before .before .before .before .args .rule)) (now (c .before .before .before .before .args .table)))) (wrote-none (omega (arith, c .before .before .before .before .pre)))))

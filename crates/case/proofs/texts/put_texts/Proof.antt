@@ -1,47 +1,19 @@
+-- `put_texts` puts the rows' texts. The loop's invariant: so far they are there.
+use native.Mathlib.Omega.{arith}
+use denote.Ref.{now}
+use mathlib.Core.Path.{ap}
+use Prim.Native.Nat.{_-_}
+use Rattle.scalar.specs.Order.{textIn}
+use Rattle.case.specs.Writing.{slotText}
+use Rattle.case.proofs.WroteLaws.{SoFar, so-far-none, so-far-room, so-far-more, so-far-ends, wrote-as, wrote-long, room-as}
 use Rattle.case.proofs.texts.put_texts.Statement.{statement}
 use Rattle.case.proofs.texts.put_texts.Tie as tie
-use Rattle.case.proofs.texts.put_texts.Reads as reads
-use Rattle.case.proofs.texts.put_texts.Lts as lts
-use Rattle.case.proofs.slot.get_slot.Reads as get-slot-reads
-use Rattle.case.proofs.texts.put_text_of.Reads as put-text-of-reads
 
 abbrev Inv-loop : tie.InvT-loop
-Inv-loop rule table work rows at output₀ p₀ i₀ output p i = ?
+Inv-loop rule table work rows at output₀ p₀ i₀ output p i = SoFar (slotText rule table work) output₀ at rows i p output
 
 abbrev μ-loop : tie.MeasureT-loop
-μ-loop rule table work rows at output₀ p₀ i₀ output p i = ?
-
--- src/texts.rt:93:5
-loop-holds : tie.Need-loop-holds Inv-loop μ-loop
-loop-holds c = ?
-
--- src/texts.rt:94:38
-get-slot-requires : tie.Need-get-slot-requires Inv-loop μ-loop
-get-slot-requires c κs = ?
-
--- src/texts.rt:94:9
-put-text-of-requires : tie.Need-put-text-of-requires Inv-loop μ-loop
-put-text-of-requires c κs = ?
-
--- src/texts.rt:95:9
-add-i : tie.Need-add-i Inv-loop μ-loop
-add-i c = ?
-
--- src/texts.rt:93:5
-loop-less : tie.Need-loop-less Inv-loop μ-loop
-loop-less c = ?
-
--- src/texts.rt:93:5
-loop-again : tie.Need-loop-again Inv-loop μ-loop
-loop-again c = ?
-
--- src/texts.rt:80:1
-same-length : tie.Need-same-length Inv-loop μ-loop
-same-length c = ?
-
--- src/texts.rt:80:1
-returns : tie.Need-returns Inv-loop μ-loop
-returns c = ?
+μ-loop rule table work rows at output₀ p₀ i₀ output p i = rows - i
 
 pub put-texts-spec : {M : Type 1} → statement M
 put-texts-spec =
@@ -49,11 +21,11 @@ put-texts-spec =
     (tie.spec
     Inv-loop
     μ-loop
-    loop-holds
-    get-slot-requires
-    put-text-of-requires
-    add-i
-    loop-less
-    loop-again
-    same-length
-    returns)
+    (λ c. so-far-none (c .before .before .before .before .pre .1))
+    (λ c κs. (omega (arith, c .before .before .before .before .before .before .pre .0 .few, c .loop-test .taken), c .before .before .before .before .before .before .pre .0 .room))
+    (λ c κs. room-as _ _ (ap (textIn (now (c .before .before .before .before .before .before .before .before .args .rule)) (now (c .before .before .before .before .before .before .before .before .args .table))) (c .before .get-slot .ensures .0)) (so-far-room (c .before .before .before .loop .inv) (c .before .before .before .before .before .before .before .before .pre .1) (c .before .before .loop-test .taken)))
+    (λ c. omega arith)
+    (λ c. omega arith)
+    (λ c. so-far-more (c .before .before .before .before .before .before .loop .inv) (c .before .before .before .before .before .loop-test .taken) (wrote-as (ap (textIn (now (c .before .before .before .before .before .before .before .before .before .before .before .args .rule)) (now (c .before .before .before .before .before .before .before .before .before .before .before .args .table))) (c .before .before .before .before .get-slot .ensures .0)) (c .before .before .put-text-of .ensures)))
+    (λ c. wrote-long (c .before .loop .inv .done))
+    (λ c. so-far-ends (c .before .loop .inv) (c .loop-test .left)))

@@ -1,47 +1,21 @@
+-- `text_length` adds up the rows' texts. The loop's invariant: the length so far.
+use native.Mathlib.Omega.{arith}
+use denote.Ref.{now}
+use mathlib.Core.Path.{ap, _∙_}
+use Prim.Native.Nat.{_-_}
+use lib.ListN.{length}
+use Rattle.scalar.specs.declared.value.Value.{Value}
+use Rattle.scalar.specs.Order.{textIn}
+use Rattle.case.specs.Writing.{slotText}
+use Rattle.case.proofs.WriteLaws.{LengthSoFar, length-none, length-more, length-ends, text-fits}
 use Rattle.case.proofs.texts.text_length.Statement.{statement}
 use Rattle.case.proofs.texts.text_length.Tie as tie
-use Rattle.case.proofs.texts.text_length.Reads as reads
-use Rattle.case.proofs.texts.text_length.Lts as lts
-use Rattle.case.proofs.slot.get_slot.Reads as get-slot-reads
-use Rattle.case.proofs.texts.text_size.Reads as text-size-reads
 
 abbrev Inv-loop : tie.InvT-loop
-Inv-loop rule table work rows sum₀ i₀ sum i = ?
+Inv-loop rule table work rows sum₀ i₀ sum i = LengthSoFar (slotText rule table work) rows i sum
 
 abbrev μ-loop : tie.MeasureT-loop
-μ-loop rule table work rows sum₀ i₀ sum i = ?
-
--- src/texts.rt:49:5
-loop-holds : tie.Need-loop-holds Inv-loop μ-loop
-loop-holds c = ?
-
--- src/texts.rt:50:39
-get-slot-requires : tie.Need-get-slot-requires Inv-loop μ-loop
-get-slot-requires c κs = ?
-
--- src/texts.rt:50:16
-text-size-requires : tie.Need-text-size-requires Inv-loop μ-loop
-text-size-requires c κs = ?
-
--- src/texts.rt:50:9
-add-sum : tie.Need-add-sum Inv-loop μ-loop
-add-sum c = ?
-
--- src/texts.rt:51:9
-add-i : tie.Need-add-i Inv-loop μ-loop
-add-i c = ?
-
--- src/texts.rt:49:5
-loop-less : tie.Need-loop-less Inv-loop μ-loop
-loop-less c = ?
-
--- src/texts.rt:49:5
-loop-again : tie.Need-loop-again Inv-loop μ-loop
-loop-again c = ?
-
--- src/texts.rt:43:1
-returns : tie.Need-returns Inv-loop μ-loop
-returns c = ?
+μ-loop rule table work rows sum₀ i₀ sum i = rows - i
 
 pub text-length-spec : {M : Type 1} → statement M
 text-length-spec =
@@ -49,11 +23,11 @@ text-length-spec =
     (tie.spec
     Inv-loop
     μ-loop
-    loop-holds
-    get-slot-requires
-    text-size-requires
-    add-sum
-    add-i
-    loop-less
-    loop-again
-    returns)
+    (λ c. length-none)
+    (λ c κs. (omega (arith, c .before .before .before .before .before .pre .0 .few, c .loop-test .taken), c .before .before .before .before .before .pre .0 .room))
+    (λ c κs. tt)
+    (λ c. text-fits (c .before .before .before .loop .inv) (c .before .before .loop-test .taken) (c .before .before .before .before .before .before .before .pre .0 .few) (c .before .before .before .before .before .before .before .pre .1) (c .before .before .before .before .before .before .before .pre .2) (c .text-size .ensures ∙ ap (λ (v : Value). length (textIn (now (c .before .before .before .before .before .before .before .args .rule)) (now (c .before .before .before .before .before .before .before .args .table)) v)) (c .before .get-slot .ensures .0)))
+    (λ c. omega arith)
+    (λ c. omega arith)
+    (λ c. length-more (c .before .before .before .loop .inv) (c .before .before .loop-test .taken) (c .text-size .ensures ∙ ap (λ (v : Value). length (textIn (now (c .before .before .before .before .before .before .before .args .rule)) (now (c .before .before .before .before .before .before .before .args .table)) v)) (c .before .get-slot .ensures .0)))
+    (λ c. length-ends (c .before .loop .inv) (c .loop-test .left)))
