@@ -1,60 +1,21 @@
+-- `put_offsets` puts the rows' offsets and the last one's end. The loop's invariant: so far they are there, and the texts are counted.
+use native.Mathlib.Omega.{arith}
+use denote.Ref.{now}
+use mathlib.Core.Path.{ap, _∙_}
+use Prim.Native.Nat.{_-_}
+use lib.ListN.{length}
+use Rattle.scalar.specs.declared.value.Value.{Value}
+use Rattle.scalar.specs.Order.{textIn}
+use Rattle.case.proofs.WroteLaws.{wrote-long}
+use Rattle.case.proofs.WriteLaws.{OffsetsSoFar, offsets-none, offset-room, offsets-more, offsets-end, text-within}
 use Rattle.case.proofs.texts.put_offsets.Statement.{statement}
 use Rattle.case.proofs.texts.put_offsets.Tie as tie
-use Rattle.case.proofs.texts.put_offsets.Reads as reads
-use Rattle.case.proofs.texts.put_offsets.Lts as lts
-use Rattle.case.proofs.put.put_number.Reads as put-number-reads
-use Rattle.case.proofs.slot.get_slot.Reads as get-slot-reads
-use Rattle.case.proofs.texts.text_size.Reads as text-size-reads
 
 abbrev Inv-loop : tie.InvT-loop
-Inv-loop rule table work rows at output₀ sum₀ p₀ i₀ output sum p i = ?
+Inv-loop rule table work rows at output₀ sum₀ p₀ i₀ output sum p i = OffsetsSoFar rule table work output₀ at rows i sum p output
 
 abbrev μ-loop : tie.MeasureT-loop
-μ-loop rule table work rows at output₀ sum₀ p₀ i₀ output sum p i = ?
-
--- src/texts.rt:71:5
-loop-holds : tie.Need-loop-holds Inv-loop μ-loop
-loop-holds c = ?
-
--- src/texts.rt:72:9
-put-number-requires : tie.Need-put-number-requires Inv-loop μ-loop
-put-number-requires c κs = ?
-
--- src/texts.rt:73:39
-get-slot-requires : tie.Need-get-slot-requires Inv-loop μ-loop
-get-slot-requires c κs = ?
-
--- src/texts.rt:73:16
-text-size-requires : tie.Need-text-size-requires Inv-loop μ-loop
-text-size-requires c κs = ?
-
--- src/texts.rt:73:9
-add-sum : tie.Need-add-sum Inv-loop μ-loop
-add-sum c = ?
-
--- src/texts.rt:74:9
-add-i : tie.Need-add-i Inv-loop μ-loop
-add-i c = ?
-
--- src/texts.rt:71:5
-loop-less : tie.Need-loop-less Inv-loop μ-loop
-loop-less c = ?
-
--- src/texts.rt:71:5
-loop-again : tie.Need-loop-again Inv-loop μ-loop
-loop-again c = ?
-
--- src/texts.rt:76:5
-put-number-requires-2 : tie.Need-put-number-requires-2 Inv-loop μ-loop
-put-number-requires-2 c κs = ?
-
--- src/texts.rt:57:1
-same-length : tie.Need-same-length Inv-loop μ-loop
-same-length c = ?
-
--- src/texts.rt:57:1
-returns : tie.Need-returns Inv-loop μ-loop
-returns c = ?
+μ-loop rule table work rows at output₀ sum₀ p₀ i₀ output sum p i = rows - i
 
 pub put-offsets-spec : {M : Type 1} → statement M
 put-offsets-spec =
@@ -62,14 +23,14 @@ put-offsets-spec =
     (tie.spec
     Inv-loop
     μ-loop
-    loop-holds
-    put-number-requires
-    get-slot-requires
-    text-size-requires
-    add-sum
-    add-i
-    loop-less
-    loop-again
-    put-number-requires-2
-    same-length
-    returns)
+    (λ c. offsets-none (c .before .before .before .before .pre .2))
+    (λ c κs. offset-room (c .before .before .loop .inv) (c .before .before .before .before .before .before .before .pre .2))
+    (λ c κs. (omega (arith, c .before .before .before .before .before .before .before .before .before .before .pre .0 .few, c .before .before .before .before .loop-test .taken), c .before .before .before .before .before .before .before .before .before .before .pre .0 .room))
+    (λ c κs. tt)
+    (λ c. text-within (now (c .before .before .before .before .before .before .before .before .before .before .before .before .args .rule)) (now (c .before .before .before .before .before .before .before .before .before .before .before .before .args .table)) (now (c .before .before .before .before .before .before .before .before .before .before .before .before .args .work)) (c .before .before .before .before .before .before .before .loop .inv .counted) (c .before .before .before .before .before .before .loop-test .taken) (c .before .before .before .before .before .before .before .before .before .before .before .before .pre .1) (c .text-size .ensures ∙ ap (λ (v : Value). length (textIn (now (c .before .before .before .before .before .before .before .before .before .before .before .before .args .rule)) (now (c .before .before .before .before .before .before .before .before .before .before .before .before .args .table)) v)) (c .before .get-slot .ensures .0)))
+    (λ c. omega arith)
+    (λ c. omega arith)
+    (λ c. offsets-more (c .before .before .before .before .before .before .before .loop .inv) (c .before .before .before .before .put-number .ensures) (c .before .before .before .before .before .before .loop-test .taken) (c .text-size .ensures ∙ ap (λ (v : Value). length (textIn (now (c .before .before .before .before .before .before .before .before .before .before .before .before .args .rule)) (now (c .before .before .before .before .before .before .before .before .before .before .before .before .args .table)) v)) (c .before .get-slot .ensures .0)))
+    (λ c κs. offset-room (c .before .before .loop .inv) (c .before .before .before .before .before .before .before .pre .2))
+    (λ c. wrote-long (offsets-end (c .before .before .before .before .before .loop .inv) (c .before .before .put-number2 .ensures) (c .before .before .before .before .loop-test .left)))
+    (λ c. offsets-end (c .before .before .before .before .before .loop .inv) (c .before .before .put-number2 .ensures) (c .before .before .before .before .loop-test .left)))

@@ -1,32 +1,16 @@
+-- `column_size` adds up a column's fields.
 use borrow.Author.Needs.{needs}
+use native.Mathlib.Omega.{arith}
+use Rattle.case.proofs.WriteLaws.{sizes-small}
 use Rattle.case.proofs.write.column_size.Statement.{statement}
 use Rattle.case.proofs.write.column_size.Tie as tie
-use Rattle.case.proofs.write.column_size.Reads as reads
-use Rattle.case.proofs.write.column_size.Lts as lts
-use Rattle.case.proofs.write.validity_size.Reads as validity-size-reads
-use Rattle.case.proofs.write.values_size.Reads as values-size-reads
-
--- src/write.rt:120:9
-validity-size-requires : tie.Need-validity-size-requires
-validity-size-requires c κs = search needs
-
--- src/write.rt:120:5
-add-result : tie.Need-add-result
-add-result c = ?
-
--- src/write.rt:120:37
-values-size-requires : tie.Need-values-size-requires
-values-size-requires c κs = search needs
-
--- src/write.rt:120:5
-add-result-2 : tie.Need-add-result-2
-add-result-2 c = ?
-
--- src/write.rt:116:1
-returns : tie.Need-returns
-returns c = search needs
 
 pub column-size-spec : {M : Type 1} → statement M
 column-size-spec =
     tie.close
-    (tie.spec validity-size-requires add-result values-size-requires add-result-2 returns)
+    (tie.spec
+    (λ c κs. search needs)
+    (λ c. omega (arith, c .validity-size .ensures, sizes-small (c .before .args .rows) (c .before .args .null) (c .before .args .t) (c .before .args .text) (c .before .pre .0) (c .before .pre .1)))
+    (λ c κs. search needs)
+    (λ c. omega (arith, c .before .validity-size .ensures, c .values-size .ensures, sizes-small (c .before .before .args .rows) (c .before .before .args .null) (c .before .before .args .t) (c .before .before .args .text) (c .before .before .pre .0) (c .before .before .pre .1)))
+    (λ c. search needs))

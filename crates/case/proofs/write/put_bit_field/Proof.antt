@@ -1,33 +1,20 @@
+-- `put_bit_field` puts a header and the bits behind it.
 use borrow.Author.Needs.{needs}
+use denote.Ref.{now}
+use mathlib.Core.Path.{sym, _∙_}
+use Rattle.layout.specs.Bytes.{bitmapLength}
+use Rattle.case.specs.Writing.{rowBytes, slotBits}
+use Rattle.case.proofs.WroteLaws.{wrote-field}
+use Rattle.case.proofs.WriteLaws.{bits-size, content-room}
 use Rattle.case.proofs.write.put_bit_field.Statement.{statement}
 use Rattle.case.proofs.write.put_bit_field.Tie as tie
-use Rattle.case.proofs.write.put_bit_field.Reads as reads
-use Rattle.case.proofs.write.put_bit_field.Lts as lts
-use Rattle.case.proofs.bitmap.put_bits.Reads as put-bits-reads
-use Rattle.case.proofs.put.put_header.Reads as put-header-reads
-use Rattle.layout.proofs.bits.bitmap_length.Reads as bitmap-length-reads
-
--- src/write.rt:135:41
-bitmap-length-requires : tie.Need-bitmap-length-requires
-bitmap-length-requires c κs = search needs
-
--- src/write.rt:135:9
-put-header-requires : tie.Need-put-header-requires
-put-header-requires c κs = search needs
-
--- src/write.rt:136:5
-put-bits-requires : tie.Need-put-bits-requires
-put-bits-requires c κs = ?
-
--- src/write.rt:124:1
-same-length : tie.Need-same-length
-same-length c = search needs
-
--- src/write.rt:124:1
-returns : tie.Need-returns
-returns c = ?
 
 pub put-bit-field-spec : {M : Type 1} → statement M
 put-bit-field-spec =
     tie.close
-    (tie.spec bitmap-length-requires put-header-requires put-bits-requires same-length returns)
+    (tie.spec
+    (λ c κs. search needs)
+    (λ c κs. search needs)
+    (λ c κs. (c .before .before .before .before .before .before .before .before .pre .0, content-room (c .before .before .before .before .bitmap-length .result) (bitmapLength (c .before .before .before .before .before .before .before .before .args .rows)) (rowBytes (slotBits (c .before .before .before .before .before .before .before .before .args .truth) (now (c .before .before .before .before .before .before .before .before .args .work)) (c .before .before .before .before .before .before .before .before .args .rows)) (bitmapLength (c .before .before .before .before .before .before .before .before .args .rows))) (c .before .before .before .put-header .ensures) (bits-size (c .before .before .before .before .before .before .before .before .args .truth) (now (c .before .before .before .before .before .before .before .before .args .work)) (c .before .before .before .before .before .before .before .before .args .rows) (bitmapLength (c .before .before .before .before .before .before .before .before .args .rows))) (c .before .before .before .before .before .before .before .before .pre .1)))
+    (λ c. search needs)
+    (λ c. wrote-field (c .before .before .before .before .before .before .before .bitmap-length .ensures ∙ sym (bits-size (c .before .before .before .before .before .before .before .before .before .before .before .args .truth) (now (c .before .before .before .before .before .before .before .before .before .before .before .args .work)) (c .before .before .before .before .before .before .before .before .before .before .before .args .rows) (bitmapLength (c .before .before .before .before .before .before .before .before .before .before .before .args .rows)))) (c .before .before .before .before .before .before .put-header .ensures) (c .before .before .put-bits .ensures)))

@@ -1,27 +1,18 @@
+-- `put_number_field` puts a header and the numbers behind it.
 use borrow.Author.Needs.{needs}
+use denote.Ref.{now}
+use mathlib.Core.Path.{sym}
+use Rattle.case.specs.Writing.{rowBytes, slotNumbers}
+use Rattle.case.proofs.WroteLaws.{wrote-field}
+use Rattle.case.proofs.WriteLaws.{content-room}
 use Rattle.case.proofs.write.put_number_field.Statement.{statement}
 use Rattle.case.proofs.write.put_number_field.Tie as tie
-use Rattle.case.proofs.write.put_number_field.Reads as reads
-use Rattle.case.proofs.write.put_number_field.Lts as lts
-use Rattle.case.proofs.numbers.put_numbers.Reads as put-numbers-reads
-use Rattle.case.proofs.put.put_header.Reads as put-header-reads
-
--- src/write.rt:151:9
-put-header-requires : tie.Need-put-header-requires
-put-header-requires c κs = search needs
-
--- src/write.rt:152:5
-put-numbers-requires : tie.Need-put-numbers-requires
-put-numbers-requires c κs = ?
-
--- src/write.rt:140:1
-same-length : tie.Need-same-length
-same-length c = search needs
-
--- src/write.rt:140:1
-returns : tie.Need-returns
-returns c = ?
 
 pub put-number-field-spec : {M : Type 1} → statement M
 put-number-field-spec =
-    tie.close (tie.spec put-header-requires put-numbers-requires same-length returns)
+    tie.close
+    (tie.spec
+    (λ c κs. search needs)
+    (λ c κs. (c .before .before .before .before .before .before .before .pre .0, content-room (c .before .before .before .before .before .before .before .args .size) (c .before .before .before .before .before .before .before .args .size) (rowBytes (slotNumbers (c .before .before .before .before .before .before .before .args .wide) (now (c .before .before .before .before .before .before .before .args .work))) (c .before .before .before .before .before .before .before .args .rows)) (c .before .before .before .put-header .ensures) (sym (c .before .before .before .before .before .before .before .pre .1)) (c .before .before .before .before .before .before .before .pre .3)))
+    (λ c. search needs)
+    (λ c. wrote-field (c .before .before .before .before .before .before .before .before .before .before .pre .1) (c .before .before .before .before .before .before .put-header .ensures) (c .before .before .put-numbers .ensures)))

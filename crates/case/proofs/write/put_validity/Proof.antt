@@ -1,42 +1,17 @@
+-- `put_validity` puts the bits of validity, or an empty field.
 use borrow.Author.Needs.{needs}
+use denote.Ref.{now}
+use Rattle.case.proofs.WriteLaws.{validity-some, validity-none, validity-room}
 use Rattle.case.proofs.write.put_validity.Statement.{statement}
 use Rattle.case.proofs.write.put_validity.Tie as tie
-use Rattle.case.proofs.write.put_validity.Reads as reads
-use Rattle.case.proofs.write.put_validity.Lts as lts
-use Rattle.case.proofs.put.put_header.Reads as put-header-reads
-use Rattle.case.proofs.write.put_bit_field.Reads as put-bit-field-reads
-
--- src/write.rt:180:9
-put-bit-field-requires : tie.Need-put-bit-field-requires
-put-bit-field-requires c κs = ?
-
--- src/write.rt:180:9
-same-length : tie.Need-same-length
-same-length c = search needs
-
--- src/write.rt:180:9
-returns : tie.Need-returns
-returns c = ?
-
--- src/write.rt:182:5
-put-header-requires : tie.Need-put-header-requires
-put-header-requires c κs = search needs
-
--- src/write.rt:175:1
-same-length-2 : tie.Need-same-length-2
-same-length-2 c = search needs
-
--- src/write.rt:175:1
-returns-2 : tie.Need-returns-2
-returns-2 c = ?
 
 pub put-validity-spec : {M : Type 1} → statement M
 put-validity-spec =
     tie.close
     (tie.spec
-    put-bit-field-requires
-    same-length
-    returns
-    put-header-requires
-    same-length-2
-    returns-2)
+    (λ c κs. (c .before .before .before .before .pre .0, validity-room (c .before .before .before .before .args .null) (c .before .before .before .before .args .at) (c .before .before .before .before .args .rows) _ (c .before .if1 .taken) (c .before .before .before .before .pre .1)))
+    (λ c. search needs)
+    (λ c. validity-some (c .before .before .before .before .before .before .before .args .null) (now (c .before .before .before .before .before .before .before .args .work)) (c .before .before .before .before .before .before .before .args .rows) (c .before .before .before .before .if1 .taken) (c .before .before .put-bit-field .ensures))
+    (λ c κs. search needs)
+    (λ c. search needs)
+    (λ c. validity-none (c .before .before .before .before .before .before .before .args .null) (now (c .before .before .before .before .before .before .before .args .work)) (c .before .before .before .before .before .before .before .args .rows) (c .before .before .before .before .if1 .left) (c .before .before .put-header .ensures)))

@@ -1,5 +1,6 @@
 -- `some_of_kind` finds a row of a kind. The loop's invariant: there was none so far.
 use native.Mathlib.Omega.{arith}
+use denote.Ref.{now}
 use Prim.Native.Nat.{_-_}
 use lib.Dec.{eqb}
 use Rattle.scalar.specs.Value.{kindOf}
@@ -23,8 +24,8 @@ some-of-kind-spec =
     (λ c. none-yet)
     (λ c κs. (omega (arith, c .before .before .before .pre .few, c .loop-test .taken), c .before .before .before .pre .room))
     (λ c κs. tt)
-    (λ c. kind-found (c .before .before .before .loop-test .taken) (c .before .kind .ensures) (c .before .before .get-slot .ensures .0) (c .if1 .taken))
+    (λ c. kind-found (now (c .before .before .before .before .before .before .args .work)) (c .before .before .before .before .before .before .args .k) (c .before .before .before .before .before .before .args .rows) (c .before .before .before .before .loop .i) (c .before .before .before .loop-test .taken) (c .before .kind .ensures) (c .before .before .get-slot .ensures .0) (c .if1 .taken))
     (λ c. omega arith)
     (λ c. omega arith)
-    (λ c. kind-more (c .before .before .before .before .loop .inv) (c .before .before .before .loop-test .taken) (c .before .kind .ensures) (c .before .before .get-slot .ensures .0) (c .if1 .left))
+    (λ c. kind-more (now (c .before .before .before .before .before .before .args .work)) (c .before .before .before .before .before .before .args .k) (c .before .before .before .before .loop .inv) (c .before .before .before .loop-test .taken) (c .before .kind .ensures) (c .before .before .get-slot .ensures .0) (c .if1 .left))
     (λ c. kind-none (c .before .loop .inv) (c .loop-test .left)))
