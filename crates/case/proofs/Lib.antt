@@ -6,6 +6,7 @@ pub mod SlotLaws
 pub mod RowsLaws
 pub mod WroteLaws
 pub mod WriteLaws
+pub mod ColumnLaws
 pub mod ClearLaws
 pub mod AnswerLaws
 pub mod RowsTyped

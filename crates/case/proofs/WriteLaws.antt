@@ -159,7 +159,7 @@ bit-below true = omega arith
 bit-below false = omega arith
 
 -- n bits are a number below 2 ^ n
-bits-lt : (f : ℕ → Bool) (a n : ℕ) → bitsFrom f a n < 2 ^ n
+pub bits-lt : (f : ℕ → Bool) (a n : ℕ) → bitsFrom f a n < 2 ^ n
 unfolding bitsFrom
 bits-lt f a zero = omega arith
 bits-lt f a (suc n) = omega (arith, bits-lt f (suc a) n, bit-below (f a), pow-suc 2 n)

@@ -27,7 +27,7 @@ put-offsets-spec =
     (λ c κs. offset-room (c .before .before .loop .inv) (c .before .before .before .before .before .before .before .pre .2))
     (λ c κs. (omega (arith, c .before .before .before .before .before .before .before .before .before .before .pre .0 .few, c .before .before .before .before .loop-test .taken), c .before .before .before .before .before .before .before .before .before .before .pre .0 .room))
     (λ c κs. tt)
-    (λ c. text-within (now (c .before .before .before .before .before .before .before .before .before .before .before .before .args .rule)) (now (c .before .before .before .before .before .before .before .before .before .before .before .before .args .table)) (now (c .before .before .before .before .before .before .before .before .before .before .before .before .args .work)) (c .before .before .before .before .before .before .before .loop .inv .counted) (c .before .before .before .before .before .before .loop-test .taken) (c .before .before .before .before .before .before .before .before .before .before .before .before .pre .1) (c .text-size .ensures ∙ ap (λ (v : Value). length (textIn (now (c .before .before .before .before .before .before .before .before .before .before .before .before .args .rule)) (now (c .before .before .before .before .before .before .before .before .before .before .before .before .args .table)) v)) (c .before .get-slot .ensures .0)))
+    (λ c. omega (arith, text-within (now (c .before .before .before .before .before .before .before .before .before .before .before .before .args .rule)) (now (c .before .before .before .before .before .before .before .before .before .before .before .before .args .table)) (now (c .before .before .before .before .before .before .before .before .before .before .before .before .args .work)) (c .before .before .before .before .before .before .before .loop .inv .counted) (c .before .before .before .before .before .before .loop-test .taken) (c .before .before .before .before .before .before .before .before .before .before .before .before .pre .1) (c .text-size .ensures ∙ ap (λ (v : Value). length (textIn (now (c .before .before .before .before .before .before .before .before .before .before .before .before .args .rule)) (now (c .before .before .before .before .before .before .before .before .before .before .before .before .args .table)) v)) (c .before .get-slot .ensures .0))))
     (λ c. omega arith)
     (λ c. omega arith)
     (λ c. offsets-more (c .before .before .before .before .before .before .before .loop .inv) (c .before .before .before .before .put-number .ensures) (c .before .before .before .before .before .before .loop-test .taken) (c .text-size .ensures ∙ ap (λ (v : Value). length (textIn (now (c .before .before .before .before .before .before .before .before .before .before .before .before .args .rule)) (now (c .before .before .before .before .before .before .before .before .before .before .before .before .args .table)) v)) (c .before .get-slot .ensures .0)))

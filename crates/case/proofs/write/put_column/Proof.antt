@@ -1,33 +1,17 @@
+-- `put_column` puts the type, the validity and the values.
 use borrow.Author.Needs.{needs}
+use denote.Ref.{now}
+use Rattle.case.proofs.WroteLaws.{wrote-then}
+use Rattle.case.proofs.WriteLaws.{validity-ask, values-ask}
 use Rattle.case.proofs.write.put_column.Statement.{statement}
 use Rattle.case.proofs.write.put_column.Tie as tie
-use Rattle.case.proofs.write.put_column.Reads as reads
-use Rattle.case.proofs.write.put_column.Lts as lts
-use Rattle.case.proofs.put.put_type.Reads as put-type-reads
-use Rattle.case.proofs.write.put_validity.Reads as put-validity-reads
-use Rattle.case.proofs.write.put_values.Reads as put-values-reads
-
--- src/write.rt:223:9
-put-type-requires : tie.Need-put-type-requires
-put-type-requires c κs = search needs
-
--- src/write.rt:224:9
-put-validity-requires : tie.Need-put-validity-requires
-put-validity-requires c κs = ?
-
--- src/write.rt:225:5
-put-values-requires : tie.Need-put-values-requires
-put-values-requires c κs = ?
-
--- src/write.rt:209:1
-same-length : tie.Need-same-length
-same-length c = search needs
-
--- src/write.rt:209:1
-returns : tie.Need-returns
-returns c = ?
 
 pub put-column-spec : {M : Type 1} → statement M
 put-column-spec =
     tie.close
-    (tie.spec put-type-requires put-validity-requires put-values-requires same-length returns)
+    (tie.spec
+    (λ c κs. search needs)
+    (λ c κs. (c .before .before .before .before .before .before .before .before .before .pre .0, validity-ask (now (c .before .before .before .before .before .before .before .before .before .args .rule)) (now (c .before .before .before .before .before .before .before .before .before .args .table)) (now (c .before .before .before .before .before .before .before .before .before .args .work)) (c .before .before .before .before .before .before .before .before .before .args .rows) (c .before .before .before .before .before .before .before .before .before .args .t) (c .before .before .before .before .before .before .before .before .before .args .nullable) (c .before .before .before .before .before .before .before .before .before .args .null) (c .before .before .before .before .before .before .before .before .before .args .text) (c .before .before .before .before .before .before .before .before .before .pre .3) (c .before .before .before .put-type .ensures)))
+    (λ c κs. (c .before .before .before .before .before .before .before .before .before .before .before .before .before .pre .0, c .before .before .before .before .before .before .before .before .before .before .before .before .before .pre .1, c .before .before .before .before .before .before .before .before .before .before .before .before .before .pre .2, values-ask (now (c .before .before .before .before .before .before .before .before .before .before .before .before .before .args .rule)) (now (c .before .before .before .before .before .before .before .before .before .before .before .before .before .args .table)) (now (c .before .before .before .before .before .before .before .before .before .before .before .before .before .args .work)) (c .before .before .before .before .before .before .before .before .before .before .before .before .before .args .rows) (c .before .before .before .before .before .before .before .before .before .before .before .before .before .args .t) (c .before .before .before .before .before .before .before .before .before .before .before .before .before .args .nullable) (c .before .before .before .before .before .before .before .before .before .before .before .before .before .args .null) (c .before .before .before .before .before .before .before .before .before .before .before .before .before .args .text) (c .before .before .before .before .before .before .before .before .before .before .before .before .before .pre .3) (c .before .before .before .before .before .before .before .put-type .ensures) (c .before .before .before .put-validity .ensures)))
+    (λ c. search needs)
+    (λ c. wrote-then (wrote-then (c .before .before .before .before .before .before .before .before .before .before .put-type .ensures) (c .before .before .before .before .before .before .put-validity .ensures)) (c .before .before .put-values .ensures)))

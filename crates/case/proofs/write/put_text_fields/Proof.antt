@@ -1,53 +1,21 @@
+-- `put_text_fields` puts the offsets' field and the texts' behind it.
 use borrow.Author.Needs.{needs}
+use native.Mathlib.Omega.{arith}
+use denote.Ref.{now}
+use mathlib.Core.Path.{sym}
+use Rattle.case.proofs.WriteLaws.{offsets-ask, second-header, texts-ask, text-fields}
 use Rattle.case.proofs.write.put_text_fields.Statement.{statement}
 use Rattle.case.proofs.write.put_text_fields.Tie as tie
-use Rattle.case.proofs.write.put_text_fields.Reads as reads
-use Rattle.case.proofs.write.put_text_fields.Lts as lts
-use Rattle.case.proofs.put.put_header.Reads as put-header-reads
-use Rattle.case.proofs.texts.put_offsets.Reads as put-offsets-reads
-use Rattle.case.proofs.texts.put_texts.Reads as put-texts-reads
-
--- src/write.rt:168:39
-mul-put-header : tie.Need-mul-put-header
-mul-put-header c = search needs
-
--- src/write.rt:168:39
-add-put-header : tie.Need-add-put-header
-add-put-header c = search needs
-
--- src/write.rt:168:9
-put-header-requires : tie.Need-put-header-requires
-put-header-requires c κs = search needs
-
--- src/write.rt:169:9
-put-offsets-requires : tie.Need-put-offsets-requires
-put-offsets-requires c κs = ?
-
--- src/write.rt:170:9
-put-header-requires-2 : tie.Need-put-header-requires-2
-put-header-requires-2 c κs = ?
-
--- src/write.rt:171:5
-put-texts-requires : tie.Need-put-texts-requires
-put-texts-requires c κs = ?
-
--- src/write.rt:156:1
-same-length : tie.Need-same-length
-same-length c = search needs
-
--- src/write.rt:156:1
-returns : tie.Need-returns
-returns c = ?
 
 pub put-text-fields-spec : {M : Type 1} → statement M
 put-text-fields-spec =
     tie.close
     (tie.spec
-    mul-put-header
-    add-put-header
-    put-header-requires
-    put-offsets-requires
-    put-header-requires-2
-    put-texts-requires
-    same-length
-    returns)
+    (λ c. search needs)
+    (λ c. search needs)
+    (λ c κs. search needs)
+    (λ c κs. (c .before .before .before .before .before .before .before .before .before .pre .0, omega (arith, c .before .before .before .before .before .before .before .before .before .pre .1, c .before .before .before .before .before .before .before .before .before .pre .2), offsets-ask (now (c .before .before .before .before .before .before .before .before .before .args .rule)) (now (c .before .before .before .before .before .before .before .before .before .args .table)) (now (c .before .before .before .before .before .before .before .before .before .args .work)) (c .before .before .before .before .before .before .before .before .before .args .rows) (c .before .before .before .before .before .before .before .before .before .args .text) (c .before .before .before .before .before .before .before .before .before .pre .1) (c .before .before .before .before .before .before .before .before .before .pre .3) (c .before .before .before .put-header .ensures)))
+    (λ c κs. (omega (arith, second-header (now (c .before .before .before .before .before .before .before .before .before .before .before .before .before .args .rule)) (now (c .before .before .before .before .before .before .before .before .before .before .before .before .before .args .table)) (now (c .before .before .before .before .before .before .before .before .before .before .before .before .before .args .work)) (c .before .before .before .before .before .before .before .before .before .before .before .before .before .args .rows) (c .before .before .before .before .before .before .before .before .before .before .before .before .before .args .text) (c .before .before .before .before .before .before .before .before .before .before .before .before .before .pre .1) (c .before .before .before .before .before .before .before .before .before .before .before .before .before .pre .3) (c .before .before .before .before .before .before .before .put-header .ensures) (c .before .before .before .put-offsets .ensures)), omega (arith, c .before .before .before .before .before .before .before .before .before .before .before .before .before .pre .2)))
+    (λ c κs. (c .before .before .before .before .before .before .before .before .before .before .before .before .before .before .before .before .before .pre .0, texts-ask (now (c .before .before .before .before .before .before .before .before .before .before .before .before .before .before .before .before .before .args .rule)) (now (c .before .before .before .before .before .before .before .before .before .before .before .before .before .before .before .before .before .args .table)) (now (c .before .before .before .before .before .before .before .before .before .before .before .before .before .before .before .before .before .args .work)) (c .before .before .before .before .before .before .before .before .before .before .before .before .before .before .before .before .before .args .rows) (c .before .before .before .before .before .before .before .before .before .before .before .before .before .before .before .before .before .args .text) (c .before .before .before .before .before .before .before .before .before .before .before .before .before .before .before .before .before .pre .1) (c .before .before .before .before .before .before .before .before .before .before .before .before .before .before .before .before .before .pre .3) (c .before .before .before .before .before .before .before .before .before .before .before .put-header .ensures) (c .before .before .before .before .before .before .before .put-offsets .ensures) (c .before .before .before .put-header2 .ensures)))
+    (λ c. search needs)
+    (λ c. text-fields (now (c .before .before .before .before .before .before .before .before .before .before .before .before .before .before .before .before .before .before .before .before .args .rule)) (now (c .before .before .before .before .before .before .before .before .before .before .before .before .before .before .before .before .before .before .before .before .args .table)) (now (c .before .before .before .before .before .before .before .before .before .before .before .before .before .before .before .before .before .before .before .before .args .work)) (c .before .before .before .before .before .before .before .before .before .before .before .before .before .before .before .before .before .before .before .before .args .rows) (c .before .before .before .before .before .before .before .before .before .before .before .before .before .before .before .before .before .before .before .before .args .text) (c .before .before .before .before .before .before .before .before .before .before .before .before .before .before .before .before .before .before .before .before .pre .1) (c .before .before .before .before .before .before .before .before .before .before .before .before .before .before .before .before .before .before .before .before .pre .3) (c .before .before .before .before .before .before .before .before .before .before .before .before .before .before .put-header .ensures) (c .before .before .before .before .before .before .before .before .before .before .put-offsets .ensures) (c .before .before .before .before .before .before .put-header2 .ensures) (c .before .before .put-texts .ensures)))
