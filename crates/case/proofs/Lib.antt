@@ -7,6 +7,7 @@ pub mod RowsLaws
 pub mod WroteLaws
 pub mod WriteLaws
 pub mod ColumnLaws
+pub mod SlotRunLaws
 pub mod ClearLaws
 pub mod AnswerLaws
 pub mod RowsTyped

@@ -107,7 +107,7 @@ unfolding anyRow
 none-yet = record { few = omega arith; none = refl }
 
 -- a row that passes
-any-found : (f : ℕ → Bool) (n i : ℕ) → i < n → f i ≡ true → anyRow f n ≡ true
+pub any-found : (f : ℕ → Bool) (n i : ℕ) → i < n → f i ≡ true → anyRow f n ≡ true
 unfolding anyRow
 any-found f zero i h e = absurd (omega arith)
 any-found f (suc n) i h e = go (decLt i n) (λ p. any-found f n i p e)
@@ -236,7 +236,7 @@ pub offsets-size : (rule table w : List ℕ) (n : ℕ) → length (rowBytes (slo
 offsets-size rule table w n = length-rows (slotOffset rule table w) 4 (λ i. length-numberBytes 4 (length (rowBytes (slotText rule table w) i))) n
 
 -- none where no row has any
-rows-empty : (f : ℕ → List ℕ) (n : ℕ) → ((i : ℕ) → i < n → f i ≡ []) → length (rowBytes f n) ≡ 0
+pub rows-empty : (f : ℕ → List ℕ) (n : ℕ) → ((i : ℕ) → i < n → f i ≡ []) → length (rowBytes f n) ≡ 0
 unfolding rowBytes
 rows-empty f zero h = refl
 rows-empty f (suc n) h = omega (arith, length-append (rowBytes f n) (f n), rows-empty f n (λ i b. h i (omega arith)), ap length (h n (omega arith)))
@@ -244,7 +244,7 @@ rows-empty f (suc n) h = omega (arith, length-append (rowBytes f n) (f n), rows-
 -- ---- fields
 
 -- the validity's content
-validity-size : (null : Bool) (w : List ℕ) (rows : ℕ) → length (slotValidity null w rows) ≡ validitySize rows null
+pub validity-size : (null : Bool) (w : List ℕ) (rows : ℕ) → length (slotValidity null w rows) ≡ validitySize rows null
 validity-size true w rows = bits-size false w rows (bitmapLength rows)
 validity-size false w rows = refl
 

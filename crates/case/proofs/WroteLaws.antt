@@ -77,7 +77,7 @@ wrote-number {out} {at} {n} {done} {m} k h w =
     (w .holds ∙ ap (λ (b : Bool). cond b (sets out at (numberBytes k n)) out) says)
 
 -- what lies above k bytes is not in them
-pub above-bytes : (k n q : ℕ) → numberBytes k (n + 256 ^ k * q) ≡ numberBytes k n
+above-bytes : (k n q : ℕ) → numberBytes k (n + 256 ^ k * q) ≡ numberBytes k n
 unfolding numberBytes
 above-bytes zero n q = refl
 above-bytes (suc k) n q =
