@@ -1,15 +1,14 @@
 -- The rows' slots as a column: what is written row by row is the answer's column. Assumes nothing.
-use mathlib.Core.Path.{_≡_, refl, sym, ap, ap₂, subst, _∙_}
+use mathlib.Core.Path.{_≡_, refl, sym, ap, ap₂, _∙_}
 use mathlib.Core.Bool.{Bool, true, false, cond, not, _||_, false≢true}
 use mathlib.Core.List.{List, [], _∷_, _++_, map, map-append, append-nil, append-assoc}
 use Prim.Native.Nat.{ℕ, zero, suc, _+_, _-_, _*_, _/_, _%_, _^_, _<_, _≤_}
 use native.Mathlib.Nat.{pow-suc, pow-succ', add-zero, zero-add, suc-add}
-use native.Mathlib.Decide.{decLt}
 use native.Mathlib.Omega.{arith}
-use lib.Dec.{eqb, ltb}
+use lib.Dec.{eqb}
 use lib.Pow.{pow-add}
 use lib.ListN.{length, length-append, length-map}
-use borrow.Author.Tests.{lt-ltb, le-ltb, eq-eqb, eqb-true}
+use borrow.Author.Tests.{lt-ltb}
 use Rattle.layout.specs.Bytes.{numberBytes, bitmapLength, bitNumber, bitmap}
 use Rattle.layout.specs.Field.{fieldBytes}
 use Rattle.scalar.specs.declared.types.DataType.{DataType}
@@ -25,11 +24,13 @@ use Rattle.case.specs.Frame.{slotAt}
 use Rattle.case.specs.Run.{rowsFrom}
 use Rattle.case.specs.Answer as answer
 use Rattle.case.specs.Answer.{someNull, validityOf, numberIn, numbersOf, textsOf, offsetsFrom, offsetsOf, valuesOf, columnOf, offsetsField, columnBytes}
-use Rattle.case.specs.Writing.{rowBytes, anyRow, someOfKind, slotEntry, slotEntries, trueOf, numberOf, widthOf, flagOf, flagAt, bitsFrom, slotBits, slotNumbers, slotText, slotOffset, slotValidity, slotValues, slotColumn}
-use Rattle.case.proofs.WriteLaws.{any-found, flag-out, bits-lt}
+use Rattle.case.specs.Writing.{rowBytes, anyRow, someOfKind, slotEntry, slotEntries, trueOf, numberOf, widthOf, flagAt, bitsFrom, slotBits, slotNumbers, slotText, slotOffset, slotValidity, slotValues, slotColumn}
+use Rattle.case.proofs.RowKindLaws.{none-at}
+use Rattle.case.proofs.RowBitLaws.{flag-out, bits-lt}
 
 -- ---- a row more, at the end
 
+-- the last of the row numbers
 rows-snoc : (a n : ℕ) → rowsFrom a (suc n) ≡ rowsFrom a n ++ ((a + n) ∷ [])
 unfolding rowsFrom
 rows-snoc a zero = ap (λ (k : ℕ). k ∷ []) (sym (add-zero a))
@@ -37,20 +38,24 @@ rows-snoc a (suc n) =
     let e : suc a + n ≡ a + suc n = omega arith in
     ap (λ (l : List ℕ). a ∷ l) (rows-snoc (suc a) n ∙ ap (λ (k : ℕ). rowsFrom (suc a) n ++ (k ∷ [])) e)
 
+-- the last row's entry
 entries-snoc : (f : ℕ → Entry) (n : ℕ) → map f (rowsFrom 0 (suc n)) ≡ map f (rowsFrom 0 n) ++ (f n ∷ [])
 entries-snoc f n = ap (map f) (rows-snoc 0 n) ∙ map-append f (rowsFrom 0 n) ((0 + n) ∷ []) ∙ ap (λ (k : ℕ). map f (rowsFrom 0 n) ++ (f k ∷ [])) (zero-add n)
 
+-- the last entry's number
 numbers-snoc : (k : ℕ) (es : List Entry) (e : Entry) → numbersOf k (es ++ (e ∷ [])) ≡ numbersOf k es ++ numberBytes k (numberIn e)
 unfolding numbersOf
 numbers-snoc k [] e = append-nil (numberBytes k (numberIn e))
 numbers-snoc k (x ∷ es) e =
     ap (λ (l : List ℕ). numberBytes k (numberIn x) ++ l) (numbers-snoc k es e) ∙ sym (append-assoc (numberBytes k (numberIn x)) (numbersOf k es) (numberBytes k (numberIn e)))
 
+-- the last entry's text
 texts-snoc : (es : List Entry) (e : Entry) → textsOf (es ++ (e ∷ [])) ≡ textsOf es ++ answer.textIn e
 unfolding textsOf
 texts-snoc [] e = append-nil (answer.textIn e)
 texts-snoc (x ∷ es) e = ap (λ (l : List ℕ). answer.textIn x ++ l) (texts-snoc es e) ∙ sym (append-assoc (answer.textIn x) (textsOf es) (answer.textIn e))
 
+-- where the last entry's text ends
 offsets-snoc : (from : ℕ) (es : List Entry) (e : Entry) → offsetsFrom from (es ++ (e ∷ [])) ≡ offsetsFrom from es ++ numberBytes 4 (from + length (textsOf es) + length (answer.textIn e))
 unfolding offsetsFrom textsOf
 offsets-snoc from [] e = let z : from + length (answer.textIn e) ≡ from + 0 + length (answer.textIn e) = omega arith in ap (λ (k : ℕ). numberBytes 4 from ++ numberBytes 4 k) z
@@ -60,6 +65,7 @@ offsets-snoc from (x ∷ es) e =
     ap (λ (l : List ℕ). numberBytes 4 from ++ l) (offsets-snoc n es e ∙ ap (λ (k : ℕ). offsetsFrom n es ++ numberBytes 4 k) z)
     ∙ sym (append-assoc (numberBytes 4 from) (offsetsFrom n es) (numberBytes 4 (from + length (answer.textIn x ++ textsOf es) + length (answer.textIn e))))
 
+-- whether the last entry is null
 null-snoc : (es : List Entry) (e : Entry) → someNull (es ++ (e ∷ [])) ≡ cond (isNull e) true (someNull es)
 unfolding someNull
 null-snoc [] e = last (isNull e)
@@ -77,6 +83,7 @@ null-snoc (x ∷ es) e = ap (λ (b : Bool). isNull x || b) (null-snoc es e) ∙ 
 
 -- ---- a value and its entry
 
+-- a value is true just where its entry is
 true-of : (rule table : List ℕ) (v : Value) → isTrue (orNull (meaning rule table v)) ≡ trueOf v
 true-of rule table Null = refl
 true-of rule table (Boolean b) = refl
@@ -88,6 +95,7 @@ true-of rule table (RuleText start size) = refl
 true-of rule table (TableText start size) = refl
 true-of rule table Failed = refl
 
+-- a value's number is its entry's
 number-of : (rule table : List ℕ) (v : Value) → numberIn (orNull (meaning rule table v)) ≡ numberOf v
 number-of rule table Null = refl
 number-of rule table (Boolean b) = refl
@@ -99,6 +107,7 @@ number-of rule table (RuleText start size) = refl
 number-of rule table (TableText start size) = refl
 number-of rule table Failed = refl
 
+-- a value's text is its entry's
 text-of : (rule table : List ℕ) (v : Value) → answer.textIn (orNull (meaning rule table v)) ≡ textIn rule table v
 text-of rule table Null = refl
 text-of rule table (Boolean b) = refl
@@ -125,7 +134,8 @@ null-of rule table Failed h = absurd (false≢true (sym h))
 -- ---- the rows' numbers, texts and offsets
 
 module _ (rule table w : List ℕ) where
-  pub numbers-rows : (wide : Bool) (n : ℕ) → rowBytes (slotNumbers wide w) n ≡ numbersOf (widthOf wide) (slotEntries rule table w n)
+  -- the numbers are those of the entries
+  numbers-rows : (wide : Bool) (n : ℕ) → rowBytes (slotNumbers wide w) n ≡ numbersOf (widthOf wide) (slotEntries rule table w n)
   unfolding rowBytes numbersOf rowsFrom
   numbers-rows wide zero = refl
   numbers-rows wide (suc n) =
@@ -133,6 +143,7 @@ module _ (rule table w : List ℕ) where
       ∙ sym (numbers-snoc (widthOf wide) (slotEntries rule table w n) (slotEntry rule table w n))
       ∙ ap (numbersOf (widthOf wide)) (sym (entries-snoc (slotEntry rule table w) n))
 
+  -- so are the texts
   pub texts-rows : (n : ℕ) → rowBytes (slotText rule table w) n ≡ textsOf (slotEntries rule table w n)
   unfolding rowBytes textsOf rowsFrom
   texts-rows zero = refl
@@ -141,7 +152,8 @@ module _ (rule table w : List ℕ) where
       ∙ sym (texts-snoc (slotEntries rule table w n) (slotEntry rule table w n))
       ∙ ap textsOf (sym (entries-snoc (slotEntry rule table w) n))
 
-  pub offsets-rows : (n : ℕ) → rowBytes (slotOffset rule table w) (suc n) ≡ offsetsFrom 0 (slotEntries rule table w n)
+  -- and the offsets
+  offsets-rows : (n : ℕ) → rowBytes (slotOffset rule table w) (suc n) ≡ offsetsFrom 0 (slotEntries rule table w n)
   unfolding rowBytes offsetsFrom rowsFrom
   offsets-rows zero = refl
   offsets-rows (suc n) =
@@ -193,6 +205,7 @@ eight-bits (suc k) =
     let e : 8 * suc k ≡ 8 + 8 * k = omega arith in
     ap (λ (n : ℕ). 2 ^ n) e ∙ pow-add 2 8 (8 * k) ∙ ap (λ (n : ℕ). 256 * n) (eight-bits k) ∙ sym (pow-succ' 256 k)
 
+-- no bytes hold no number
 no-bytes : (n : ℕ) → numberBytes 0 n ≡ []
 unfolding numberBytes
 no-bytes n = refl
@@ -229,25 +242,8 @@ abbrev entryFlag : Bool → Entry → Bool
 entryFlag true e = isTrue e
 entryFlag false e = not (isNull e)
 
--- a row that does not pass
-pub none-at : (f : ℕ → Bool) (n i : ℕ) → anyRow f n ≡ false → i < n → f i ≡ false
-none-at f n i h b = go (f i) refl
-  where
-    go : (t : Bool) → f i ≡ t → t ≡ false
-    go true e = absurd (false≢true (sym h ∙ any-found f n i b e))
-    go false e = refl
-
--- some row that passes
-pub some-at : (f : ℕ → Bool) (n : ℕ) → anyRow f n ≡ true → (i : ℕ) × (i < n) × (f i ≡ true)
-unfolding anyRow
-some-at f zero h = absurd (false≢true h)
-some-at f (suc n) h = go (f n) refl h (λ r. some-at f n r)
-  where
-    go : (t : Bool) → f n ≡ t → cond t true (anyRow f n) ≡ true → (anyRow f n ≡ true → (i : ℕ) × (i < n) × (f i ≡ true)) → (i : ℕ) × (i < suc n) × (f i ≡ true)
-    go true e r s = (n, omega arith, e)
-    go false e r s = let x = s r in (x .0, omega (arith, x .1), x .2)
-
 module _ (rule table w : List ℕ) (rows : ℕ) (fine : someOfKind w 7 rows ≡ false) where
+  -- no row's slot failed
   fine-at : (i : ℕ) → i < rows → eqb (kindOf (slotAt w i)) 7 ≡ false
   fine-at i h = none-at (λ i. eqb (kindOf (slotAt w i)) 7) rows i fine h
 

@@ -5,7 +5,10 @@ pub mod BuilderLaws
 pub mod SlotLaws
 pub mod RowsLaws
 pub mod WroteLaws
-pub mod WriteLaws
+pub mod RowTextLaws
+pub mod RowKindLaws
+pub mod RowBitLaws
+pub mod ColumnPutLaws
 pub mod ColumnLaws
 pub mod SlotRunLaws
 pub mod ClearLaws

@@ -1,11 +1,11 @@
 -- Writing the answer: which of 15, 16, 17 and the answer the rows' slots give. Assumes nothing.
-use mathlib.Core.Path.{_≡_, refl, sym, ap, ap₂, subst, _∙_}
-use mathlib.Core.Bool.{Bool, true, false, cond, false≢true}
+use mathlib.Core.Path.{_≡_, refl, sym, ap, _∙_}
+use mathlib.Core.Bool.{Bool, true, false, false≢true}
 use mathlib.Core.List.{List, [], _∷_, _++_, map}
-use Prim.Native.Nat.{ℕ, zero, suc, _+_, _*_, _<_, _≤_}
-use native.Mathlib.Nat.{zero-add, add-zero}
+use Prim.Native.Nat.{ℕ, zero, suc, _+_, _<_, _≤_}
+use native.Mathlib.Nat.{zero-add}
 use native.Mathlib.Omega.{arith}
-use lib.Dec.{eqb, leb}
+use lib.Dec.{eqb}
 use lib.ListN.{length, drop, length-append}
 use borrow.Author.Tests.{le-leb, lt-leb}
 use Rattle.layout.specs.Result.{Result, refused, ok, _>>=_}
@@ -27,10 +27,11 @@ use Rattle.case.specs.Answer.{columnOf, columnBytes, textLength}
 use Rattle.case.specs.Run.{rowsFrom, entriesOf, textMost, writtenAs, outputAfter}
 use Rattle.case.specs.Promise.{runAnswer}
 use Rattle.case.specs.Write.{slotOutcomes, slotRun, WriteAsks, WriteGives}
-use Rattle.case.specs.Writing.{wrote, Wrote, RowsAsk, rowBytes, someOfKind, slotEntries, slotText, slotOffset, slotValidity, slotValues, slotColumn, validitySize, valuesSize}
+use Rattle.case.specs.Writing.{wrote, Wrote, rowBytes, someOfKind, slotEntries, slotText, slotOffset, slotValidity, slotValues, slotColumn, validitySize, valuesSize}
 use Rattle.case.proofs.WroteLaws.{length-field, wrote-as}
-use Rattle.case.proofs.WriteLaws.{bits-size, numbers-size, offsets-size, rows-empty, validity-size}
-use Rattle.case.proofs.ColumnLaws.{none-at, some-at, texts-rows, column-rows}
+use Rattle.case.proofs.ColumnPutLaws.{bits-size, numbers-size, offsets-size, rows-empty, validity-size}
+use Rattle.case.proofs.RowKindLaws.{none-at, some-at}
+use Rattle.case.proofs.ColumnLaws.{texts-rows, column-rows}
 
 -- ---- the outcomes of the slots
 
@@ -46,6 +47,7 @@ failed-of rule table (RuleText start size) h = absurd (false≢true h)
 failed-of rule table (TableText start size) h = absurd (false≢true h)
 failed-of rule table Failed h = refl
 
+-- a value of any other kind is an entry
 entry-of : (rule table : List ℕ) (v : Value) → eqb (kindOf v) 7 ≡ false → meaning rule table v ≡ entry (orNull (meaning rule table v))
 entry-of rule table Null h = refl
 entry-of rule table (Boolean b) h = refl
@@ -78,6 +80,7 @@ unfolding entriesOf
 entries-one (entry v) os h = rw h
 entries-one unfit os h = refl
 
+-- wherever that is
 entries-fail : (f : ℕ → Outcome) (a n i : ℕ) → i < n → f (a + i) ≡ unfit → entriesOf (map f (rowsFrom a n)) ≡ refused 15
 unfolding entriesOf rowsFrom
 entries-fail f a zero i h e = absurd (omega arith)
@@ -87,6 +90,7 @@ entries-fail f a (suc n) (suc i) h e =
     entries-one (f a) (map f (rowsFrom (suc a) n)) (entries-fail f (suc a) n i (omega arith) (ap f z ∙ e))
 
 module _ (rule table w : List ℕ) (rows : ℕ) where
+  -- a slot that failed
   slots-fail : someOfKind w 7 rows ≡ true → entriesOf (slotOutcomes rule table w rows) ≡ refused 15
   slots-fail h =
       let s = some-at (λ i. eqb (kindOf (slotAt w i)) 7) rows h in
@@ -94,6 +98,7 @@ module _ (rule table w : List ℕ) (rows : ℕ) where
       entries-fail (λ i. meaning rule table (slotAt w i)) 0 rows (s .0) (s .1)
       (ap (λ (i : ℕ). meaning rule table (slotAt w i)) z ∙ failed-of rule table (slotAt w (s .0)) (s .2))
 
+  -- none that did
   slots-entries : someOfKind w 7 rows ≡ false → entriesOf (slotOutcomes rule table w rows) ≡ ok (slotEntries rule table w rows)
   slots-entries h =
       entries-all (λ i. meaning rule table (slotAt w i)) 0 rows
@@ -101,6 +106,7 @@ module _ (rule table w : List ℕ) (rows : ℕ) where
 
 -- ---- how long the answer is
 
+-- the bytes of tag 4, with tag 5 for text
 values-size : (rule table w : List ℕ) (rows : ℕ) (t : DataType) → length (slotValues rule table w rows t) ≡ valuesSize t rows (length (rowBytes (slotText rule table w) rows))
 values-size rule table w rows DataType.Boolean = length-field 4 _ ∙ ap (λ (n : ℕ). 3 + n) (bits-size true w rows (bitmapLength rows))
 values-size rule table w rows DataType.Int32 = length-field 4 _ ∙ ap (λ (n : ℕ). 3 + n) (numbers-size false w rows)
@@ -111,6 +117,7 @@ values-size rule table w rows DataType.Utf8 =
     let ts = rowBytes (slotText rule table w) rows in
     omega (arith, length-append (fieldBytes 5 os) (fieldBytes 4 ts), length-field 5 os, length-field 4 ts, offsets-size rule table w (suc rows))
 
+-- the bytes of the column
 column-size : (rule table w : List ℕ) (rows : ℕ) (t : DataType) (nullable null : Bool)
     → length (slotColumn rule table w rows t nullable null) ≡ 8 + validitySize rows null + valuesSize t rows (length (rowBytes (slotText rule table w) rows))
 column-size rule table w rows t nullable null =
@@ -121,14 +128,17 @@ column-size rule table w rows t nullable null =
 -- ---- what is written
 
 module _ (t : DataType) (n : Bool) (es : List Entry) (output : ℕ) where
+  -- text above its limit
   written-16 : textMost < textLength es → writtenAs t n es output ≡ refused 16
   unfolding writtenAs
   written-16 h = rw (lt-leb (textLength es) textMost h)
 
+  -- output shorter than the answer
   written-17 : textLength es ≤ textMost → output < length (columnBytes (columnOf t n es)) → writtenAs t n es output ≡ refused 17
   unfolding writtenAs
   written-17 h k = rw (le-leb (textLength es) textMost h, lt-leb (length (columnBytes (columnOf t n es))) output k)
 
+  -- neither
   written-all : textLength es ≤ textMost → length (columnBytes (columnOf t n es)) ≤ output → writtenAs t n es output ≡ ok (columnBytes (columnOf t n es))
   unfolding writtenAs
   written-all h k = rw (le-leb (textLength es) textMost h, le-leb (length (columnBytes (columnOf t n es))) output k)
@@ -150,9 +160,11 @@ module _ (rule table w : List ℕ) (rows : ℕ) (t : DataType) (n : Bool) (outpu
     fine : someOfKind w 7 rows ≡ false
     fine = sym p ∙ q
 
+    -- so the run is the writing of the entries
     run-is : slotRun rule table w rows t n (length output) ≡ writtenAs t n (slotEntries rule table w rows) (length output)
     run-is = ap (λ (r : Result (List Entry)). r >>= λ es. writtenAs t n es (length output)) (slots-entries rule table w rows fine)
 
+    -- whose text was counted
     text-is : text ≡ textLength (slotEntries rule table w rows)
     text-is = e ∙ ap length (texts-rows rule table w rows)
 
@@ -166,6 +178,7 @@ module _ (rule table w : List ℕ) (rows : ℕ) (t : DataType) (n : Bool) (outpu
       column-is : slotColumn rule table w rows t n null ≡ columnBytes (columnOf t n (slotEntries rule table w rows))
       column-is = ap (slotColumn rule table w rows t n) z ∙ column-rows rule table w rows fine t n
 
+      -- and by its size
       size-is : {size : ℕ} → size ≡ 8 + validitySize rows null + valuesSize t rows text → size ≡ length (columnBytes (columnOf t n (slotEntries rule table w rows)))
       size-is s = s ∙ ap (λ (k : ℕ). 8 + validitySize rows null + valuesSize t rows k) e ∙ sym (column-size rule table w rows t n null) ∙ ap length column-is
 
@@ -204,6 +217,7 @@ no-texts rule table w rows t s ask e never =
     sym (rows-empty (slotText rule table w) rows (λ i h. text-typed rule table t (slotAt w i) (λ x. ap (λ (d : DataType). ofType d (utf8 x)) e ∙ never x) (ask .typed i h)))
 
 module _ (rule table w : List ℕ) (rows : ℕ) (t : DataType) (ask : WriteAsks rule table w rows t) where
+  -- each type that is not text
   pub boolean-text : t ≡ DataType.Boolean → 0 ≡ length (rowBytes (slotText rule table w) rows)
   unfolding ofType
   boolean-text e = no-texts rule table w rows t DataType.Boolean ask e (λ x. refl)

@@ -63,6 +63,10 @@ wrote-then {out} {at} {xs} {ys} {p} {q} {m} {m′} a b = record {
 pub wrote-as : {out : List ℕ} {at : ℕ} {xs ys : List ℕ} {p : ℕ} {m : List ℕ} → xs ≡ ys → Wrote out at xs p m → Wrote out at ys p m
 wrote-as {out} {at} {xs} {ys} {p} {m} e w = subst (λ (l : List ℕ). Wrote out at l p m) e w
 
+-- a byte by what it is
+pub wrote-byte : {out : List ℕ} {at a b : ℕ} {p : ℕ} {m : List ℕ} → a ≡ b → Wrote out at (a ∷ []) p m → Wrote out at (b ∷ []) p m
+wrote-byte e w = wrote-as (ap (λ (x : ℕ). x ∷ []) e) w
+
 -- bytes stored one by one
 pub wrote-sets : {out : List ℕ} {at : ℕ} {p : ℕ} {m : List ℕ} (xs : List ℕ) → at + length xs ≤ length out → p ≡ at + length xs → m ≡ sets out at xs → Wrote out at xs p m
 unfolding wrote
@@ -87,7 +91,7 @@ above-bytes (suc k) n q =
     ap₂ _∷_ low (ap (numberBytes k) high ∙ above-bytes k (n / 256) q)
 
 -- a number's low four bytes are those of its low 32 bits
-pub low-bytes : (n : ℕ) → numberBytes 4 (n % 4294967296) ≡ numberBytes 4 n
+low-bytes : (n : ℕ) → numberBytes 4 (n % 4294967296) ≡ numberBytes 4 n
 low-bytes n =
     let e : n % 4294967296 + 4294967296 * (n / 4294967296) ≡ n = omega arith in
     sym (above-bytes 4 (n % 4294967296) (n / 4294967296)) ∙ ap (numberBytes 4) e
@@ -138,7 +142,7 @@ pasted-all {out} {at} {text} {i} {m} s room all =
 -- ---- row by row
 
 -- one row more
-pub row-more : (f : ℕ → List ℕ) (n : ℕ) → rowBytes f (n + 1) ≡ rowBytes f n ++ f n
+row-more : (f : ℕ → List ℕ) (n : ℕ) → rowBytes f (n + 1) ≡ rowBytes f n ++ f n
 unfolding rowBytes
 row-more f n = ap (rowBytes f) (add-one n)
 
@@ -190,17 +194,15 @@ module _ {f : ℕ → List ℕ} {out : List ℕ} {at n i p : ℕ} {m : List ℕ}
 
 -- ---- a number, of eight bytes or of four
 
+-- eight
 pub put-eight : {out : List ℕ} {at n : ℕ} {wide done : Bool} {m : List ℕ} → wide ≡ true → at + widthOf wide ≤ length out → Written 8 out at n done m
     → Wrote out at (numberBytes (widthOf wide) n) (at + 8) m
 put-eight e h w = rw e (wrote-number 8 (rw e at h) w)
 
+-- four
 pub put-four : {out : List ℕ} {at : ℕ} (n : ℕ) {wide done : Bool} {m : List ℕ} → wide ≡ false → at + widthOf wide ≤ length out → Written 4 out at (n % 4294967296) done m
     → Wrote out at (numberBytes (widthOf wide) n) (at + 4) m
 put-four n e h w = rw e (wrote-as (low-bytes n) (wrote-number 4 (rw e at h) w))
-
--- a byte by what it is
-pub wrote-byte : {out : List ℕ} {at a b : ℕ} {p : ℕ} {m : List ℕ} → a ≡ b → Wrote out at (a ∷ []) p m → Wrote out at (b ∷ []) p m
-wrote-byte e w = wrote-as (ap (λ (x : ℕ). x ∷ []) e) w
 
 -- ---- room behind a run
 

@@ -1,9 +1,9 @@
 // The rows' bits, of validity or of Booleans, put at a place of the output.
 use crate::put::put_byte;
 use crate::slot::get_slot;
+use layout::bits::bitmap_length;
 use scalar::value::Value;
 use scalar::value::kind;
-use layout::bits::bitmap_length;
 ghost use mathlib.Core.Path.{_≡_};
 ghost use mathlib.Core.Bool.{cond};
 ghost use Prim.Native.Nat.{_+_, _*_, _<_, _≤_};

@@ -26,7 +26,13 @@ fn number_of(v: Value) -> u64
 }
 
 // The rows' numbers, of eight bytes or of four.
-pub(crate) fn put_numbers(work: &[u8], rows: usize, wide: bool, at: usize, output: &mut [u8]) -> usize
+pub(crate) fn put_numbers(
+    work: &[u8],
+    rows: usize,
+    wide: bool,
+    at: usize,
+    output: &mut [u8],
+) -> usize
     requires { ⌜ RowsAsk (now work) rows × (at + length (rowBytes (slotNumbers wide (now work)) rows) ≤ length (now output)) ⌝ }
     ensures { λ r. ⌜ Wrote (now (output .entry)) at (rowBytes (slotNumbers wide (now (work .entry))) rows) r (now (output .exit)) ⌝ }
 {

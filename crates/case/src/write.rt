@@ -48,17 +48,7 @@ pub(crate) fn write_answer(
     if output.len() < size {
         return RunAnswer::Refused(17);
     }
-    let end = put_column(
-        rule,
-        table,
-        work,
-        rows,
-        t,
-        nullable,
-        null,
-        text,
-        output,
-    );
+    let end = put_column(rule, table, work, rows, t, nullable, null, text, output);
     RunAnswer::Answered(end)
 }
 

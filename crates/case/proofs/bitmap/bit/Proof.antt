@@ -1,7 +1,7 @@
 -- `bit` is a row's bit.
 use borrow.Author.Needs.{needs}
 use denote.Ref.{now}
-use Rattle.case.proofs.WriteLaws.{flag-in, flag-out, bit-one, bit-zero}
+use Rattle.case.proofs.RowBitLaws.{flag-in, flag-out, bit-one, bit-zero}
 use Rattle.case.proofs.bitmap.bit.Statement.{statement}
 use Rattle.case.proofs.bitmap.bit.Tie as tie
 

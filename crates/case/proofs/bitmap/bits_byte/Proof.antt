@@ -2,7 +2,7 @@
 use native.Mathlib.Omega.{arith}
 use Prim.Native.Nat.{_*_}
 use Rattle.case.specs.Writing.{flagAt}
-use Rattle.case.proofs.WriteLaws.{BitsSoFar, bits-none, bits-more, bits-end}
+use Rattle.case.proofs.RowBitLaws.{BitsSoFar, bits-none, bits-more, bits-end}
 use Rattle.case.proofs.bitmap.bits_byte.Statement.{statement}
 use Rattle.case.proofs.bitmap.bits_byte.Tie as tie
 

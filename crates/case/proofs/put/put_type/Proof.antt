@@ -1,8 +1,6 @@
 -- `put_type` puts a header and two bytes behind it.
 use borrow.Author.Needs.{needs}
 use native.Mathlib.Omega.{arith}
-use mathlib.Core.Path.{ap₂}
-use mathlib.Core.List.{[], _∷_}
 use Rattle.layout.specs.Bytes.{numberBytes}
 use Rattle.layout.specs.Field.{fieldBytes}
 use Rattle.case.proofs.WroteLaws.{wrote-then, wrote-long, wrote-byte, header-room}

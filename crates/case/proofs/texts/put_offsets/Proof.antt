@@ -7,7 +7,7 @@ use lib.ListN.{length}
 use Rattle.scalar.specs.declared.value.Value.{Value}
 use Rattle.scalar.specs.Order.{textIn}
 use Rattle.case.proofs.WroteLaws.{wrote-long}
-use Rattle.case.proofs.WriteLaws.{OffsetsSoFar, offsets-none, offset-room, offsets-more, offsets-end, text-within}
+use Rattle.case.proofs.RowTextLaws.{OffsetsSoFar, offsets-none, offset-room, offsets-more, offsets-end, text-within}
 use Rattle.case.proofs.texts.put_offsets.Statement.{statement}
 use Rattle.case.proofs.texts.put_offsets.Tie as tie
 

@@ -5,7 +5,7 @@ use denote.Ref.{now}
 use mathlib.Core.Path.{sym, ap, _∙_}
 use Rattle.scalar.specs.Order.{textIn}
 use Rattle.case.proofs.WroteLaws.{wrote-none, wrote-as, room-as}
-use Rattle.case.proofs.WriteLaws.{no-text}
+use Rattle.case.proofs.RowTextLaws.{no-text}
 use Rattle.case.proofs.texts.put_text_of.Statement.{statement}
 use Rattle.case.proofs.texts.put_text_of.Tie as tie
 

@@ -7,7 +7,7 @@ use lib.ListN.{length}
 use Rattle.scalar.specs.declared.value.Value.{Value}
 use Rattle.scalar.specs.Order.{textIn}
 use Rattle.case.specs.Writing.{slotText}
-use Rattle.case.proofs.WriteLaws.{LengthSoFar, length-none, length-more, length-ends, text-fits}
+use Rattle.case.proofs.RowTextLaws.{LengthSoFar, length-none, length-more, length-ends, text-fits}
 use Rattle.case.proofs.texts.text_length.Statement.{statement}
 use Rattle.case.proofs.texts.text_length.Tie as tie
 

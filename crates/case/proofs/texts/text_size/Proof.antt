@@ -3,7 +3,7 @@ use borrow.Author.Needs.{needs}
 use denote.Ref.{now}
 use mathlib.Core.Path.{sym, ap}
 use lib.ListN.{length}
-use Rattle.case.proofs.WriteLaws.{no-text}
+use Rattle.case.proofs.RowTextLaws.{no-text}
 use Rattle.case.proofs.texts.text_size.Statement.{statement}
 use Rattle.case.proofs.texts.text_size.Tie as tie
 

@@ -1,7 +1,7 @@
 -- `column_size` adds up a column's fields.
 use borrow.Author.Needs.{needs}
 use native.Mathlib.Omega.{arith}
-use Rattle.case.proofs.WriteLaws.{sizes-small}
+use Rattle.case.proofs.ColumnPutLaws.{sizes-small}
 use Rattle.case.proofs.write.column_size.Statement.{statement}
 use Rattle.case.proofs.write.column_size.Tie as tie
 

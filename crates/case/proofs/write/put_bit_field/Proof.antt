@@ -5,7 +5,7 @@ use mathlib.Core.Path.{sym, _∙_}
 use Rattle.layout.specs.Bytes.{bitmapLength}
 use Rattle.case.specs.Writing.{rowBytes, slotBits}
 use Rattle.case.proofs.WroteLaws.{wrote-field}
-use Rattle.case.proofs.WriteLaws.{bits-size, content-room}
+use Rattle.case.proofs.ColumnPutLaws.{bits-size, content-room}
 use Rattle.case.proofs.write.put_bit_field.Statement.{statement}
 use Rattle.case.proofs.write.put_bit_field.Tie as tie
 

@@ -2,7 +2,7 @@
 use borrow.Author.Needs.{needs}
 use denote.Ref.{now}
 use Rattle.case.proofs.WroteLaws.{wrote-then}
-use Rattle.case.proofs.WriteLaws.{validity-ask, values-ask}
+use Rattle.case.proofs.ColumnPutLaws.{validity-ask, values-ask}
 use Rattle.case.proofs.write.put_column.Statement.{statement}
 use Rattle.case.proofs.write.put_column.Tie as tie
 

@@ -4,7 +4,7 @@ use denote.Ref.{now}
 use mathlib.Core.Path.{sym}
 use Rattle.case.specs.Writing.{rowBytes, slotNumbers}
 use Rattle.case.proofs.WroteLaws.{wrote-field}
-use Rattle.case.proofs.WriteLaws.{content-room}
+use Rattle.case.proofs.ColumnPutLaws.{content-room}
 use Rattle.case.proofs.write.put_number_field.Statement.{statement}
 use Rattle.case.proofs.write.put_number_field.Tie as tie
 

@@ -2,8 +2,7 @@
 use borrow.Author.Needs.{needs}
 use native.Mathlib.Omega.{arith}
 use denote.Ref.{now}
-use mathlib.Core.Path.{sym}
-use Rattle.case.proofs.WriteLaws.{offsets-ask, second-header, texts-ask, text-fields}
+use Rattle.case.proofs.ColumnPutLaws.{offsets-ask, second-header, texts-ask, text-fields}
 use Rattle.case.proofs.write.put_text_fields.Statement.{statement}
 use Rattle.case.proofs.write.put_text_fields.Tie as tie
 

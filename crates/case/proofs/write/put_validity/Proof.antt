@@ -1,7 +1,7 @@
 -- `put_validity` puts the bits of validity, or an empty field.
 use borrow.Author.Needs.{needs}
 use denote.Ref.{now}
-use Rattle.case.proofs.WriteLaws.{validity-some, validity-none, validity-room}
+use Rattle.case.proofs.ColumnPutLaws.{validity-some, validity-none, validity-room}
 use Rattle.case.proofs.write.put_validity.Statement.{statement}
 use Rattle.case.proofs.write.put_validity.Tie as tie
 

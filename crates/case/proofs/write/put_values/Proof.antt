@@ -5,7 +5,7 @@ use denote.Ref.{now}
 use mathlib.Core.Path.{refl}
 use mathlib.Core.Bool.{true, false}
 use Prim.Native.Nat.{_*_}
-use Rattle.case.proofs.WriteLaws.{values-as, values-room, numbers-ask}
+use Rattle.case.proofs.ColumnPutLaws.{values-as, values-room, numbers-ask}
 use Rattle.case.proofs.write.put_values.Statement.{statement}
 use Rattle.case.proofs.write.put_values.Tie as tie
 

@@ -5,7 +5,7 @@ use Prim.Native.Nat.{_-_}
 use lib.Dec.{eqb}
 use Rattle.scalar.specs.Value.{kindOf}
 use Rattle.case.specs.Frame.{slotAt}
-use Rattle.case.proofs.WriteLaws.{NoneSoFar, none-yet, kind-found, kind-more, kind-none}
+use Rattle.case.proofs.RowKindLaws.{NoneSoFar, none-yet, kind-found, kind-more, kind-none}
 use Rattle.case.proofs.write.some_of_kind.Statement.{statement}
 use Rattle.case.proofs.write.some_of_kind.Tie as tie
 
