@@ -48,6 +48,7 @@ someOfKind w k rows = anyRow (λ i. eqb (kindOf (slotAt w i)) k) rows
 abbrev pub slotEntry : List ℕ → List ℕ → List ℕ → ℕ → Entry
 slotEntry rule table w i = orNull (meaning rule table (slotAt w i))
 
+-- the entries of the first rows' slots
 abbrev pub slotEntries : List ℕ → List ℕ → List ℕ → ℕ → List Entry
 slotEntries rule table w rows = map (slotEntry rule table w) (rowsFrom 0 rows)
 
@@ -75,20 +76,20 @@ numberOf (RuleText start size) = 0
 numberOf (TableText start size) = 0
 numberOf Failed = 0
 
--- bytes of a number
+-- how many bytes a number takes
 abbrev pub widthOf : Bool → ℕ
 widthOf true = 8
 widthOf false = 4
 
--- the numbers of the rows' slots
+-- the bytes of the number of a row's slot
 abbrev pub slotNumbers : Bool → List ℕ → ℕ → List ℕ
 slotNumbers wide w i = numberBytes (widthOf wide) (numberOf (slotAt w i))
 
--- the texts of the rows' slots
+-- the text of a row's slot
 abbrev pub slotText : List ℕ → List ℕ → List ℕ → ℕ → List ℕ
 slotText rule table w i = textIn rule table (slotAt w i)
 
--- where the text of a row begins
+-- the bytes of the offset at which the text of a row begins
 abbrev pub slotOffset : List ℕ → List ℕ → List ℕ → ℕ → List ℕ
 slotOffset rule table w i = numberBytes 4 (length (rowBytes (slotText rule table w) i))
 
@@ -106,7 +107,7 @@ unfoldable pub bitsFrom : (ℕ → Bool) → ℕ → ℕ → ℕ
 bitsFrom f from zero = 0
 bitsFrom f from (suc n) = cond (f from) 1 0 + 2 * bitsFrom f (suc from) n
 
--- the bytes of the rows' bits
+-- the byte of eight rows' bits
 abbrev pub slotBits : Bool → List ℕ → ℕ → ℕ → List ℕ
 slotBits truth w rows j = bitsFrom (flagAt truth w rows) (8 * j) 8 ∷ []
 
@@ -115,10 +116,11 @@ pub record RowsAsk (w : List ℕ) (rows : ℕ) : Type 0 where
   pub few : rows ≤ 512
   pub room : 5632 ≤ length w
 
--- what a column of a type, of so many rows, with nulls or without, and with so much text takes
+-- how many bytes the validity of so many rows takes, where some are null and where none is
 abbrev pub validitySize : ℕ → Bool → ℕ
 validitySize rows null = cond null (bitmapLength rows) 0
 
+-- how many bytes tag 4 of so many rows takes, and for text tag 5 with it
 abbrev pub valuesSize : DataType → ℕ → ℕ → ℕ
 valuesSize DataType.Boolean rows text = 3 + bitmapLength rows
 valuesSize DataType.Int32 rows text = 3 + 4 * rows

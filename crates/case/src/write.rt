@@ -23,6 +23,18 @@ ghost use Rattle.case.specs.Writing.{Wrote, RowsAsk, someOfKind, rowByte
 // Most bytes of the answer's text.
 const TEXT_MOST: usize = 65535;
 
+// Kinds of a slot's value.
+const NULL: u8 = 0;
+
+const FAILED: u8 = 7;
+
+// Tags of a column's fields behind the first.
+const VALIDITY: u8 = 3;
+
+const VALUES: u8 = 4;
+
+const OFFSETS: u8 = 5;
+
 // The answer at the front of the output, and its length; or 15, 16 or 17, and the output is unchanged.
 pub(crate) fn write_answer(
     rule: &[u8],
@@ -36,14 +48,14 @@ pub(crate) fn write_answer(
     requires { ⌜ WriteAsks (now rule) (now table) (now work) rows t ⌝ }
     ensures { λ r. ⌜ WriteGives (now (rule .entry)) (now (table .entry)) (now (work .entry)) rows t nullable (now (output .entry)) r (now (output .exit)) ⌝ }
 {
-    if some_of_kind(work, rows, 7) {
+    if some_of_kind(work, rows, FAILED) {
         return RunAnswer::Refused(15);
     }
     let text = answer_text(rule, table, work, rows, t);
     if TEXT_MOST < text {
         return RunAnswer::Refused(16);
     }
-    let null = some_of_kind(work, rows, 0);
+    let null = some_of_kind(work, rows, NULL);
     let size = column_size(rows, t, null, text);
     if output.len() < size {
         return RunAnswer::Refused(17);
@@ -138,7 +150,7 @@ fn put_number_field(
     requires { ⌜ RowsAsk (now work) rows × (size ≡ length (rowBytes (slotNumbers wide (now work)) rows)) × (size < 65536) × (at + 3 + size ≤ length (now output)) ⌝ }
     ensures { λ r. ⌜ Wrote (now (output .entry)) at (fieldBytes 4 (rowBytes (slotNumbers wide (now (work .entry))) rows)) r (now (output .exit)) ⌝ }
 {
-    let p = put_header(output, at, 4, size);
+    let p = put_header(output, at, VALUES, size);
     put_numbers(work, rows, wide, p, output)
 }
 
@@ -155,9 +167,9 @@ fn put_text_fields(
     requires { ⌜ RowsAsk (now work) rows × (text ≡ length (rowBytes (slotText (now rule) (now table) (now work)) rows)) × (text ≤ 65535) × (at + valuesSize DataType.Utf8 rows text ≤ length (now output)) ⌝ }
     ensures { λ r. ⌜ Wrote (now (output .entry)) at (fieldBytes 5 (rowBytes (slotOffset (now (rule .entry)) (now (table .entry)) (now (work .entry))) (suc rows)) ++ fieldBytes 4 (rowBytes (slotText (now (rule .entry)) (now (table .entry)) (now (work .entry))) rows)) r (now (output .exit)) ⌝ }
 {
-    let p = put_header(output, at, 5, 4 * rows + 4);
+    let p = put_header(output, at, OFFSETS, 4 * rows + 4);
     let q = put_offsets(rule, table, work, rows, p, output);
-    let s = put_header(output, q, 4, text);
+    let s = put_header(output, q, VALUES, text);
     put_texts(rule, table, work, rows, s, output)
 }
 
@@ -167,9 +179,9 @@ fn put_validity(work: &[u8], rows: usize, null: bool, at: usize, output: &mut [u
     ensures { λ r. ⌜ Wrote (now (output .entry)) at (fieldBytes 3 (slotValidity null (now (work .entry)) rows)) r (now (output .exit)) ⌝ }
 {
     if null {
-        return put_bit_field(work, rows, false, 3, at, output);
+        return put_bit_field(work, rows, false, VALIDITY, at, output);
     }
-    put_header(output, at, 3, 0)
+    put_header(output, at, VALIDITY, 0)
 }
 
 // Tag 4, and before it tag 5 where the column is of text.
@@ -187,7 +199,7 @@ fn put_values(
     ensures { λ r. ⌜ Wrote (now (output .entry)) at (slotValues (now (rule .entry)) (now (table .entry)) (now (work .entry)) rows t) r (now (output .exit)) ⌝ }
 {
     match t {
-        DataType::Boolean => put_bit_field(work, rows, true, 4, at, output),
+        DataType::Boolean => put_bit_field(work, rows, true, VALUES, at, output),
         DataType::Int32 => put_number_field(work, rows, false, 4 * rows, at, output),
         DataType::Int64 => put_number_field(work, rows, true, 8 * rows, at, output),
         DataType::Float64 => put_number_field(work, rows, true, 8 * rows, at, output),
