@@ -11,6 +11,14 @@ pub mod SplitLaws
 pub mod PartLaws
 pub mod SettleLaws
 pub mod TakingLaws
+pub mod WroteLaws
+pub mod RowTextLaws
+pub mod RowKindLaws
+pub mod RowBitLaws
+pub mod ColumnPutLaws
+pub mod ColumnLaws
+pub mod SlotRunLaws
+pub mod ClearLaws
 pub mod AnswerLaws
 pub mod RowsTyped
 pub mod DemandsHold

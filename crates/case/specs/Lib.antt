@@ -11,5 +11,6 @@ pub mod Parting
 pub mod Taking
 pub mod LookUp
 pub mod Write
+pub mod Writing
 pub mod Cases
 pub mod Demands
