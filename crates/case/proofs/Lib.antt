@@ -15,6 +15,14 @@ pub mod FrameLaws
 pub mod ExprLaws
 pub mod CaseLaws
 pub mod ChooseLaws
+pub mod WroteLaws
+pub mod RowTextLaws
+pub mod RowKindLaws
+pub mod RowBitLaws
+pub mod ColumnPutLaws
+pub mod ColumnLaws
+pub mod SlotRunLaws
+pub mod ClearLaws
 pub mod AnswerLaws
 pub mod RowsTyped
 pub mod DemandsHold
