@@ -174,18 +174,18 @@ drop-all noMore = refl
 drop-all (branch w t bs) = drop-all bs
 
 -- the branch behind the first i
-record BranchAt (i : ℕ) (bs : Branches) : Type 0 where
-  when-is : Expr
-  then-is : Expr
-  later : Branches
-  before : List Expr
-  here : dropBranches i bs ≡ branch when-is then-is later
-  behind : dropBranches (suc i) bs ≡ later
-  result : (row : Row) (els : Outcome) → resultAt bs row els i ≡ eval then-is row
-  many : length before ≡ 2 * i
-  trees : branchTrees bs ≡ before ++ (when-is ∷ then-is ∷ branchTrees later)
+pub record BranchAt (i : ℕ) (bs : Branches) : Type 0 where
+  pub when-is : Expr
+  pub then-is : Expr
+  pub later : Branches
+  pub before : List Expr
+  pub here : dropBranches i bs ≡ branch when-is then-is later
+  pub behind : dropBranches (suc i) bs ≡ later
+  pub result : (row : Row) (els : Outcome) → resultAt bs row els i ≡ eval then-is row
+  pub many : length before ≡ 2 * i
+  pub trees : branchTrees bs ≡ before ++ (when-is ∷ then-is ∷ branchTrees later)
 
-branch-at : (i : ℕ) (bs : Branches) → i < branchCount bs → BranchAt i bs
+pub branch-at : (i : ℕ) (bs : Branches) → i < branchCount bs → BranchAt i bs
 unfolding dropBranches branchCount resultAt
 branch-at i noMore h = absurd (omega arith)
 branch-at zero (branch w t bs) h = record {
@@ -203,7 +203,7 @@ branch-at (suc i) (branch w t bs) h =
     }
 
 -- the last two of a list
-last-two : (es : List Expr) (n : ℕ) → length es ≡ n + 2 → (first : List Expr) × (x : Expr) × (y : Expr) × (length first ≡ n) × (es ≡ first ++ (x ∷ y ∷ []))
+pub last-two : (es : List Expr) (n : ℕ) → length es ≡ n + 2 → (first : List Expr) × (x : Expr) × (y : Expr) × (length first ≡ n) × (es ≡ first ++ (x ∷ y ∷ []))
 last-two [] n h = absurd (omega arith)
 last-two (x ∷ []) n h = absurd (omega arith)
 last-two (x ∷ y ∷ []) zero h = ([], x, y, refl, refl)

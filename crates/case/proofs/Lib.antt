@@ -23,6 +23,7 @@ pub mod ColumnPutLaws
 pub mod ColumnLaws
 pub mod SlotRunLaws
 pub mod ClearLaws
+pub mod TakeLaws
 pub mod AnswerLaws
 pub mod RowsTyped
 pub mod DemandsHold

@@ -11,10 +11,7 @@ pub mod Parting
 pub mod Taking
 pub mod LookUp
 pub mod Write
-<<<<<<< HEAD
 pub mod Evaluation
-=======
 pub mod Writing
->>>>>>> main
 pub mod Cases
 pub mod Demands

@@ -1,0 +1,256 @@
+-- Taking what the rows' indexes stand for: the rows of an index in the next frame, and their slots back. Assumes nothing.
+use mathlib.Core.Path.{_≡_, refl, sym, ap, ap₂, subst, _∙_}
+use mathlib.Core.Bool.{Bool, true, false}
+use mathlib.Core.List.{List, [], _∷_, _++_, append-assoc}
+use mathlib.Core.Logic.{_⊎_, inl, inr}
+use Prim.Native.Nat.{ℕ, zero, suc, _+_, _-_, _*_, _^_, _<_, _≤_}
+use native.Mathlib.Omega.{arith}
+use native.Mathlib.Decide.{ℕ-discrete, decLt}
+use lib.Dec.{eqb}
+use lib.ListN.{length, getD}
+use borrow.Author.Tests.{eq-eqb, ne-eqb}
+use Rattle.layout.specs.Bytes.{byte}
+use Rattle.scalar.specs.declared.value.Value.{Value}
+use Rattle.scalar.specs.declared.value.Value.the-variants.{Null, Failed}
+use Rattle.scalar.specs.declared.types.DataType.{DataType}
+use Rattle.scalar.specs.Entry.{Entry, null, Outcome, entry, unfit, onEntry}
+use Rattle.scalar.specs.TryCast.{tryCastEntry}
+use Rattle.scalar.specs.Value.{meaning, Gives}
+use Rattle.rule.specs.Tree.{Expr, Branches, noMore, branch, Optional, absent, present, branchCount}
+use Rattle.rule.specs.Row.{Row, eval, evalElse}
+use Rattle.rule.specs.Node.{NodeAt}
+use Rattle.rule.specs.Walks.{branchTrees, optionalTrees, TreesAt, EndGives, BehindGives}
+use Rattle.rule.proofs.NodeLaws.{trees-one, trees-none, trees-some}
+use Rattle.rule.proofs.WalkLaws.{first-two, branches-length}
+use Rattle.table.specs.declared.places.Table.{Table}
+use Rattle.case.specs.declared.rows.Op.the-variants.{TryCast}
+use Rattle.case.specs.Frame.{rowAt, slotAt, nextSlot, Rows, Listed, Filled, FilledFrom, Fillable, FillableFrom, operationOf}
+use Rattle.case.specs.Taking.{Picked, HasIndex, startOf, startAt}
+use Rattle.case.specs.Evaluation.{Framed, Done, rowIn, ExprRight, resultAt, indexed, Takes, ElseRight, TakeRight}
+use Rattle.case.proofs.FrameLaws.{Kept, SameRows, kept-rows, kept-slot, listed-to, listed-from, rows-to, rows-small, listed-below, framed-few, framed-fillable, framed-kept, done-filled, lent, back, lent-rows, lent-slot, lent-framed, NextDone, next-done}
+use Rattle.case.proofs.CaseLaws.{result-else, result-failed}
+use Rattle.case.proofs.ChooseLaws.{BranchAt, branch-at, last-two}
+
+-- ---- the rows of an index
+
+module _ {table : List ℕ} {t : Table} {depth : ℕ} {w w₁ : List ℕ} {n m : ℕ} {values : List ℕ} {k : ℕ} (f : Framed table t w n (depth + 1)) (deep : 0 < depth) (p : Picked (HasIndex values k) w n m w₁) where
+  pub picked-few : m ≤ 512
+  picked-few = let a = p .few in let b = f .list-ok .few in omega arith
+
+  picked-rows : Rows w₁ 6656 m (t .rows)
+  picked-rows = record {
+    few = picked-few;
+    below = λ i h. listed-below (f .list-ok) (rowAt w₁ 6656 i) (p .picked (rowAt w₁ 6656 i) (i, h, refl) .0);
+    rising = p .rising;
+  }
+
+  pub picked-room : 13312 ≤ length w₁
+  picked-room = let r = f .room in let l = p .long in omega arith
+
+  pub picked-asks : Framed table t (lent w₁) m depth
+  picked-asks = lent-framed depth picked-rows (f .small) (let r = f .room in let l = p .long in omega arith) (f .short)
+
+  pub picked-next : {right : ℕ → Value → Type 0} {ys : List ℕ} → Done right (lent w₁) m ys → NextDone right w₁ m (back w₁ ys)
+  picked-next d = next-done picked-few picked-room d
+
+  -- the next frame, once it is back, as it is
+  module _ {right : ℕ → Value → Type 0} {w₂ : List ℕ} (d : NextDone right w₁ m w₂) where
+    next-long : length w₂ ≡ length w
+    next-long = d .long ∙ p .long
+
+    next-kept : Kept 6656 w w₂
+    next-kept j h = d .low j h ∙ p .low j h
+
+    next-rows : Rows w₂ 6656 m (t .rows)
+    next-rows = rows-to w₁ w₂ 6656 6656 m (t .rows) (d .same-rows) picked-rows
+
+    pub next-asks : FillableFrom 6656 w₂ m × (12288 ≤ length w₂)
+    next-asks = let r = f .room in let l = next-long in let q = picked-few in (
+      record { rows-ok = rows-small (f .small) next-rows; room = omega arith; list-in = omega arith; clear = inr (omega arith) },
+      omega arith,
+    )
+
+    pub next-fillable : Fillable (lent w₂) m
+    next-fillable = framed-fillable (lent-framed depth next-rows (f .small) (let r = f .room in let l = next-long in omega arith) (f .short)) deep
+
+    pub next-room : 13312 ≤ length w₂
+    next-room = let r = f .room in let l = next-long in omega arith
+
+    -- a step on the slots of the next frame
+    pub next-again : {op : ℕ → Value → Type 0} {right′ : ℕ → Value → Type 0} {zs : List ℕ} → Filled op (lent w₂) m zs
+        → ((r : ℕ) (v : Value) → r < 512 → right r (slotAt (lent w₂) r) → op r v → right′ r v) → NextDone right′ w₁ m (back w₂ zs)
+    next-again {op} {right′} {zs} e fits = record {
+      long = again .long ∙ d .long;
+      low = λ j h. again .low j h ∙ d .low j h;
+      same-rows = λ i h. again .same-rows i h ∙ d .same-rows i h;
+      here = λ r h l. again .here r h (listed-to w₁ w₂ 6656 6656 m (d .same-rows) r l);
+    }
+      where
+        step : Done right′ (lent w₂) m zs
+        step = done-filled picked-few refl (λ j h. refl) e (λ r v l g.
+            let l₁ : Listed w₁ 6656 m r = listed-from w₁ w₂ 6656 6656 m (d .same-rows) r (listed-from w₂ (lent w₂) 6656 0 m (lent-rows w₂ m) r l) in
+            let small : r < 512 = listed-below (rows-small (f .small) picked-rows) r l₁ in
+            fits r v small (subst (right r) (lent-slot w₂ r small) (d .here r small l₁)) g)
+
+        again : NextDone right′ w₂ m (back w₂ zs)
+        again = next-done picked-few next-room step
+
+    -- the slots back
+    pub next-takes : {w₃ : List ℕ} → FilledFrom 6656 (λ r v. v ≡ nextSlot w₂ r) w₂ m w₃ → Takes values k (λ r old v. right r v) w n w₃
+    next-takes {w₃} e = record {
+      long = e .long ∙ next-long;
+      here = λ r l i.
+          let small : r < 512 = listed-below (rows-small (f .small) (f .list-ok)) r l in
+          let l₁ = p .all r l i in
+          subst (right r) (sym (e .here r (listed-to w₁ w₂ 6656 6656 m (d .same-rows) r l₁))) (d .here r small l₁);
+      others = λ r l no.
+          let small : r < 512 = listed-below (rows-small (f .small) (f .list-ok)) r l in
+          e .others r small (λ l₂. no (p .picked r (listed-from w₁ w₂ 6656 6656 m (d .same-rows) r l₂) .1))
+          ∙ kept-slot w w₂ (λ j h. next-kept j (omega arith)) r small;
+      low = λ j h. e .low j h ∙ next-kept j (omega arith);
+    }
+
+-- ELSE: where there is none nothing is done
+pub else-none : {rule : List ℕ} {at end : ℕ} {table : List ℕ} {t : Table} {depth : ℕ} {to : DataType} {values : List ℕ} {k : ℕ} {w : List ℕ} {n : ℕ} → at ≡ end
+    → Takes values k (ElseRight rule at end table t depth to) w n w
+unfolding evalElse
+else-none {rule} {at} {end} {table} {t} {depth} {to} same = record {
+  long = refl;
+  here = λ r l i. record { is = λ els trees old. go els trees old };
+  others = λ r l no. refl;
+  low = λ j h. refl;
+}
+  where
+    go : {o : Outcome} {r : ℕ} (els : Optional) → TreesAt rule at end (optionalTrees els) depth → o ≡ entry null → o ≡ evalElse els (rowIn table t r) to
+    go absent trees old = old
+    go (present e) trees old = absurd (let k = trees-some trees in omega arith)
+
+-- its outcome, cast
+pub else-cast : {rule : List ℕ} {at end : ℕ} {table : List ℕ} {t : Table} {depth : ℕ} {to : DataType} {r : ℕ} {u v : Value} (old : Value) → (at ≡ end → ⊥) → ExprRight rule at end table t depth r u
+    → Gives (operationOf (TryCast to)) u v → ElseRight rule at end table t depth to r old v
+unfolding evalElse
+else-cast {rule} {at} {end} {table} {t} {depth} {to} {r} {u} {v} old there right g = record { is = λ els trees o. go els trees }
+  where
+    go : (els : Optional) → TreesAt rule at end (optionalTrees els) depth → meaning rule table v ≡ evalElse els (rowIn table t r) to
+    go absent trees = absurd (there (trees-none trees))
+    go (present e) trees = g .means rule table ∙ ap (onEntry (λ x. entry (tryCastEntry to x))) (right .is e (trees-one trees))
+
+-- ---- one index after the other
+
+-- where the loop stands: the indexes from 1 to below k have been taken
+pub record Taken (rule : List ℕ) (at end : ℕ) (table : List ℕ) (t : Table) (depth count : ℕ) (to : DataType) (values w : List ℕ) (n k place : ℕ) (w′ : List ℕ) : Type 0 where
+  pub first : 1 ≤ k
+  pub few : k ≤ count + 1
+  pub behind : BehindGives rule at (2 * (k - 1)) place
+  pub long : length w′ ≡ length w
+  pub low : (j : ℕ) → j < 1024 → byte w′ j ≡ byte w j
+  pub done : (r : ℕ) → Listed w 0 n r → 0 < getD values r 0 → getD values r 0 < k → TakeRight rule at end table t depth count to values r (slotAt w′ r)
+  pub open-rows : (r : ℕ) → Listed w 0 n r → (getD values r 0 ≡ 0) ⊎ (k ≤ getD values r 0) → slotAt w′ r ≡ startAt values (count + 2) r
+
+module _ {rule : List ℕ} {at end : ℕ} {table : List ℕ} {t : Table} {depth count : ℕ} {to : DataType} {values w : List ℕ} {n : ℕ} (f : Framed table t w n (depth + 1)) where
+  pub take-none : {w₁ : List ℕ} → Filled (λ r v. v ≡ startAt values (count + 2) r) w n w₁ → Taken rule at end table t depth count to values w n 1 at w₁
+  take-none d = record {
+    first = omega arith;
+    few = omega arith;
+    behind = record { stand = none-behind; onward = omega arith };
+    long = d .long;
+    low = d .low;
+    done = λ r l a b. absurd (omega arith);
+    open-rows = λ r l o. d .here r l;
+  }
+    where
+      none-behind : (end : ℕ) (es rest : List Expr) (depth : ℕ) → length es ≡ 2 * (1 - 1) → TreesAt rule at end (es ++ rest) depth → TreesAt rule at end rest depth
+      none-behind end [] rest depth p trees = trees
+      none-behind end (e ∷ es) rest depth p trees = absurd (omega arith)
+
+  module _ {k place : ℕ} {w₁ : List ℕ} (s : Taken rule at end table t depth count to values w n k place w₁) where
+    pub take-framed : Framed table t w₁ n (depth + 1)
+    take-framed = framed-kept f (depth + 1) (omega arith) w₁ (s .long) (s .low)
+
+    same-list : SameRows w 0 w₁ 0 n
+    same-list = kept-rows 1024 w w₁ 0 n (let q = f .list-ok .few in omega arith) (s .low)
+
+    module _ (more : k < count + 1) {then next : ℕ} {w₂ : List ℕ} (to-then : EndGives rule place then) (to-next : EndGives rule then next)
+        (d : Takes values k (λ r old v. ExprRight rule then next table t depth r v) w₁ n w₂) where
+      right-here : (r : ℕ) → getD values r 0 ≡ k → (v : Value) → ExprRight rule then next table t depth r v → TakeRight rule at end table t depth count to values r v
+      right-here r i v x = record {
+        is = λ bs els trees c small.
+            let q = s .first in
+            let at-i = branch-at (k - 1) bs (omega arith) in
+            let here = s .behind .stand end (at-i .before) (at-i .when-is ∷ at-i .then-is ∷ (branchTrees (at-i .later) ++ optionalTrees els)) depth (at-i .many)
+                (subst (λ (l : List Expr). TreesAt rule at end l depth) (ap (λ (l : List Expr). l ++ optionalTrees els) (at-i .trees) ∙ append-assoc (at-i .before) (at-i .when-is ∷ at-i .then-is ∷ branchTrees (at-i .later)) (optionalTrees els)) trees) in
+            let index-is : getD values r 0 ≡ suc (k - 1) = omega arith in
+            x .is (at-i .then-is) (first-two to-then to-next here .1)
+            ∙ sym (at-i .result (rowIn table t r) (evalElse els (rowIn table t r) to))
+            ∙ ap (indexed bs (rowIn table t r) (evalElse els (rowIn table t r) to)) (sym index-is);
+      }
+
+      take-done : (r : ℕ) → Listed w 0 n r → 0 < getD values r 0 → getD values r 0 < k + 1 → Dec (getD values r 0 ≡ k) → TakeRight rule at end table t depth count to values r (slotAt w₂ r)
+      take-done r l a b (yes i) = right-here r i (slotAt w₂ r) (d .here r (listed-to w w₁ 0 0 n same-list r l) i)
+      take-done r l a b (no i) =
+          subst (TakeRight rule at end table t depth count to values r) (sym (d .others r (listed-to w w₁ 0 0 n same-list r l) i)) (s .done r l a (omega arith))
+
+      not-now : (r : ℕ) → (getD values r 0 ≡ 0) ⊎ (k + 1 ≤ getD values r 0) → getD values r 0 ≡ k → ⊥
+      not-now r (inl z) i = let q = s .first in omega arith
+      not-now r (inr z) i = omega arith
+
+      still : (r : ℕ) → (getD values r 0 ≡ 0) ⊎ (k + 1 ≤ getD values r 0) → (getD values r 0 ≡ 0) ⊎ (k ≤ getD values r 0)
+      still r (inl z) = inl z
+      still r (inr z) = inr (omega arith)
+
+      pub take-more : Taken rule at end table t depth count to values w n (k + 1) next w₂
+      take-more = record {
+        first = omega arith;
+        few = omega arith;
+        behind = record { stand = next-behind; onward = (let h = s .behind .onward in let a = to-then .onward in let b = to-next .onward in omega arith) };
+        long = d .long ∙ s .long;
+        low = λ j h. d .low j h ∙ s .low j h;
+        done = λ r l a b. take-done r l a b (ℕ-discrete (getD values r 0) k);
+        open-rows = λ r l o. d .others r (listed-to w w₁ 0 0 n same-list r l) (not-now r o) ∙ s .open-rows r l (still r o);
+      }
+        where
+          next-behind : (end : ℕ) (es rest : List Expr) (depth : ℕ) → length es ≡ 2 * (k + 1 - 1) → TreesAt rule at end (es ++ rest) depth → TreesAt rule next end rest depth
+          next-behind end es rest depth p trees =
+              let q = s .first in
+              let (first, x, y, f, g) = last-two es (2 * (k - 1)) (omega arith) in
+              let moved = subst (λ (l : List Expr). TreesAt rule at end l depth) (ap (λ (l : List Expr). l ++ rest) g ∙ append-assoc first (x ∷ y ∷ []) rest) trees in
+              first-two to-then to-next (s .behind .stand end first (x ∷ y ∷ rest) depth f moved) .2
+
+    -- behind the THENs comes ELSE
+    module _ (all : count + 1 ≤ k) {w₂ : List ℕ} (d : Takes values (count + 1) (ElseRight rule place end table t depth to) w₁ n w₂) where
+      take-row : (r : ℕ) → Listed w 0 n r → (bs : Branches) (els : Optional) → TreesAt rule at end (branchTrees bs ++ optionalTrees els) depth → branchCount bs ≡ count → getD values r 0 ≤ count + 2
+          → meaning rule table (slotAt w₂ r) ≡ indexed bs (rowIn table t r) (evalElse els (rowIn table t r) to) (getD values r 0)
+      take-row r l bs els trees c small = go (getD values r 0) refl (ℕ-discrete (getD values r 0) (count + 1)) (decLt (getD values r 0) k)
+        where
+          l₁ : Listed w₁ 0 n r
+          l₁ = listed-to w w₁ 0 0 n same-list r l
+
+          started : (b : Bool) → eqb (getD values r 0) (count + 2) ≡ b → (getD values r 0 ≡ 0) ⊎ (k ≤ getD values r 0) → meaning rule table (slotAt w₁ r) ≡ meaning rule table (startOf b)
+          started b e o = ap (meaning rule table) (s .open-rows r l o ∙ ap startOf e)
+
+          go : (i : ℕ) → getD values r 0 ≡ i → Dec (getD values r 0 ≡ count + 1) → Dec (getD values r 0 < k)
+              → meaning rule table (slotAt w₂ r) ≡ indexed bs (rowIn table t r) (evalElse els (rowIn table t r) to) (getD values r 0)
+          go zero i (yes e) b = absurd (omega arith)
+          go zero i (no e) b =
+              ap (meaning rule table) (d .others r l₁ e) ∙ started false (ne-eqb (getD values r 0) (count + 2) (λ z. omega arith)) (inl i)
+              ∙ ap (indexed bs (rowIn table t r) (evalElse els (rowIn table t r) to)) (sym i)
+          go (suc j) i (yes e) b =
+              let else-trees = s .behind .stand end (branchTrees bs) (optionalTrees els) depth (let q = branches-length bs in let x = s .few in omega arith) trees in
+              let old = started false (ne-eqb (getD values r 0) (count + 2) (λ z. omega arith)) (inr (omega (arith, s .few))) in
+              let index-is : getD values r 0 ≡ suc (branchCount bs) = omega arith in
+              d .here r l₁ e .is els else-trees old
+              ∙ sym (result-else bs (rowIn table t r) (evalElse els (rowIn table t r) to))
+              ∙ ap (indexed bs (rowIn table t r) (evalElse els (rowIn table t r) to)) (sym index-is)
+          go (suc j) i (no e) (yes b) = ap (meaning rule table) (d .others r l₁ e) ∙ s .done r l (omega arith) b .is bs els trees c small
+          go (suc j) i (no e) (no b) =
+              let last : getD values r 0 ≡ suc (suc (branchCount bs)) = let x = s .few in omega arith in
+              ap (meaning rule table) (d .others r l₁ e) ∙ started true (eq-eqb (getD values r 0) (count + 2) (omega arith)) (inr (omega arith))
+              ∙ sym (result-failed bs (rowIn table t r) (evalElse els (rowIn table t r) to))
+              ∙ ap (indexed bs (rowIn table t r) (evalElse els (rowIn table t r) to)) (sym last)
+
+      pub take-end : Done (TakeRight rule at end table t depth count to values) w n w₂
+      take-end = record {
+        long = d .long ∙ s .long;
+        here = λ r l. record { is = take-row r l };
+        low = λ j h. d .low j h ∙ s .low j h;
+      }
