@@ -24,6 +24,7 @@ pub mod ColumnLaws
 pub mod SlotRunLaws
 pub mod ClearLaws
 pub mod TakeLaws
+pub mod MergeLaws
 pub mod AnswerLaws
 pub mod RowsTyped
 pub mod DemandsHold

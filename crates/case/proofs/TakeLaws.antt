@@ -33,7 +33,7 @@ use Rattle.case.proofs.ChooseLaws.{BranchAt, branch-at, last-two}
 
 -- ---- the rows of an index
 
-module _ {table : List ℕ} {t : Table} {depth : ℕ} {w w₁ : List ℕ} {n m : ℕ} {values : List ℕ} {k : ℕ} (f : Framed table t w n (depth + 1)) (deep : 0 < depth) (p : Picked (HasIndex values k) w n m w₁) where
+module _ {table : List ℕ} {t : Table} {depth : ℕ} {w w₁ : List ℕ} {n m : ℕ} (values : List ℕ) {k : ℕ} (f : Framed table t w n (depth + 1)) (deep : 0 < depth) (p : Picked (HasIndex values k) w n m w₁) where
   pub picked-few : m ≤ 512
   picked-few = let a = p .few in let b = f .list-ok .few in omega arith
 
@@ -71,7 +71,7 @@ module _ {table : List ℕ} {t : Table} {depth : ℕ} {w w₁ : List ℕ} {n m :
     )
 
     pub next-fillable : Fillable (lent w₂) m
-    next-fillable = framed-fillable (lent-framed depth next-rows (f .small) (let r = f .room in let l = next-long in omega arith) (f .short)) deep
+    next-fillable = framed-fillable {table = table} (lent-framed {t = t} depth next-rows (f .small) (let r = f .room in let l = next-long in omega arith) (f .short)) deep
 
     pub next-room : 13312 ≤ length w₂
     next-room = let r = f .room in let l = next-long in omega arith
@@ -116,14 +116,14 @@ pub else-none : {rule : List ℕ} {at end : ℕ} {table : List ℕ} {t : Table} 
 unfolding evalElse
 else-none {rule} {at} {end} {table} {t} {depth} {to} same = record {
   long = refl;
-  here = λ r l i. record { is = λ els trees old. go els trees old };
+  here = λ r l i. record { is = λ els trees old. go r els trees old };
   others = λ r l no. refl;
   low = λ j h. refl;
 }
   where
-    go : {o : Outcome} {r : ℕ} (els : Optional) → TreesAt rule at end (optionalTrees els) depth → o ≡ entry null → o ≡ evalElse els (rowIn table t r) to
-    go absent trees old = old
-    go (present e) trees old = absurd (let k = trees-some trees in omega arith)
+    go : {o : Outcome} (r : ℕ) (els : Optional) → TreesAt rule at end (optionalTrees els) depth → o ≡ entry null → o ≡ evalElse els (rowIn table t r) to
+    go r absent trees old = old
+    go r (present e) trees old = absurd (let k = trees-some trees in omega arith)
 
 -- its outcome, cast
 pub else-cast : {rule : List ℕ} {at end : ℕ} {table : List ℕ} {t : Table} {depth : ℕ} {to : DataType} {r : ℕ} {u v : Value} (old : Value) → (at ≡ end → ⊥) → ExprRight rule at end table t depth r u
