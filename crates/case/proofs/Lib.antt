@@ -25,6 +25,7 @@ pub mod SlotRunLaws
 pub mod ClearLaws
 pub mod TakeLaws
 pub mod MergeLaws
+pub mod CellLaws
 pub mod AnswerLaws
 pub mod RowsTyped
 pub mod DemandsHold
