@@ -4,6 +4,7 @@ pub mod RunLaws
 pub mod BuilderLaws
 pub mod SlotLaws
 pub mod RowsLaws
+pub mod LookUpLaws
 pub mod AnswerLaws
 pub mod RowsTyped
 pub mod DemandsHold

@@ -9,6 +9,7 @@ pub mod Frame
 pub mod Choosing
 pub mod Taking
 pub mod LookUp
+pub mod LookUpTables
 pub mod Write
 pub mod Cases
 pub mod Demands
