@@ -267,8 +267,8 @@ module _ (rule table : List ℕ) {kinds keys indices : List ℕ} {size otherwise
       ∙ number-entry rule table v h (keyIndex rule table kinds keys indices size otherwise) otherwise
 
   -- an index lies in the arrays of the literals
-  pub index-below : {r : ℕ} (b : Outcome) → r ≡ baseIndex (keyIndex rule table kinds keys indices size otherwise) otherwise b → otherwise < 511 → r < 512
-  index-below {r} b p h = go b p
+  pub index-below : {r : ℕ} (v : Value) → r ≡ baseIndex (keyIndex rule table kinds keys indices size otherwise) otherwise (meaning rule table v) → otherwise < 511 → r < 512
+  index-below {r} v p h = go (meaning rule table v) p
     where
       go : (o : Outcome) → r ≡ baseIndex (keyIndex rule table kinds keys indices size otherwise) otherwise o → r < 512
       go (entry e) q = omega (arith, found-below (λ k. sameKey (entry e) (meaning rule table (valueAt kinds keys k))) (λ k. getD indices k 0) otherwise size 0 (λ i l. t .below i (omega arith)))
@@ -422,3 +422,14 @@ module _ {rule table kinds payloads : List ℕ} {otherwise : ℕ} where
         ∙ ap₂ (λ (x : Value) (y : ℕ). cond (eqb (whenIndex rule table kinds payloads n otherwise b) otherwise) (cond (sameKey b (meaning rule table x)) y otherwise) (whenIndex rule table kinds payloads n otherwise b)) e i
         ∙ sym (found-more (λ k. sameKey b (meaning rule table (valueAt kinds payloads (2 * k)))) (λ k. 2 * k + 1) otherwise n (λ k l p. omega arith));
   }
+
+  pub table-all : {n m : ℕ} {ks ps is : List ℕ} {size : ℕ} → TableOf rule table kinds payloads n otherwise ks ps is size → n ≡ m → TableOf rule table kinds payloads m otherwise ks ps is size
+  table-all {n} {m} {ks} {ps} {is} {size} t e = subst (λ (x : ℕ). TableOf rule table kinds payloads x otherwise ks ps is size) e t
+
+-- ---- rows
+
+-- the literal at the index of a row's base
+pub mapped-row : (rule table kinds payloads : List ℕ) (index-of : Outcome → ℕ) (otherwise : ℕ) {j : ℕ} {v slot : Value} → v ≡ slot → j ≡ baseIndex index-of otherwise (meaning rule table v)
+    → valueAt kinds payloads j ≡ valueAt kinds payloads (baseIndex index-of otherwise (meaning rule table slot))
+mapped-row rule table kinds payloads index-of otherwise e p =
+    ap (valueAt kinds payloads) (p ∙ ap (λ (x : Value). baseIndex index-of otherwise (meaning rule table x)) e)

@@ -1,93 +1,21 @@
+-- `fill_table` adds the WHENs in order. The loop's invariant: every base has the index in the table that it has among the WHENs so far.
+use mathlib.Core.Path.{refl, sym, subst, _∙_}
+use Prim.Native.Nat.{_*_, _-_, _≤_}
+use native.Mathlib.Omega.{arith}
+use denote.Ref.{now}
+use borrow.Author.Needs.{needs}
+use Rattle.scalar.specs.Value.{Storable}
+use Rattle.scalar.proofs.ValueLaws.{valueOf-stores}
+use Rattle.case.specs.LookUpTables.{TableOf}
+use Rattle.case.proofs.LookUpLaws.{table-none, table-more, table-all}
 use Rattle.case.proofs.literal_lookup_table.fill_table.Statement.{statement}
 use Rattle.case.proofs.literal_lookup_table.fill_table.Tie as tie
-use Rattle.case.proofs.literal_lookup_table.fill_table.Reads as reads
-use Rattle.case.proofs.literal_lookup_table.fill_table.Lts as lts
-use Rattle.case.proofs.literal_lookup_table.add_key.Reads as add-key-reads
-use Rattle.scalar.proofs.value.value_of.Reads as value-of-reads
 
 abbrev Inv-loop : tie.InvT-loop
-Inv-loop rule table literal-kinds payloads count kinds₀ keys₀ indices₀ size₀ i₀ kinds keys indices size i =
-    ?
+Inv-loop rule table literal-kinds payloads count kinds₀ keys₀ indices₀ size₀ i₀ kinds keys indices size i = (i ≤ count) × TableOf rule table literal-kinds payloads i (2 * count) kinds keys indices size
 
 abbrev μ-loop : tie.MeasureT-loop
-μ-loop rule table literal-kinds payloads count kinds₀ keys₀ indices₀ size₀ i₀ kinds keys indices size i =
-    ?
-
--- src/literal_lookup_table.rt:138:5
-loop-holds : tie.Need-loop-holds Inv-loop μ-loop
-loop-holds c = ?
-
--- src/literal_lookup_table.rt:139:40
-mul-value-of : tie.Need-mul-value-of Inv-loop μ-loop
-mul-value-of c = ?
-
--- src/literal_lookup_table.rt:139:26
-shared-slice-read-value-of : tie.Need-shared-slice-read-value-of Inv-loop μ-loop
-shared-slice-read-value-of c = ?
-
--- src/literal_lookup_table.rt:139:57
-mul-value-of-2 : tie.Need-mul-value-of-2 Inv-loop μ-loop
-mul-value-of-2 c = ?
-
--- src/literal_lookup_table.rt:139:48
-mul-value-of-3 : tie.Need-mul-value-of-3 Inv-loop μ-loop
-mul-value-of-3 c = ?
-
--- src/literal_lookup_table.rt:139:48
-shared-slice-read-value-of-2 : tie.Need-shared-slice-read-value-of-2 Inv-loop μ-loop
-shared-slice-read-value-of-2 c = ?
-
--- src/literal_lookup_table.rt:139:13
-value-of-requires : tie.Need-value-of-requires Inv-loop μ-loop
-value-of-requires c κs = ?
-
--- src/literal_lookup_table.rt:140:22
-mul-index : tie.Need-mul-index Inv-loop μ-loop
-mul-index c = ?
-
--- src/literal_lookup_table.rt:140:22
-add-index : tie.Need-add-index Inv-loop μ-loop
-add-index c = ?
-
--- src/literal_lookup_table.rt:140:21
-cast-index : tie.Need-cast-index Inv-loop μ-loop
-cast-index c = ?
-
--- src/literal_lookup_table.rt:141:47
-mul-add-key : tie.Need-mul-add-key Inv-loop μ-loop
-mul-add-key c = ?
-
--- src/literal_lookup_table.rt:141:9
-add-key-requires : tie.Need-add-key-requires Inv-loop μ-loop
-add-key-requires c κs = ?
-
--- src/literal_lookup_table.rt:142:9
-add-i : tie.Need-add-i Inv-loop μ-loop
-add-i c = ?
-
--- src/literal_lookup_table.rt:138:5
-loop-less : tie.Need-loop-less Inv-loop μ-loop
-loop-less c = ?
-
--- src/literal_lookup_table.rt:138:5
-loop-again : tie.Need-loop-again Inv-loop μ-loop
-loop-again c = ?
-
--- src/literal_lookup_table.rt:122:1
-same-length : tie.Need-same-length Inv-loop μ-loop
-same-length c = ?
-
--- src/literal_lookup_table.rt:122:1
-same-length-2 : tie.Need-same-length-2 Inv-loop μ-loop
-same-length-2 c = ?
-
--- src/literal_lookup_table.rt:122:1
-same-length-3 : tie.Need-same-length-3 Inv-loop μ-loop
-same-length-3 c = ?
-
--- src/literal_lookup_table.rt:122:1
-returns : tie.Need-returns Inv-loop μ-loop
-returns c = ?
+μ-loop rule table literal-kinds payloads count kinds₀ keys₀ indices₀ size₀ i₀ kinds keys indices size i = count - i
 
 pub fill-table-spec : {M : Type 1} → statement M
 fill-table-spec =
@@ -95,22 +23,22 @@ fill-table-spec =
     (tie.spec
     Inv-loop
     μ-loop
-    loop-holds
-    mul-value-of
-    shared-slice-read-value-of
-    mul-value-of-2
-    mul-value-of-3
-    shared-slice-read-value-of-2
-    value-of-requires
-    mul-index
-    add-index
-    cast-index
-    mul-add-key
-    add-key-requires
-    add-i
-    loop-less
-    loop-again
-    same-length
-    same-length-2
-    same-length-3
-    returns)
+    (λ c. (omega arith, table-none (c .before .before .before .before .before .before .before .pre .1)))
+    (λ c. omega arith)
+    (λ c. omega (arith, c .before .before .before .before .before .before .before .before .before .before .pre .0 .0))
+    (λ c. omega arith)
+    (λ c. omega arith)
+    (λ c. omega (arith, c .before .before .before .before .before .before .before .before .before .before .before .pre .0 .1))
+    (λ c κs. search needs)
+    (λ c. omega arith)
+    (λ c. omega arith)
+    (λ c. omega arith)
+    (λ c. omega arith)
+    (λ c κs. (c .before .before .before .before .before .before .before .loop .inv .1 .arrays, omega (arith, c .before .before .before .before .before .before .before .loop .inv .1 .no-more), omega arith, omega arith, subst Storable (sym (c .before .before .before .value-of .ensures)) (valueOf-stores _ _ (omega (arith, c .before .before .before .before .shared-slice-known6 .given (2 * c .before .before .before .before .before .before .before .loop .i))))))
+    (λ c. omega arith)
+    (λ c. omega arith)
+    (λ c. (omega arith, table-more (c .before .before .before .before .before .before .before .before .before .before .before .before .before .before .loop .inv .1) (omega arith) (c .before .before .before .before .before .before .before .before .before .before .value-of .ensures) refl (c .before .before .before .before .before .before .add-key .ensures)))
+    (λ c. c .before .loop .inv .1 .arrays .kinds-long ∙ sym (c .before .before .before .before .before .before .before .before .before .pre .1 .kinds-long))
+    (λ c. c .before .loop .inv .1 .arrays .keys-long ∙ sym (c .before .before .before .before .before .before .before .before .before .pre .1 .keys-long))
+    (λ c. c .before .loop .inv .1 .arrays .indices-long ∙ sym (c .before .before .before .before .before .before .before .before .before .pre .1 .indices-long))
+    (λ c. table-all (c .before .loop .inv .1) (omega arith)))

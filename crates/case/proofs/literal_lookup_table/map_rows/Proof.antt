@@ -1,69 +1,20 @@
+-- `map_rows` puts the literal at the index of each row's base in the row's slot. The loop's invariant: so far it is there.
+use mathlib.Core.Path.{_∙_}
+use Prim.Native.Nat.{_-_}
+use native.Mathlib.Omega.{arith}
+use denote.Ref.{now}
+use Rattle.scalar.specs.Value.{meaning}
+use Rattle.case.specs.LookUpTables.{keyIndex, MappedBy}
+use Rattle.case.proofs.RowsLaws.{FilledSoFar, none-yet, ends, row-in, row-fits, slot-fresh, next}
+use Rattle.case.proofs.LookUpLaws.{index-below, mapped-row}
 use Rattle.case.proofs.literal_lookup_table.map_rows.Statement.{statement}
 use Rattle.case.proofs.literal_lookup_table.map_rows.Tie as tie
-use Rattle.case.proofs.literal_lookup_table.map_rows.Reads as reads
-use Rattle.case.proofs.literal_lookup_table.map_rows.Lts as lts
-use Rattle.case.proofs.literal_lookup_table.map_to_when_index.Reads as map-to-when-index-reads
-use Rattle.case.proofs.rows.row_at.Reads as row-at-reads
-use Rattle.case.proofs.slot.get_slot.Reads as get-slot-reads
-use Rattle.case.proofs.slot.put_parts.Reads as put-parts-reads
 
 abbrev Inv-loop : tie.InvT-loop
-Inv-loop rule table literal-kinds payloads kinds keys indices size otherwise work₀ n i₀ work i = ?
+Inv-loop rule table literal-kinds payloads kinds keys indices size otherwise work₀ n i₀ work i = FilledSoFar (MappedBy rule table literal-kinds payloads (keyIndex rule table kinds keys indices size otherwise) otherwise work₀) work₀ n i work
 
 abbrev μ-loop : tie.MeasureT-loop
-μ-loop rule table literal-kinds payloads kinds keys indices size otherwise work₀ n i₀ work i = ?
-
--- src/literal_lookup_table.rt:166:5
-loop-holds : tie.Need-loop-holds Inv-loop μ-loop
-loop-holds c = ?
-
--- src/literal_lookup_table.rt:167:13
-row-at-requires : tie.Need-row-at-requires Inv-loop μ-loop
-row-at-requires c κs = ?
-
--- src/literal_lookup_table.rt:168:13
-get-slot-requires : tie.Need-get-slot-requires Inv-loop μ-loop
-get-slot-requires c κs = ?
-
--- src/literal_lookup_table.rt:169:13
-map-to-when-index-requires : tie.Need-map-to-when-index-requires Inv-loop μ-loop
-map-to-when-index-requires c κs = ?
-
--- src/literal_lookup_table.rt:170:28
-shared-slice-read-put-parts : tie.Need-shared-slice-read-put-parts Inv-loop μ-loop
-shared-slice-read-put-parts c = ?
-
--- src/literal_lookup_table.rt:170:46
-mul-put-parts : tie.Need-mul-put-parts Inv-loop μ-loop
-mul-put-parts c = ?
-
--- src/literal_lookup_table.rt:170:46
-shared-slice-read-put-parts-2 : tie.Need-shared-slice-read-put-parts-2 Inv-loop μ-loop
-shared-slice-read-put-parts-2 c = ?
-
--- src/literal_lookup_table.rt:170:9
-put-parts-requires : tie.Need-put-parts-requires Inv-loop μ-loop
-put-parts-requires c κs = ?
-
--- src/literal_lookup_table.rt:171:9
-add-i : tie.Need-add-i Inv-loop μ-loop
-add-i c = ?
-
--- src/literal_lookup_table.rt:166:5
-loop-less : tie.Need-loop-less Inv-loop μ-loop
-loop-less c = ?
-
--- src/literal_lookup_table.rt:166:5
-loop-again : tie.Need-loop-again Inv-loop μ-loop
-loop-again c = ?
-
--- src/literal_lookup_table.rt:148:1
-same-length : tie.Need-same-length Inv-loop μ-loop
-same-length c = ?
-
--- src/literal_lookup_table.rt:148:1
-returns : tie.Need-returns Inv-loop μ-loop
-returns c = ?
+μ-loop rule table literal-kinds payloads kinds keys indices size otherwise work₀ n i₀ work i = n - i
 
 pub map-rows-spec : {M : Type 1} → statement M
 map-rows-spec =
@@ -71,16 +22,16 @@ map-rows-spec =
     (tie.spec
     Inv-loop
     μ-loop
-    loop-holds
-    row-at-requires
-    get-slot-requires
-    map-to-when-index-requires
-    shared-slice-read-put-parts
-    mul-put-parts
-    shared-slice-read-put-parts-2
-    put-parts-requires
-    add-i
-    loop-less
-    loop-again
-    same-length
-    returns)
+    (λ c. none-yet)
+    (λ c κs. row-in (c .before .before .loop .inv) (c .before .before .before .before .before .before .before .before .before .before .before .pre .1) (c .before .loop-test .taken))
+    (λ c κs. row-fits (c .before .before .before .before .loop .inv) (c .before .before .before .before .before .before .before .before .before .before .before .before .before .pre .1) (c .before .before .before .loop-test .taken) (c .before .row-at .ensures))
+    (λ c κs. (c .before .before .before .before .before .before .before .before .before .before .before .before .before .before .pre .0 .3, c .before .before .before .before .before .before .before .before .before .before .before .before .before .before .pre .0 .2))
+    (λ c. omega (arith, index-below (now (c .before .before .before .before .before .before .before .before .before .before .before .before .before .before .before .before .before .args .rule)) (now (c .before .before .before .before .before .before .before .before .before .before .before .before .before .before .before .before .before .args .table)) (c .before .before .before .before .before .before .before .before .before .before .before .before .before .before .before .before .before .pre .0 .3) (c .before .before .before .get-slot .result) (c .before .before .map-to-when-index .ensures) (c .before .before .before .before .before .before .before .before .before .before .before .before .before .before .before .before .before .pre .0 .2), c .before .before .before .before .before .before .before .before .before .before .before .before .before .before .before .before .before .pre .0 .0))
+    (λ c. omega (arith, index-below (now (c .before .before .before .before .before .before .before .before .before .before .before .before .before .before .before .before .before .args .rule)) (now (c .before .before .before .before .before .before .before .before .before .before .before .before .before .before .before .before .before .args .table)) (c .before .before .before .before .before .before .before .before .before .before .before .before .before .before .before .before .before .pre .0 .3) (c .before .before .before .get-slot .result) (c .before .before .map-to-when-index .ensures) (c .before .before .before .before .before .before .before .before .before .before .before .before .before .before .before .before .before .pre .0 .2)))
+    (λ c. omega (arith, index-below (now (c .before .before .before .before .before .before .before .before .before .before .before .before .before .before .before .before .before .before .args .rule)) (now (c .before .before .before .before .before .before .before .before .before .before .before .before .before .before .before .before .before .before .args .table)) (c .before .before .before .before .before .before .before .before .before .before .before .before .before .before .before .before .before .before .pre .0 .3) (c .before .before .before .before .get-slot .result) (c .before .before .before .map-to-when-index .ensures) (c .before .before .before .before .before .before .before .before .before .before .before .before .before .before .before .before .before .before .pre .0 .2), c .before .before .before .before .before .before .before .before .before .before .before .before .before .before .before .before .before .before .pre .0 .1))
+    (λ c κs. row-fits (c .before .before .before .before .before .before .before .before .before .loop .inv) (c .before .before .before .before .before .before .before .before .before .before .before .before .before .before .before .before .before .before .pre .1) (c .before .before .before .before .before .before .before .before .loop-test .taken) (c .before .before .before .before .before .before .row-at .ensures))
+    (λ c. omega arith)
+    (λ c. omega arith)
+    (λ c. next (c .before .before .before .before .before .before .before .before .before .before .before .before .loop .inv) (c .before .before .before .before .before .before .before .before .before .before .before .before .before .before .before .before .before .before .before .before .before .pre .1) (c .before .before .before .before .before .before .before .before .before .before .before .loop-test .taken) (c .before .before .before .before .before .before .before .before .before .row-at .ensures) (c .before .before .put-parts .ensures) (mapped-row (now (c .before .before .before .before .before .before .before .before .before .before .before .before .before .before .before .before .before .before .before .before .before .args .rule)) (now (c .before .before .before .before .before .before .before .before .before .before .before .before .before .before .before .before .before .before .before .before .before .args .table)) (now (c .before .before .before .before .before .before .before .before .before .before .before .before .before .before .before .before .before .before .before .before .before .args .literal-kinds)) (now (c .before .before .before .before .before .before .before .before .before .before .before .before .before .before .before .before .before .before .before .before .before .args .payloads)) (keyIndex (now (c .before .before .before .before .before .before .before .before .before .before .before .before .before .before .before .before .before .before .before .before .before .args .rule)) (now (c .before .before .before .before .before .before .before .before .before .before .before .before .before .before .before .before .before .before .before .before .before .args .table)) (now (c .before .before .before .before .before .before .before .before .before .before .before .before .before .before .before .before .before .before .before .before .before .args .kinds)) (now (c .before .before .before .before .before .before .before .before .before .before .before .before .before .before .before .before .before .before .before .before .before .args .keys)) (now (c .before .before .before .before .before .before .before .before .before .before .before .before .before .before .before .before .before .before .before .before .before .args .indices)) (c .before .before .before .before .before .before .before .before .before .before .before .before .before .before .before .before .before .before .before .before .before .args .size) (c .before .before .before .before .before .before .before .before .before .before .before .before .before .before .before .before .before .before .before .before .before .args .otherwise)) (c .before .before .before .before .before .before .before .before .before .before .before .before .before .before .before .before .before .before .before .before .before .args .otherwise) (c .before .before .before .before .before .before .before .get-slot .ensures .0 ∙ slot-fresh (c .before .before .before .before .before .before .before .before .before .before .before .before .loop .inv) (c .before .before .before .before .before .before .before .before .before .before .before .before .before .before .before .before .before .before .before .before .before .pre .1) (c .before .before .before .before .before .before .before .before .before .before .before .loop-test .taken) (c .before .before .before .before .before .before .before .before .before .row-at .ensures)) (c .before .before .before .before .before .before .map-to-when-index .ensures)))
+    (λ c. c .before .loop .inv .done .long)
+    (λ c. ends (c .before .loop .inv) (omega arith)))

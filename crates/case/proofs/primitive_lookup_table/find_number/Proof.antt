@@ -6,6 +6,7 @@ use Prim.Native.Nat.{ℕ, _-_}
 use native.Mathlib.Omega.{arith}
 use lib.Dec.{eqb}
 use lib.ListN.{getD}
+use denote.Ref.{now}
 use borrow.Author.Tests.{eq-eqb, ne-eqb}
 use Rattle.case.proofs.LookUpLaws.{Searching, search-starts, search-misses, search-hits, search-ends, kind-differs, payload-differs}
 use Rattle.case.proofs.primitive_lookup_table.find_number.Statement.{statement}
@@ -18,7 +19,7 @@ abbrev μ-loop : tie.MeasureT-loop
 μ-loop kinds keys indices size otherwise kind payload k₀ k = size - k
 
 loop-again : tie.Need-loop-again Inv-loop μ-loop
-loop-again c = search-misses (c .before .before .before .loop .inv) (omega arith) (⊎-elim (λ w. kind-differs _ _ (ne-eqb _ _ (w .2 .left))) (λ w. payload-differs _ _ (ne-eqb _ _ (w .left))) (c .if2 .came))
+loop-again c = search-misses (c .before .before .before .loop .inv) (omega arith) (⊎-elim (λ w. kind-differs _ _ (ne-eqb _ _ (w .2 .left))) (λ w. payload-differs (eqb (c .before .before .before .before .args .kind) (getD (now (c .before .before .before .before .args .kinds)) (c .before .before .before .loop .k) 0)) _ (ne-eqb _ _ (w .left))) (c .if2 .came))
 
 pub find-number-spec : {M : Type 1} → statement M
 find-number-spec =
