@@ -5,6 +5,7 @@ pub mod BuilderLaws
 pub mod SlotLaws
 pub mod RowsLaws
 pub mod LookUpLaws
+pub mod LookUpTrees
 pub mod AnswerLaws
 pub mod RowsTyped
 pub mod DemandsHold

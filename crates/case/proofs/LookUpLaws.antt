@@ -92,7 +92,7 @@ found-none same index otherwise zero k p = refl
 found-none same index otherwise (suc n) k p = rw (p k) (found-none same index otherwise n (suc k) p)
 
 -- what is found is no more than the ELSE index
-found-below : (same : ℕ → Bool) (index : ℕ → ℕ) (otherwise n k : ℕ) → ((i : ℕ) → i < k + n → index i < otherwise) → found same index k n otherwise ≤ otherwise
+pub found-below : (same : ℕ → Bool) (index : ℕ → ℕ) (otherwise n k : ℕ) → ((i : ℕ) → i < k + n → index i < otherwise) → found same index k n otherwise ≤ otherwise
 unfolding found
 found-below same index otherwise zero k h = omega arith
 found-below same index otherwise (suc n) k h = go (same k) (found-below same index otherwise n (suc k) (λ i p. h i (omega arith)))
@@ -104,7 +104,7 @@ found-below same index otherwise (suc n) k h = go (same k) (found-below same ind
 -- ---- equal keys
 
 -- nothing both holds and fails
-never : {A : Type 0} → false ≡ true → A
+pub never : {A : Type 0} → false ≡ true → A
 never p = let z : _≡_ {A = ℕ} 0 1 = cc in absurd (omega arith)
 
 true-agrees : (p : Pair) → isTrue (equalPair p) ≡ true → agreePair p ≡ true
