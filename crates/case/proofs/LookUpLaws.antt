@@ -12,7 +12,8 @@ use lib.Dec.{eqb}
 use lib.ListN.{length, getD, set, length-set}
 use lib.Seq.{getD-set-same, getD-set-other}
 use borrow.Author.Tests.{eq-eqb, ne-eqb, eqb-true, eqb-false}
-use types.Run.{OneOf, miss}
+use lib.Ieee.{Float}
+use types.Run.{OneOf, hit, miss}
 use denote.Enum.Declared.{tagOf}
 use Rattle.scalar.specs.declared.value.Value.{Value}
 use Rattle.scalar.specs.declared.value.Value.the-variants.{Null, Boolean, Int32, Int64, Float64, Nan, RuleText, TableText, Failed}
@@ -24,6 +25,8 @@ use Rattle.scalar.specs.Text.{sameBytes}
 use Rattle.scalar.specs.Value.{meaning, valueOf, kindOf, payloadOf, placeText, Storable}
 use Rattle.scalar.proofs.ValueLaws.{payload-back}
 use Rattle.scalar.proofs.EntryLaws.{agree-eq}
+use Rattle.case.specs.declared.boolean_lookup_table.BooleanIndexMap.{BooleanIndexMap}
+use Rattle.case.specs.LookUpBooleans.{BooleansOf}
 use Rattle.case.specs.LookUpTables.{sameKey, found, valueAt, keyIndex, whenIndex, baseIndex, numberIndex, Keys, TableOf, Added}
 
 -- ---- a search
@@ -265,6 +268,32 @@ module _ (rule table : List ℕ) {kinds keys indices : List ℕ} {size otherwise
       p
       ∙ found-same otherwise size 0 (λ i l. ap₂ _&&_ (ap₂ eqb a (sym (t .kind-is i (omega arith)))) (ap₂ eqb b (sym (t .payload-is i (omega arith)))) ∙ sym (number-same rule table v h (valueAt kinds keys i))) (λ i l. refl)
       ∙ number-entry rule table v h (keyIndex rule table kinds keys indices size otherwise) otherwise
+
+  -- each number by its own table
+  told-index : {v : Value} (w : Value) {r : ℕ} → v ≡ w → Number w → r ≡ numberIndex kinds keys indices size otherwise (kindOf w) (payloadOf w)
+      → r ≡ baseIndex (keyIndex rule table kinds keys indices size otherwise) otherwise (meaning rule table v)
+  told-index w e h p =
+      number-index w h refl refl p ∙ sym (ap (λ (x : Value). baseIndex (keyIndex rule table kinds keys indices size otherwise) otherwise (meaning rule table x)) e)
+
+  pub int32-index : {v : Value} {n r : ℕ} → v ≡ Int32 n → r ≡ numberIndex kinds keys indices size otherwise 2 n
+      → r ≡ baseIndex (keyIndex rule table kinds keys indices size otherwise) otherwise (meaning rule table v)
+  int32-index {n = n} e p = told-index (Int32 n) e (hit (1 ∷ 2 ∷ 3 ∷ 4 ∷ 5 ∷ []) 2 tt) p
+
+  pub int64-index : {v : Value} {n r : ℕ} → v ≡ Int64 n → r ≡ numberIndex kinds keys indices size otherwise 3 n
+      → r ≡ baseIndex (keyIndex rule table kinds keys indices size otherwise) otherwise (meaning rule table v)
+  int64-index {n = n} e p = told-index (Int64 n) e (hit (1 ∷ 2 ∷ 3 ∷ 4 ∷ 5 ∷ []) 3 tt) p
+
+  pub float64-index : {v : Value} {f : Float} {bits r : ℕ} → v ≡ Float64 f → bits ≡ payloadOf (Float64 f) → r ≡ numberIndex kinds keys indices size otherwise 4 bits
+      → r ≡ baseIndex (keyIndex rule table kinds keys indices size otherwise) otherwise (meaning rule table v)
+  float64-index {f = f} e q p = told-index (Float64 f) e (hit (1 ∷ 2 ∷ 3 ∷ 4 ∷ 5 ∷ []) 4 tt) (p ∙ ap (numberIndex kinds keys indices size otherwise 4) q)
+
+  pub boolean-index : {v : Value} {b : Bool} {m : BooleanIndexMap} {r : ℕ} → v ≡ Boolean b → BooleansOf kinds keys indices size otherwise m → r ≡ cond b (m .«true_index») (m .«false_index»)
+      → r ≡ baseIndex (keyIndex rule table kinds keys indices size otherwise) otherwise (meaning rule table v)
+  boolean-index {b = b} {m} {r} e both p = told-index (Boolean b) e (hit (1 ∷ 2 ∷ 3 ∷ 4 ∷ 5 ∷ []) 1 tt) (p ∙ go b)
+    where
+      go : (x : Bool) → cond x (m .«true_index») (m .«false_index») ≡ numberIndex kinds keys indices size otherwise 1 (payloadOf (Boolean x))
+      go true = both .of-true
+      go false = both .of-false
 
   -- an index lies in the arrays of the literals
   pub index-below : {r : ℕ} (v : Value) → r ≡ baseIndex (keyIndex rule table kinds keys indices size otherwise) otherwise (meaning rule table v) → otherwise < 511 → r < 512

@@ -10,6 +10,7 @@ pub mod Choosing
 pub mod Taking
 pub mod LookUp
 pub mod LookUpTables
+pub mod LookUpBooleans
 pub mod Write
 pub mod Cases
 pub mod Demands

@@ -1,5 +1,8 @@
 // CASE base WHEN literal THEN literal .. ELSE literal END, by a table of the WHENs: a row's base is searched once, and the row has the literal that stands
 // at the index found.
+use crate::boolean_lookup_table::BooleanIndexMap;
+use crate::boolean_lookup_table::boolean_index_map;
+use crate::boolean_lookup_table::map_boolean;
 use crate::bytes_like_lookup_table::find_text;
 use crate::primitive_lookup_table::find_number;
 use crate::rows::row_at;
@@ -10,6 +13,7 @@ use rule::walk::field_end;
 use scalar::text::place_text;
 use scalar::types::DataType;
 use scalar::value::Value;
+use scalar::value::float_bits;
 use scalar::value::kind;
 use scalar::value::payload;
 use scalar::value::value_of;
@@ -19,6 +23,7 @@ ghost use lib.ListN.{length, getD};
 ghost use Rattle.scalar.specs.Value.{meaning, Storable};
 ghost use Rattle.case.specs.Frame.{Fillable, Filled};
 ghost use Rattle.case.specs.LookUp.{LookedUp};
+ghost use Rattle.case.specs.LookUpBooleans.{BooleansOf};
 ghost use Rattle.case.specs.LookUpTables.{Keys, TableOf, Added, LiteralsRead, MappedBy, keyIndex, baseIndex};
 
 // The literals at a place, at most so many, and behind them a failure.
@@ -144,6 +149,39 @@ fn fill_table(
     size
 }
 
+// The same index by the tables of Boolean and of number keys, where the value is one.
+fn base_index(
+    rule: &[u8],
+    table: &[u8],
+    kinds: &[u8],
+    keys: &[u64],
+    indices: &[u16],
+    size: usize,
+    otherwise: usize,
+    booleans: BooleanIndexMap,
+    v: Value,
+) -> usize
+    requires { ⌜ Keys (now kinds) (now keys) (now indices) size otherwise × (otherwise < 511) × BooleansOf (now kinds) (now keys) (now indices) size otherwise booleans ⌝ }
+    ensures { λ r. ⌜ r ≡ baseIndex (keyIndex (now (rule .entry)) (now (table .entry)) (now (kinds .entry)) (now (keys .entry)) (now (indices .entry)) size otherwise) otherwise (meaning (now (rule .entry)) (now (table .entry)) v) ⌝ }
+{
+    match v {
+        Value::Null => otherwise,
+        Value::Boolean(b) => map_boolean(booleans, b),
+        Value::Int32(n) => find_number(kinds, keys, indices, size, otherwise, 2, n as u64),
+        Value::Int64(n) => find_number(kinds, keys, indices, size, otherwise, 3, n),
+        Value::Float64(f) => find_number(
+            kinds,
+            keys,
+            indices,
+            size,
+            otherwise,
+            4,
+            float_bits(f),
+        ),
+        _ => map_to_when_index(rule, table, kinds, keys, indices, size, otherwise, v),
+    }
+}
+
 // The literal of each listed row's base, in the row's slot.
 fn map_rows(
     rule: &[u8],
@@ -155,10 +193,11 @@ fn map_rows(
     indices: &[u16],
     size: usize,
     otherwise: usize,
+    booleans: BooleanIndexMap,
     work: &mut [u8],
     n: usize,
 )
-    requires { ⌜ (length (now «literal_kinds») ≡ 512) × (length (now payloads) ≡ 512) × (otherwise < 511) × Keys (now kinds) (now keys) (now indices) size otherwise ⌝ }
+    requires { ⌜ (length (now «literal_kinds») ≡ 512) × (length (now payloads) ≡ 512) × (otherwise < 511) × Keys (now kinds) (now keys) (now indices) size otherwise × BooleansOf (now kinds) (now keys) (now indices) size otherwise booleans ⌝ }
     requires { ⌜ Fillable (now work) n ⌝ }
     ensures { λ _. ⌜ Filled (MappedBy (now (rule .entry)) (now (table .entry)) (now («literal_kinds» .entry)) (now (payloads .entry)) (keyIndex (now (rule .entry)) (now (table .entry)) (now (kinds .entry)) (now (keys .entry)) (now (indices .entry)) size otherwise) otherwise (now (work .entry))) (now (work .entry)) n (now (work .exit)) ⌝ }
 {
@@ -166,7 +205,17 @@ fn map_rows(
     while i < n {
         let r = row_at(work, 0, i);
         let v = get_slot(work, r);
-        let j = map_to_when_index(rule, table, kinds, keys, indices, size, otherwise, v);
+        let j = base_index(
+            rule,
+            table,
+            kinds,
+            keys,
+            indices,
+            size,
+            otherwise,
+            booleans,
+            v,
+        );
         put_parts(work, r, literal_kinds[j], payloads[j]);
         i += 1;
     }
@@ -205,6 +254,7 @@ pub(crate) fn look_up(
         &mut keys,
         &mut indices,
     );
+    let booleans = boolean_index_map(&kinds, &keys, &indices, size, otherwise);
     map_rows(
         rule,
         table,
@@ -215,6 +265,7 @@ pub(crate) fn look_up(
         &indices,
         size,
         otherwise,
+        booleans,
         work,
         n,
     );
