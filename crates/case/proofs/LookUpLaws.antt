@@ -432,6 +432,12 @@ module _ (rule table : List ℕ) {v : Value} {index otherwise : ℕ} {kinds keys
           ∙ ap₂ (λ (x y : ℕ). cond (eqb x otherwise) (cond (sameKey o (meaning rule table (valueAt kinds′ keys′ size))) y otherwise) x) (still o) index-new
           ∙ ap (λ (x : Value). cond (eqb (keyIndex rule table kinds keys indices size otherwise o) otherwise) (cond (sameKey o (meaning rule table x)) index otherwise) (keyIndex rule table kinds keys indices size otherwise o)) value-new
 
+-- by the value that was made of its kind and payload
+pub added-value : {rule table : List ℕ} {v w : Value} {index otherwise : ℕ} {ks ps is ks′ ps′ is′ : List ℕ} {size size′ : ℕ} → v ≡ w
+    → Added rule table v index otherwise ks ps is size ks′ ps′ is′ size′ → Added rule table w index otherwise ks ps is size ks′ ps′ is′ size′
+added-value {rule} {table} {index = index} {otherwise} {ks} {ps} {is} {ks′} {ps′} {is′} {size} {size′} e a =
+    subst (λ (x : Value). Added rule table x index otherwise ks ps is size ks′ ps′ is′ size′) e a
+
 -- ---- the table of the WHENs
 
 module _ {rule table kinds payloads : List ℕ} {otherwise : ℕ} where
@@ -440,10 +446,10 @@ module _ {rule table kinds payloads : List ℕ} {otherwise : ℕ} where
   table-none t = record { arrays = no-keys otherwise t; no-more = omega arith; right = λ b. refl }
 
   -- one WHEN more
-  pub table-more : {n : ℕ} {ks ps is ks′ ps′ is′ : List ℕ} {size size′ index : ℕ} {v : Value} → TableOf rule table kinds payloads n otherwise ks ps is size → 2 * n + 1 < otherwise
+  when-more : {n : ℕ} {ks ps is ks′ ps′ is′ : List ℕ} {size size′ index : ℕ} {v : Value} → TableOf rule table kinds payloads n otherwise ks ps is size → 2 * n + 1 < otherwise
       → v ≡ valueAt kinds payloads (2 * n) → index ≡ 2 * n + 1 → Added rule table v index otherwise ks ps is size ks′ ps′ is′ size′
       → TableOf rule table kinds payloads (n + 1) otherwise ks′ ps′ is′ size′
-  table-more {n} {ks} {ps} {is} {ks′} {ps′} {is′} {size} {size′} {index} {v} t small e i added = record {
+  when-more {n} {ks} {ps} {is} {ks′} {ps′} {is′} {size} {size′} {index} {v} t small e i added = record {
     arrays = added .arrays;
     no-more = omega (arith, t .no-more, added .one-more);
     right = λ b. added .right b
@@ -452,8 +458,15 @@ module _ {rule table kinds payloads : List ℕ} {otherwise : ℕ} where
         ∙ sym (found-more (λ k. sameKey b (meaning rule table (valueAt kinds payloads (2 * k)))) (λ k. 2 * k + 1) otherwise n (λ k l p. omega arith));
   }
 
+  -- the next WHEN, at its place
+  pub table-more : (place : ℕ) {n m : ℕ} {ks ps is ks′ ps′ is′ : List ℕ} {size size′ : ℕ} → TableOf rule table kinds payloads n otherwise ks ps is size → place ≡ 2 * n → place + 1 < otherwise
+      → n + 1 ≡ m → Added rule table (valueAt kinds payloads place) (place + 1) otherwise ks ps is size ks′ ps′ is′ size′
+      → TableOf rule table kinds payloads m otherwise ks′ ps′ is′ size′
+  table-more place {n} {m} {ks′ = ks′} {ps′} {is′} {size′ = size′} t at-when small next added =
+      subst (λ (x : ℕ). TableOf rule table kinds payloads x otherwise ks′ ps′ is′ size′) next (when-more t (omega arith) (ap (valueAt kinds payloads) at-when) (omega arith) added)
+
   pub table-all : {n m : ℕ} {ks ps is : List ℕ} {size : ℕ} → TableOf rule table kinds payloads n otherwise ks ps is size → n ≡ m → TableOf rule table kinds payloads m otherwise ks ps is size
-  table-all {n} {m} {ks} {ps} {is} {size} t e = subst (λ (x : ℕ). TableOf rule table kinds payloads x otherwise ks ps is size) e t
+  table-all {ks = ks} {ps} {is} {size} t e = subst (λ (x : ℕ). TableOf rule table kinds payloads x otherwise ks ps is size) e t
 
 -- ---- rows
 

@@ -20,7 +20,7 @@ use scalar::value::value_of;
 ghost use mathlib.Core.Path.{_≡_};
 ghost use Prim.Native.Nat.{ℕ, _+_, _*_, _<_, _≤_};
 ghost use lib.ListN.{length, getD};
-ghost use Rattle.scalar.specs.Value.{meaning, Storable};
+ghost use Rattle.scalar.specs.Value.{meaning, valueOf};
 ghost use Rattle.case.specs.Frame.{Fillable, Filled};
 ghost use Rattle.case.specs.LookUp.{LookedUp};
 ghost use Rattle.case.specs.LookUpBooleans.{BooleansOf};
@@ -95,11 +95,12 @@ fn map_to_when_index(
     }
 }
 
-// How many keys there are after a WHEN: a null WHEN is dropped, and of equal keys the first is kept.
+// How many keys there are after a WHEN of a kind and a payload: a null WHEN is dropped, and of equal keys the first is kept.
 fn add_key(
     rule: &[u8],
     table: &[u8],
-    v: Value,
+    code: u8,
+    key: u64,
     index: u16,
     otherwise: usize,
     kinds: &mut [u8],
@@ -107,9 +108,10 @@ fn add_key(
     indices: &mut [u16],
     size: usize,
 ) -> usize
-    requires { ⌜ Keys (now kinds) (now keys) (now indices) size otherwise × (size < 255) × (index < otherwise) × (otherwise < 511) × Storable v ⌝ }
-    ensures { λ r. ⌜ Added (now (rule .entry)) (now (table .entry)) v index otherwise (now (kinds .entry)) (now (keys .entry)) (now (indices .entry)) size (now (kinds .exit)) (now (keys .exit)) (now (indices .exit)) r ⌝ }
+    requires { ⌜ Keys (now kinds) (now keys) (now indices) size otherwise × (size < 255) × (index < otherwise) × (otherwise < 511) ⌝ }
+    ensures { λ r. ⌜ Added (now (rule .entry)) (now (table .entry)) (valueOf code key) index otherwise (now (kinds .entry)) (now (keys .entry)) (now (indices .entry)) size (now (kinds .exit)) (now (keys .exit)) (now (indices .exit)) r ⌝ }
 {
+    let v = value_of(code, key);
     if kind(v) == 0 {
         return size;
     }
@@ -138,13 +140,25 @@ fn fill_table(
     requires { ⌜ Keys (now kinds) (now keys) (now indices) 0 0 ⌝ }
     ensures { λ r. ⌜ TableOf (now (rule .entry)) (now (table .entry)) (now («literal_kinds» .entry)) (now (payloads .entry)) count (2 * count) (now (kinds .exit)) (now (keys .exit)) (now (indices .exit)) r ⌝ }
 {
+    let otherwise = 2 * count;
     let mut size = 0;
-    let mut i = 0;
-    while i < count {
-        let v = value_of(literal_kinds[2 * i], payloads[2 * i]);
-        let index = (2 * i + 1) as u16;
-        size = add_key(rule, table, v, index, 2 * count, kinds, keys, indices, size);
-        i += 1;
+    let mut left = count;
+    while left > 0 {
+        let place = otherwise - 2 * left;
+        let index = (place + 1) as u16;
+        size = add_key(
+            rule,
+            table,
+            literal_kinds[place],
+            payloads[place],
+            index,
+            otherwise,
+            kinds,
+            keys,
+            indices,
+            size,
+        );
+        left -= 1;
     }
     size
 }
