@@ -11,16 +11,16 @@ use native.Mathlib.Omega.{arith}
 use lib.Dec.{eqb}
 use lib.ListN.{length, getD, set, length-set}
 use lib.Seq.{getD-set-same, getD-set-other}
-use borrow.Author.Tests.{eq-eqb, ne-eqb, eqb-true, eqb-false}
+use borrow.Author.Tests.{eq-eqb, ne-eqb, eqb-true}
 use lib.Ieee.{Float}
 use types.Run.{OneOf, hit, miss}
 use denote.Enum.Declared.{tagOf}
 use Rattle.scalar.specs.declared.value.Value.{Value}
 use Rattle.scalar.specs.declared.value.Value.the-variants.{Null, Boolean, Int32, Int64, Float64, Nan, RuleText, TableText, Failed}
 use Rattle.scalar.proofs.value.Value.{the-type}
-use Rattle.scalar.specs.Entry.{Entry, null, boolean, int32, int64, float64, utf8, Outcome, entry, unfit, isTrue, onEntries}
+use Rattle.scalar.specs.Entry.{null, boolean, int32, int64, float64, utf8, Outcome, entry, unfit, isTrue}
 use Rattle.scalar.specs.Pair.{Pair, bothNull, oneNull, unlike, booleans, int32s, int64s, float64s, texts, pairOf, agreePair}
-use Rattle.scalar.specs.Compare.{equalPair, equalEntry}
+use Rattle.scalar.specs.Compare.{equalPair}
 use Rattle.scalar.specs.Text.{sameBytes}
 use Rattle.scalar.specs.Value.{meaning, valueOf, kindOf, payloadOf, placeText, Storable}
 use Rattle.scalar.proofs.ValueLaws.{payload-back}

@@ -6,15 +6,14 @@ use Prim.Native.Nat.{ℕ, zero, suc, _+_, _-_, _*_, _<_, _≤_}
 use native.Mathlib.Nat.{add-zero}
 use native.Mathlib.Decide.{ℕ-discrete, decLt}
 use native.Mathlib.Omega.{arith}
-use lib.Dec.{eqb, ltb}
+use lib.Dec.{ltb}
 use lib.ListN.{length, getD, set, length-set, replicate}
 use lib.Seq.{getD-set-same, getD-set-other}
 use Rattle.layout.proofs.TestLaws.{both-hold}
 use Rattle.scalar.specs.declared.types.DataType.{DataType}
 use Rattle.scalar.specs.declared.types.DataType.the-variants as Of
 use Rattle.scalar.specs.declared.value.Value.{Value}
-use Rattle.scalar.specs.Types.{sameType}
-use Rattle.scalar.specs.Entry.{Entry, null, boolean, int32, int64, float64, utf8, Outcome, entry, unfit, isNull, isTrue, ofType}
+use Rattle.scalar.specs.Entry.{Entry, null, boolean, int32, int64, float64, utf8, Outcome, entry, unfit, isTrue, ofType}
 use Rattle.scalar.specs.Cast.{castEntry}
 use Rattle.scalar.specs.TryCast.{tryCastEntry}
 use Rattle.scalar.specs.Compare.{equalEntry}

@@ -4,7 +4,6 @@ use scalar::text::same_bytes;
 use scalar::value::Value;
 use scalar::value::value_of;
 ghost use mathlib.Core.Path.{_≡_};
-ghost use Prim.Native.Nat.{_<_};
 ghost use Rattle.scalar.specs.Entry.{entry, utf8};
 ghost use Rattle.scalar.specs.Value.{meaning};
 ghost use Rattle.case.specs.LookUpTables.{Keys, sameKey, keyIndex};

@@ -18,7 +18,7 @@ use scalar::value::kind;
 use scalar::value::payload;
 use scalar::value::value_of;
 ghost use mathlib.Core.Path.{_≡_};
-ghost use Prim.Native.Nat.{ℕ, _+_, _*_, _<_, _≤_};
+ghost use Prim.Native.Nat.{ℕ, _+_, _*_, _<_};
 ghost use lib.ListN.{length, getD};
 ghost use Rattle.scalar.specs.Value.{meaning, valueOf};
 ghost use Rattle.case.specs.Frame.{Fillable, Filled};
@@ -183,15 +183,7 @@ fn base_index(
         Value::Boolean(b) => map_boolean(booleans, b),
         Value::Int32(n) => find_number(kinds, keys, indices, size, otherwise, 2, n as u64),
         Value::Int64(n) => find_number(kinds, keys, indices, size, otherwise, 3, n),
-        Value::Float64(f) => find_number(
-            kinds,
-            keys,
-            indices,
-            size,
-            otherwise,
-            4,
-            float_bits(f),
-        ),
+        Value::Float64(f) => find_number(kinds, keys, indices, size, otherwise, 4, float_bits(f)),
         _ => map_to_when_index(rule, table, kinds, keys, indices, size, otherwise, v),
     }
 }
@@ -254,7 +246,14 @@ pub(crate) fn look_up(
     let otherwise = 2 * whens;
     let mut literal_kinds = [0u8; 512];
     let mut payloads = [0u64; 512];
-    read_literals(rule, at, end, otherwise + 1, &mut literal_kinds, &mut payloads);
+    read_literals(
+        rule,
+        at,
+        end,
+        otherwise + 1,
+        &mut literal_kinds,
+        &mut payloads,
+    );
     let mut kinds = [0u8; 256];
     let mut keys = [0u64; 256];
     let mut indices = [0u16; 256];

@@ -1,6 +1,5 @@
 // Number keys: Int32, Int64 and Float64, floats by bits.
 ghost use mathlib.Core.Path.{_≡_};
-ghost use Prim.Native.Nat.{_<_};
 ghost use Rattle.case.specs.LookUpTables.{Keys, numberIndex};
 
 // The index of the first key of this kind and this payload, or the ELSE index.

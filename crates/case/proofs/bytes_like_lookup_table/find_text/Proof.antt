@@ -1,12 +1,9 @@
 -- `find_text` breaks out at the first key that is the text. The loop's invariant: what is left gives the answer.
-use mathlib.Core.Path.{_≡_, sym, ap, _∙_}
-use mathlib.Core.List.{List}
 use Prim.Native.Nat.{ℕ, _-_}
 use native.Mathlib.Omega.{arith}
 use lib.ListN.{getD}
 use denote.Ref.{now}
 use borrow.Author.Needs.{needs}
-use Rattle.scalar.specs.declared.value.Value.{Value}
 use Rattle.scalar.specs.Entry.{entry, utf8}
 use Rattle.scalar.specs.Value.{meaning}
 use Rattle.case.specs.LookUpTables.{sameKey, valueAt}

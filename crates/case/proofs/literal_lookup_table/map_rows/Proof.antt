@@ -3,7 +3,6 @@ use mathlib.Core.Path.{_∙_}
 use Prim.Native.Nat.{_-_}
 use native.Mathlib.Omega.{arith}
 use denote.Ref.{now}
-use Rattle.scalar.specs.Value.{meaning}
 use Rattle.case.specs.LookUpTables.{keyIndex, MappedBy}
 use Rattle.case.proofs.RowsLaws.{FilledSoFar, none-yet, ends, row-in, row-fits, slot-fresh, next}
 use Rattle.case.proofs.LookUpLaws.{index-below, mapped-row}

@@ -1,6 +1,4 @@
 -- `map_to_when_index` searches a number by kind and payload and a text by its bytes; null has the ELSE index, a failure the one behind it.
-use mathlib.Core.Path.{_≡_, sym, ap, _∙_}
-use native.Mathlib.Omega.{arith}
 use denote.Ref.{now}
 use borrow.Author.Needs.{needs}
 use Rattle.case.proofs.LookUpLaws.{null-index, rule-text-index, table-text-index, failed-index, number-index}
