@@ -27,7 +27,7 @@ use Rattle.scalar.proofs.ValueLaws.{payload-back}
 use Rattle.scalar.proofs.EntryLaws.{agree-eq}
 use Rattle.case.specs.declared.boolean_lookup_table.BooleanIndexMap.{BooleanIndexMap}
 use Rattle.case.specs.LookUpBooleans.{BooleansOf}
-use Rattle.case.specs.LookUpTables.{sameKey, found, valueAt, keyIndex, whenIndex, baseIndex, numberIndex, Keys, TableOf, Added}
+use Rattle.case.specs.LookUpTables.{sameKey, found, valueAt, keyIndex, whenIndex, baseIndex, numberIndex, Keys, EachOnce, TableOf, Added}
 
 -- ---- a search
 
@@ -93,6 +93,19 @@ pub found-none : (same : ℕ → Bool) (index : ℕ → ℕ) (otherwise n k : �
 unfolding found
 found-none same index otherwise zero k p = refl
 found-none same index otherwise (suc n) k p = rw (p k) (found-none same index otherwise n (suc k) p)
+
+-- where nothing is found, none is the same
+found-nothing : (same : ℕ → Bool) (index : ℕ → ℕ) (otherwise n k : ℕ) → ((i : ℕ) → i < k + n → index i ≡ otherwise → ⊥) → found same index k n otherwise ≡ otherwise
+    → (i : ℕ) → k ≤ i → i < k + n → same i ≡ false
+unfolding found
+found-nothing same index otherwise zero k differ p i a b = absurd (omega arith)
+found-nothing same index otherwise (suc n) k differ p i a b =
+    go (same k) refl (ℕ-discrete i k) (λ q c. found-nothing same index otherwise n (suc k) (λ j h. differ j (omega arith)) q i c (omega arith))
+  where
+    go : (t : Bool) → same k ≡ t → Dec (i ≡ k) → (found same index (suc k) n otherwise ≡ otherwise → suc k ≤ i → same i ≡ false) → same i ≡ false
+    go true e d later = absurd (differ k (omega arith) (sym (ap (λ (x : Bool). cond x (index k) (found same index (suc k) n otherwise)) e) ∙ p))
+    go false e (yes d) later = ap same d ∙ e
+    go false e (no d) later = later (sym (ap (λ (x : Bool). cond x (index k) (found same index (suc k) n otherwise)) e) ∙ p) (omega arith)
 
 -- what is found is no more than the ELSE index
 pub found-below : (same : ℕ → Bool) (index : ℕ → ℕ) (otherwise n k : ℕ) → ((i : ℕ) → i < k + n → index i < otherwise) → found same index k n otherwise ≤ otherwise
@@ -317,11 +330,12 @@ no-keys otherwise t = record {
   below = λ k h. absurd (omega arith);
 }
 
-module _ (rule table : List ℕ) {v : Value} {index otherwise : ℕ} {kinds keys indices : List ℕ} {size : ℕ} (t : Keys kinds keys indices size otherwise) where
+module _ (rule table : List ℕ) {v : Value} {index otherwise : ℕ} {kinds keys indices : List ℕ} {size : ℕ} (t : Keys kinds keys indices size otherwise)
+    (once : EachOnce rule table kinds keys size) where
   -- a key that no base without an index equals changes nothing
   dropped : ((b : Outcome) → keyIndex rule table kinds keys indices size otherwise b ≡ otherwise → sameKey b (meaning rule table v) ≡ false)
       → Added rule table v index otherwise kinds keys indices size kinds keys indices size
-  dropped none = record { arrays = t; one-more = omega arith; right = λ b. go b (eqb (keyIndex rule table kinds keys indices size otherwise b) otherwise) refl }
+  dropped none = record { arrays = t; each-once = once; one-more = omega arith; right = λ b. go b (eqb (keyIndex rule table kinds keys indices size otherwise b) otherwise) refl }
     where
       go : (b : Outcome) (x : Bool) → eqb (keyIndex rule table kinds keys indices size otherwise b) otherwise ≡ x
           → keyIndex rule table kinds keys indices size otherwise b ≡ cond x (cond (sameKey b (meaning rule table v)) index otherwise) (keyIndex rule table kinds keys indices size otherwise b)
@@ -357,9 +371,10 @@ module _ (rule table : List ℕ) {v : Value} {index otherwise : ℕ} {kinds keys
       go o m i q false s = refl
 
   -- any other is added
-  pub key-added : {kind payload : ℕ} → size < 255 → index < otherwise → Storable v → kind ≡ kindOf v → payload ≡ payloadOf v
+  pub key-added : {kind payload nulled known : ℕ} → size < 255 → index < otherwise → Storable v → nulled ≡ kindOf v → (nulled ≡ 0 → ⊥)
+      → known ≡ baseIndex (keyIndex rule table kinds keys indices size otherwise) otherwise (meaning rule table v) → known ≡ otherwise → kind ≡ kindOf v → payload ≡ payloadOf v
       → Added rule table v index otherwise kinds keys indices size (set kinds size kind) (set keys size payload) (set indices size index) (size + 1)
-  key-added {kind} {payload} room small stores a b = record {
+  key-added {kind} {payload} {nulled} {known} room small stores kinded not-null searched unknown a b = record {
     arrays = record {
       kinds-long = length-set kinds size kind ∙ t .kinds-long;
       keys-long = length-set keys size payload ∙ t .keys-long;
@@ -368,6 +383,10 @@ module _ (rule table : List ℕ) {v : Value} {index otherwise : ℕ} {kinds keys
       kind-is = λ k h. kind-at k h (ℕ-discrete k size);
       payload-is = λ k h. payload-at k h (ℕ-discrete k size);
       below = λ k h. below-at k h (ℕ-discrete k size);
+    };
+    each-once = record {
+      no-null = λ k h. some-at k h (ℕ-discrete k size);
+      unlike = λ j k l h. unlike-at j k l h (ℕ-discrete k size);
     };
     one-more = omega arith;
     right = λ o. added-at o;
@@ -418,6 +437,23 @@ module _ (rule table : List ℕ) {v : Value} {index otherwise : ℕ} {kinds keys
       below-at k h (yes e) = subst (λ (x : ℕ). getD indices′ x 0 < otherwise) (sym e) (omega (arith, index-new))
       below-at k h (no e) = omega (arith, index-old k e, t .below k (omega arith))
 
+      some-at : (k : ℕ) → k < size + 1 → Dec (k ≡ size) → getD kinds′ k 0 ≡ 0 → ⊥
+      some-at k h (yes e) p = not-null (kinded ∙ sym kind-new ∙ ap (λ (x : ℕ). getD kinds′ x 0) (sym e) ∙ p)
+      some-at k h (no e) p = once .no-null k (omega arith) (sym (kind-old k e) ∙ p)
+
+      -- it equals no key before it
+      unknown-at : (o : Outcome) → known ≡ baseIndex (keyIndex rule table kinds keys indices size otherwise) otherwise o → (j : ℕ) → j < size → sameKey o (meaning rule table (valueAt kinds keys j)) ≡ false
+      unknown-at (entry e) p j h =
+          found-nothing (λ k. sameKey (entry e) (meaning rule table (valueAt kinds keys k))) (λ k. getD indices k 0) otherwise size 0 (λ i l q. let b = t .below i (omega arith) in omega arith) (sym p ∙ unknown) j (omega arith) (omega arith)
+      unknown-at unfit p j h = absurd (omega arith)
+
+      unlike-at : (j k : ℕ) → j < k → k < size + 1 → Dec (k ≡ size) → sameKey (meaning rule table (valueAt kinds′ keys′ k)) (meaning rule table (valueAt kinds′ keys′ j)) ≡ false
+      unlike-at j k l h (yes e) =
+          ap₂ (λ (x y : Value). sameKey (meaning rule table x) (meaning rule table y)) (ap (valueAt kinds′ keys′) e ∙ value-new) (value-old j (λ d. omega arith))
+          ∙ unknown-at (meaning rule table v) searched j (omega arith)
+      unlike-at j k l h (no e) =
+          ap₂ (λ (x y : Value). sameKey (meaning rule table x) (meaning rule table y)) (value-old k e) (value-old j (λ d. omega arith)) ∙ once .unlike j k l (omega arith)
+
       -- the keys before it are as they were
       still : (o : Outcome) → found (λ k. sameKey o (meaning rule table (valueAt kinds′ keys′ k))) (λ k. getD indices′ k 0) 0 size otherwise ≡ keyIndex rule table kinds keys indices size otherwise o
       still o = found-same otherwise size 0 (λ i l. ap (λ (x : Value). sameKey o (meaning rule table x)) (value-old i (λ e. omega arith))) (λ i l. index-old i (λ e. omega arith))
@@ -443,7 +479,7 @@ added-value {rule} {table} {index = index} {otherwise} {ks} {ps} {is} {ks′} {p
 module _ {rule table kinds payloads : List ℕ} {otherwise : ℕ} where
   pub table-none : {key-kinds keys indices : List ℕ} → Keys key-kinds keys indices 0 0 → TableOf rule table kinds payloads 0 otherwise key-kinds keys indices 0
   unfolding found
-  table-none t = record { arrays = no-keys otherwise t; no-more = omega arith; right = λ b. refl }
+  table-none t = record { arrays = no-keys otherwise t; each-once = record { no-null = λ k h. absurd (omega arith); unlike = λ j k l h. absurd (omega arith) }; no-more = omega arith; right = λ b. refl }
 
   -- one WHEN more
   when-more : {n : ℕ} {ks ps is ks′ ps′ is′ : List ℕ} {size size′ index : ℕ} {v : Value} → TableOf rule table kinds payloads n otherwise ks ps is size → 2 * n + 1 < otherwise
@@ -451,6 +487,7 @@ module _ {rule table kinds payloads : List ℕ} {otherwise : ℕ} where
       → TableOf rule table kinds payloads (n + 1) otherwise ks′ ps′ is′ size′
   when-more {n} {ks} {ps} {is} {ks′} {ps′} {is′} {size} {size′} {index} {v} t small e i added = record {
     arrays = added .arrays;
+    each-once = added .each-once;
     no-more = omega (arith, t .no-more, added .one-more);
     right = λ b. added .right b
         ∙ ap (λ (x : ℕ). cond (eqb x otherwise) (cond (sameKey b (meaning rule table v)) index otherwise) x) (t .right b)

@@ -2,7 +2,7 @@
 -- The literals of a CASE with a base stand in two arrays, their kinds and their payloads: WHEN i at 2 * i, THEN i at 2 * i + 1, ELSE, or null, behind
 -- the last of them, and a failure behind ELSE. The table has a key's kind, its payload and the index of its THEN.
 use mathlib.Core.Path.{_≡_}
-use mathlib.Core.Bool.{Bool, true, cond, _&&_}
+use mathlib.Core.Bool.{Bool, true, false, cond, _&&_}
 use mathlib.Core.List.{List, [], _∷_}
 use Prim.Native.Nat.{ℕ, zero, suc, _+_, _*_, _<_, _≤_}
 use lib.Dec.{eqb}
@@ -60,15 +60,22 @@ pub record Keys (kinds keys indices : List ℕ) (size otherwise : ℕ) : Type 0 
   pub payload-is : (k : ℕ) → k < size → payloadOf (valueAt kinds keys k) ≡ getD keys k 0
   pub below : (k : ℕ) → k < size → getD indices k 0 < otherwise
 
+-- the table drops null WHENs and keeps the first of equal keys (01, Strategies): no key is null, and none equals an earlier one
+pub record EachOnce (rule table kinds keys : List ℕ) (size : ℕ) : Type 0 where
+  pub no-null : (k : ℕ) → k < size → getD kinds k 0 ≡ 0 → ⊥
+  pub unlike : (j k : ℕ) → j < k → k < size → sameKey (meaning rule table (valueAt kinds keys k)) (meaning rule table (valueAt kinds keys j)) ≡ false
+
 -- the table has for every base the index that the first n WHENs have
 pub record TableOf (rule table kinds payloads : List ℕ) (n otherwise : ℕ) (key-kinds keys indices : List ℕ) (size : ℕ) : Type 0 where
   pub arrays : Keys key-kinds keys indices size otherwise
+  pub each-once : EachOnce rule table key-kinds keys size
   pub no-more : size ≤ n
   pub right : (b : Outcome) → keyIndex rule table key-kinds keys indices size otherwise b ≡ whenIndex rule table kinds payloads n otherwise b
 
 -- a key was added to a table, or dropped: a base that has no index yet has the new one where it is the same
 pub record Added (rule table : List ℕ) (v : Value) (index otherwise : ℕ) (kinds keys indices : List ℕ) (size : ℕ) (kinds′ keys′ indices′ : List ℕ) (size′ : ℕ) : Type 0 where
   pub arrays : Keys kinds′ keys′ indices′ size′ otherwise
+  pub each-once : EachOnce rule table kinds′ keys′ size′
   pub one-more : size′ ≤ size + 1
   pub right : (b : Outcome) → keyIndex rule table kinds′ keys′ indices′ size′ otherwise b
       ≡ cond (eqb (keyIndex rule table kinds keys indices size otherwise b) otherwise) (cond (sameKey b (meaning rule table v)) index otherwise) (keyIndex rule table kinds keys indices size otherwise b)

@@ -24,7 +24,7 @@ ghost use Rattle.scalar.specs.Value.{meaning, valueOf};
 ghost use Rattle.case.specs.Frame.{Fillable, Filled};
 ghost use Rattle.case.specs.LookUp.{LookedUp};
 ghost use Rattle.case.specs.LookUpBooleans.{BooleansOf};
-ghost use Rattle.case.specs.LookUpTables.{Keys, TableOf, Added, LiteralsRead, MappedBy, keyIndex, baseIndex};
+ghost use Rattle.case.specs.LookUpTables.{Keys, EachOnce, TableOf, Added, LiteralsRead, MappedBy, keyIndex, baseIndex};
 
 // The literals at a place, at most so many, and behind them a failure.
 fn read_literals(
@@ -108,7 +108,7 @@ fn add_key(
     indices: &mut [u16],
     size: usize,
 ) -> usize
-    requires { ⌜ Keys (now kinds) (now keys) (now indices) size otherwise × (size < 255) × (index < otherwise) × (otherwise < 511) ⌝ }
+    requires { ⌜ Keys (now kinds) (now keys) (now indices) size otherwise × (size < 255) × (index < otherwise) × (otherwise < 511) × EachOnce (now rule) (now table) (now kinds) (now keys) size ⌝ }
     ensures { λ r. ⌜ Added (now (rule .entry)) (now (table .entry)) (valueOf code key) index otherwise (now (kinds .entry)) (now (keys .entry)) (now (indices .entry)) size (now (kinds .exit)) (now (keys .exit)) (now (indices .exit)) r ⌝ }
 {
     let v = value_of(code, key);

@@ -28,7 +28,7 @@ fill-table-spec =
     (λ c. omega (arith, c .before .before .before .before .before .before .before .before .before .before .pre .0 .0))
     (λ c. omega arith)
     (λ c. omega (arith, c .before .before .before .before .before .before .before .before .before .before .before .pre .0 .1))
-    (λ c κs. (c .before .before .before .before .before .before .loop .inv .1 .arrays, omega (arith, c .before .before .before .before .before .before .loop .inv .1 .no-more), omega arith, omega arith))
+    (λ c κs. (c .before .before .before .before .before .before .loop .inv .1 .arrays, omega (arith, c .before .before .before .before .before .before .loop .inv .1 .no-more), omega arith, omega arith, c .before .before .before .before .before .before .loop .inv .1 .each-once))
     (λ c. omega arith)
     (λ c. omega arith)
     (λ c. (omega arith, table-more _ (c .before .before .before .before .before .before .before .before .before .before .before .before .before .loop .inv .1) (omega arith) (omega arith) (omega arith) (c .before .before .before .before .before .before .add-key .ensures)))
