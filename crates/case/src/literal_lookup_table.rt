@@ -1,5 +1,6 @@
 // CASE base WHEN literal THEN literal .. ELSE literal END, by a table of the WHENs: a row's base is searched once, and the row has the literal that stands
-// at the index found.
+// at the index found. Literals are arrays of kinds and payloads, in the order of the rule. A key of the table is its kind, its payload (of a text its place
+// and length in the rule) and the index of its THEN among the literals. The arrays have room for as many branches as a byte counts.
 use crate::boolean_lookup_table::BooleanIndexMap;
 use crate::boolean_lookup_table::boolean_index_map;
 use crate::boolean_lookup_table::map_boolean;
@@ -26,6 +27,9 @@ ghost use Rattle.case.specs.LookUp.{LookedUp};
 ghost use Rattle.case.specs.LookUpBooleans.{BooleansOf};
 ghost use Rattle.case.specs.LookUpTables.{Keys, EachOnce, TableOf, Added, LiteralsRead, MappedBy, keyIndex, baseIndex};
 
+// The kind of a failure.
+const FAILED: u8 = 7;
+
 // The literals at a place, at most so many, and behind them a failure.
 fn read_literals(
     rule: &[u8],
@@ -38,7 +42,7 @@ fn read_literals(
     requires { ⌜ (length (now kinds) ≡ 512) × (length (now payloads) ≡ 512) × (most < 512) × ((i : ℕ) → getD (now kinds) i 0 ≡ 0) ⌝ }
     ensures { λ _. ⌜ LiteralsRead (now (rule .entry)) at end most (now (kinds .exit)) (now (payloads .exit)) ⌝ }
 {
-    kinds[most] = 7;
+    kinds[most] = FAILED;
     let mut place = at;
     let mut i = 0;
     while i < most {
