@@ -19,6 +19,8 @@ pub mod ColumnPutLaws
 pub mod ColumnLaws
 pub mod SlotRunLaws
 pub mod ClearLaws
+pub mod LookUpLaws
+pub mod LookUpTrees
 pub mod AnswerLaws
 pub mod RowsTyped
 pub mod DemandsHold

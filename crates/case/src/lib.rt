@@ -2,10 +2,14 @@
 pub mod answer;
 pub(crate) mod binary;
 pub(crate) mod bitmap;
+pub(crate) mod boolean_lookup_table;
 pub mod builder;
+pub(crate) mod bytes_like_lookup_table;
 pub(crate) mod clear;
 pub(crate) mod column;
+pub(crate) mod literal_lookup_table;
 pub(crate) mod numbers;
+pub(crate) mod primitive_lookup_table;
 pub(crate) mod put;
 pub mod rows;
 pub(crate) mod settle;
