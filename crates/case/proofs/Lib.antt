@@ -26,6 +26,8 @@ pub mod ClearLaws
 pub mod TakeLaws
 pub mod MergeLaws
 pub mod CellLaws
+pub mod LookUpLaws
+pub mod LookUpTrees
 pub mod AnswerLaws
 pub mod RowsTyped
 pub mod DemandsHold

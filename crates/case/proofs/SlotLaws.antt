@@ -13,7 +13,7 @@ use Rattle.layout.proofs.NumberLaws.{number-split, number-two}
 use Rattle.layout.proofs.BytesLaws.{length-numberBytes, number-numberBytes}
 use Rattle.scalar.specs.declared.value.Value.{Value}
 use Rattle.scalar.specs.Value.{kindOf, payloadOf, valueOf, Storable}
-use Rattle.scalar.proofs.ValueLaws.{payload-back, payload-below, valueOf-stores}
+use Rattle.scalar.proofs.ValueLaws.{payload-back, valueOf-stores}
 use Rattle.case.specs.Frame.{slotAt, nextSlot, SlotPut}
 
 -- ---- a run of stores
@@ -89,49 +89,53 @@ rows-apart r q n = go (decLt r q)
     go (yes h) = inr (omega arith)
     go (no h) = inl (omega arith)
 
--- a value's nine bytes
-abbrev slotBytes : Value → List ℕ
-slotBytes v = kindOf v ∷ numberBytes 8 (payloadOf v)
+-- the nine bytes of a kind and a payload
+abbrev slotBytes : ℕ → ℕ → List ℕ
+slotBytes k p = k ∷ numberBytes 8 p
 
-nine : (v : Value) → length (slotBytes v) ≡ 9
-nine v = ap suc (length-numberBytes 8 (payloadOf v))
+nine : (k p : ℕ) → length (slotBytes k p) ≡ 9
+nine k p = ap suc (length-numberBytes 8 p)
 
--- a value's nine bytes, stored in the slot of a row
-pub slot-put : (w : List ℕ) (r : ℕ) (v : Value) → r < 512 → 5632 ≤ length w → Storable v → (w′ : List ℕ) → w′ ≡ sets w (1024 + 9 * r) (slotBytes v) → SlotPut w r v w′
-slot-put w r v small room stores w′ e = subst (SlotPut w r v) (sym e) (record {
-  long = length-sets w (1024 + 9 * r) (slotBytes v);
-  here = ap₂ valueOf first payload ∙ payload-back v stores;
+-- a kind's and a payload's nine bytes, stored in the slot of a row
+pub parts-put : (w : List ℕ) (r k p : ℕ) → r < 512 → 5632 ≤ length w → p < 2 ^ 64 → (w′ : List ℕ) → w′ ≡ sets w (1024 + 9 * r) (slotBytes k p) → SlotPut w r (valueOf k p) w′
+parts-put w r k p small room bits w′ e = subst (SlotPut w r (valueOf k p)) (sym e) (record {
+  long = length-sets w (1024 + 9 * r) (slotBytes k p);
+  here = ap₂ valueOf first payload;
   others = λ q n. slot-same m w q (λ j a b. ⊎-elim (λ (h : 1033 + 9 * q ≤ 1024 + 9 * r). below j (omega arith)) (λ (h : 1033 + 9 * r ≤ 1024 + 9 * q). above j (omega arith)) (rows-apart r q n));
   low = λ j h. below j (omega arith);
   high = λ j h. above j (omega arith);
 })
   where
     m : List ℕ
-    m = sets w (1024 + 9 * r) (slotBytes v)
+    m = sets w (1024 + 9 * r) (slotBytes k p)
 
     below : (j : ℕ) → j < 1024 + 9 * r → byte m j ≡ byte w j
-    below j h = sets-below (slotBytes v) w (1024 + 9 * r) j h
+    below j h = sets-below (slotBytes k p) w (1024 + 9 * r) j h
 
     above : (j : ℕ) → 1033 + 9 * r ≤ j → byte m j ≡ byte w j
-    above j h = sets-above (slotBytes v) w (1024 + 9 * r) j (omega (arith, nine v))
+    above j h = sets-above (slotBytes k p) w (1024 + 9 * r) j (omega (arith, nine k p))
 
-    nth : (j : ℕ) → j < 9 → byte m (1024 + 9 * r + j) ≡ byte (slotBytes v) j
-    nth j h = sets-at (slotBytes v) w (1024 + 9 * r) j (omega (arith, nine v)) (omega (arith, nine v))
+    nth : (j : ℕ) → j < 9 → byte m (1024 + 9 * r + j) ≡ byte (slotBytes k p) j
+    nth j h = sets-at (slotBytes k p) w (1024 + 9 * r) j (omega (arith, nine k p)) (omega (arith, nine k p))
 
-    first : byte m (1024 + 9 * r) ≡ kindOf v
+    first : byte m (1024 + 9 * r) ≡ k
     first = ap (byte m) (sym (add-zero (1024 + 9 * r))) ∙ nth 0 (omega arith)
 
-    behind : (j : ℕ) → j < 8 → byte m (1025 + 9 * r + j) ≡ byte (numberBytes 8 (payloadOf v)) (0 + j)
+    behind : (j : ℕ) → j < 8 → byte m (1025 + 9 * r + j) ≡ byte (numberBytes 8 p) (0 + j)
     behind j h =
-        let p : 1025 + 9 * r + j ≡ 1024 + 9 * r + suc j = omega arith in
-        let q : j ≡ 0 + j = omega arith in
-        ap (byte m) p ∙ nth (suc j) (omega arith) ∙ ap (byte (numberBytes 8 (payloadOf v))) q
+        let before : 1025 + 9 * r + j ≡ 1024 + 9 * r + suc j = omega arith in
+        let after : j ≡ 0 + j = omega arith in
+        ap (byte m) before ∙ nth (suc j) (omega arith) ∙ ap (byte (numberBytes 8 p)) after
 
-    payload : numberAt 8 m (1025 + 9 * r) ≡ payloadOf v
+    payload : numberAt 8 m (1025 + 9 * r) ≡ p
     payload =
-        number-same 8 m (numberBytes 8 (payloadOf v)) (1025 + 9 * r) 0 behind
-        ∙ ap number (take-all 8 (numberBytes 8 (payloadOf v)) (omega (arith, length-numberBytes 8 (payloadOf v))))
-        ∙ number-numberBytes 8 (payloadOf v) (payload-below v stores)
+        number-same 8 m (numberBytes 8 p) (1025 + 9 * r) 0 behind
+        ∙ ap number (take-all 8 (numberBytes 8 p) (omega (arith, length-numberBytes 8 p)))
+        ∙ number-numberBytes 8 p bits
+
+-- a value's kind and payload keep it
+pub slot-put : {w : List ℕ} {r : ℕ} {v : Value} {w′ : List ℕ} {k p : ℕ} → Storable v → k ≡ kindOf v → p ≡ payloadOf v → SlotPut w r (valueOf k p) w′ → SlotPut w r v w′
+slot-put {w} {r} {v} {w′} stores a b s = subst (λ (x : Value). SlotPut w r x w′) (ap₂ valueOf a b ∙ payload-back v stores) s
 
 -- four bytes at a place
 pub number-four : (w : List ℕ) (at : ℕ) → byte w at + 256 * (byte w (at + 1) + 256 * (byte w (at + 2) + 256 * byte w (at + 3))) ≡ numberAt 4 w at

@@ -10,6 +10,8 @@ pub mod Choosing
 pub mod Parting
 pub mod Taking
 pub mod LookUp
+pub mod LookUpTables
+pub mod LookUpBooleans
 pub mod Write
 pub mod Evaluation
 pub mod Writing

@@ -1,7 +1,7 @@
 // Literals in the slots of the listed rows.
 use crate::rows::fill_value;
 use crate::rows::choose_scalar;
-use crate::stubs::stored;
+use crate::slot::stored;
 use rule::literal::literal_value;
 use rule::type_of::type_of;
 use rule::walk::field_end;

@@ -26,23 +26,30 @@ fn word(work: &[u8], at: usize) -> u64
         + 256 * (wide(work[at + 1]) + 256 * (wide(work[at + 2]) + 256 * wide(work[at + 3])))
 }
 
+// The value of a kind and a payload into the slot of a row.
+pub(crate) fn put_parts(work: &mut [u8], row: usize, kind: u8, payload: u64)
+    requires { ⌜ (row < 512) × (5632 ≤ length (now work)) ⌝ }
+    ensures { λ _. ⌜ SlotPut (now (work .entry)) row (valueOf kind payload) (now (work .exit)) ⌝ }
+{
+    let at = 1024 + 9 * row;
+    work[at] = kind;
+    work[at + 1] = (payload % 256) as u8;
+    work[at + 2] = (payload / 0x100 % 256) as u8;
+    work[at + 3] = (payload / 0x1_0000 % 256) as u8;
+    work[at + 4] = (payload / 0x100_0000 % 256) as u8;
+    work[at + 5] = (payload / 0x1_0000_0000 % 256) as u8;
+    work[at + 6] = (payload / 0x100_0000_0000 % 256) as u8;
+    work[at + 7] = (payload / 0x1_0000_0000_0000 % 256) as u8;
+    work[at + 8] = (payload / 0x100_0000_0000_0000 % 256) as u8;
+}
+
 // A value into the slot of a row.
 pub(crate) fn put_slot(work: &mut [u8], row: usize, v: Value)
     requires { ⌜ (row < 512) × (5632 ≤ length (now work)) ⌝ }
     requires { ⌜ Storable v ⌝ }
     ensures { λ _. ⌜ SlotPut (now (work .entry)) row v (now (work .exit)) ⌝ }
 {
-    let at = 1024 + 9 * row;
-    let n = payload(v);
-    work[at] = kind(v);
-    work[at + 1] = (n % 256) as u8;
-    work[at + 2] = (n / 0x100 % 256) as u8;
-    work[at + 3] = (n / 0x1_0000 % 256) as u8;
-    work[at + 4] = (n / 0x100_0000 % 256) as u8;
-    work[at + 5] = (n / 0x1_0000_0000 % 256) as u8;
-    work[at + 6] = (n / 0x100_0000_0000 % 256) as u8;
-    work[at + 7] = (n / 0x1_0000_0000_0000 % 256) as u8;
-    work[at + 8] = (n / 0x100_0000_0000_0000 % 256) as u8;
+    put_parts(work, row, kind(v), payload(v));
 }
 
 // The value in the nine bytes at a place.
@@ -69,4 +76,11 @@ pub(crate) fn next_slot(work: &[u8], row: usize) -> Value
     ensures { λ r. ⌜ (r ≡ nextSlot (now (work .entry)) row) × Storable r ⌝ }
 {
     slot_value(work, 7680 + 9 * row)
+}
+
+// A value as a slot keeps it: the same, where it can be stored.
+pub(crate) fn stored(v: Value) -> Value
+    ensures { λ r. ⌜ Storable r × (Storable v → r ≡ v) ⌝ }
+{
+    value_of(kind(v), payload(v))
 }
