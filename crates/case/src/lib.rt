@@ -3,6 +3,7 @@ pub mod answer;
 pub(crate) mod binary;
 pub mod builder;
 pub(crate) mod column;
+pub(crate) mod fits;
 pub mod rows;
 pub(crate) mod settle;
 pub mod slot;
