@@ -7,6 +7,7 @@ pub mod builder;
 pub(crate) mod bytes_like_lookup_table;
 pub(crate) mod clear;
 pub(crate) mod column;
+pub(crate) mod fits;
 pub(crate) mod literal_lookup_table;
 pub(crate) mod numbers;
 pub(crate) mod primitive_lookup_table;

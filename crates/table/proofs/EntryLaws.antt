@@ -179,14 +179,18 @@ module _ {A : Type 0} (f : ColumnPlace → A) (l : List ℕ) (t : Table) (long :
   columns-there : length (take (t .count) (t .columns)) ≡ min (t .count) 16
   columns-there = length-take (t .count) (t .columns) ∙ ap (min (t .count)) (sym (length-map (t .columns) f) ∙ long)
 
+  -- a column that the table doesn't have, and one that it has
+  pub column-missing : min (t .count) 16 ≤ column → getElem? (map (columnIn l) (take (t .count) (t .columns))) column ≡ none
+  column-missing h = elem-none (map (columnIn l) (take (t .count) (t .columns))) column (omega (arith, length-map (take (t .count) (t .columns)) (columnIn l), columns-there))
+
   pub no-column : min (t .count) 16 ≤ column → EntryGives l (ok (tableIn l t)) column row NoColumn
   no-column h = record {
-    says = sym (ap (λ (c : Option TableColumn). entryOfColumn c (t .rows) row) (elem-none (map (columnIn l) (take (t .count) (t .columns))) column (omega (arith, length-map (take (t .count) (t .columns)) (columnIn l), columns-there))));
+    says = sym (ap (λ (c : Option TableColumn). entryOfColumn c (t .rows) row) (column-missing h));
     stores = λ _. tt;
   }
 
   module _ (h : column < min (t .count) 16) where
-    column-there : getElem? (map (columnIn l) (take (t .count) (t .columns))) column ≡ some (columnIn l (getD (t .columns) column noPlace))
+    pub column-there : getElem? (map (columnIn l) (take (t .count) (t .columns))) column ≡ some (columnIn l (getD (t .columns) column noPlace))
     column-there =
         elem-some (columnIn l) (take (t .count) (t .columns)) column noPlace (omega (arith, columns-there))
         ∙ ap (λ (p : ColumnPlace). some (columnIn l p)) (getD-take (t .count) (t .columns) column noPlace (omega arith))
