@@ -41,10 +41,10 @@ index-is {at = at} i end depth x node = sym (i ∙ node-byte 0 (at + 3) node (om
 module _ {A : Type 0} (f : ColumnPlace → A) (table : List ℕ) (t : Table) (long : length (map f (t .columns)) ≡ 16) (c : ℕ) where
   -- a column that the table doesn't have is null
   missing : min (t .count) 16 ≤ c → (r : ℕ) → rowIn table t r c ≡ entry null
-  missing h r = ap (λ (o : Option TableColumn). entry (entryIn o r)) (column-missing f table t long c h)
+  missing h r = ap (λ (o : Option TableColumn). entry (entryIn o r)) (column-missing f table t long c r h)
 
   found : c < min (t .count) 16 → (r : ℕ) → rowIn table t r c ≡ entry (entryAt (columnIn table (getD (t .columns) c noPlace)) r)
-  found a r = ap (λ (o : Option TableColumn). entry (entryIn o r)) (column-there f table t long c a)
+  found a r = ap (λ (o : Option TableColumn). entry (entryIn o r)) (column-there f table t long c r a)
 
   pub cells-none : {w w′ : List ℕ} {n : ℕ} → min (t .count) 16 ≤ c → Filled (λ r v. v ≡ Null) w n w′ → Filled (CellRight table t c) w n w′
   cells-none h d = filled-as d (λ r v e. record { is = λ rule. ap (meaning rule table) e ∙ sym (missing h r) })

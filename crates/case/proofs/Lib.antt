@@ -1,6 +1,7 @@
 -- The laws and theorems of `case`.
 pub mod CasesHold
 pub mod RunLaws
+pub mod FitsLaws
 pub mod BuilderLaws
 pub mod SlotLaws
 pub mod RowsLaws

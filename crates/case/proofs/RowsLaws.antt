@@ -11,7 +11,8 @@ use Rattle.layout.specs.Bytes.{byte}
 use Rattle.scalar.specs.declared.value.Value.{Value}
 use Rattle.scalar.specs.Value.{Gives}
 use Rattle.case.specs.declared.rows.Op.{Op}
-use Rattle.case.specs.Frame.{operationOf, rowAt, slotAt, nextSlot, Listed, SlotPut, FilledFrom, Fillable, FillableFrom, Copied}
+use Rattle.case.specs.Frame.{operationOf, rowAt, slotAt, nextSlot, Listed, SlotPut, FilledFrom, Fillable, FillableFrom, Copied, Rows, AllRows}
+use Rattle.case.specs.Parting.{RowPut}
 use Rattle.case.proofs.SlotLaws.{number-same, next-same}
 
 -- what an operation gives, by its name
@@ -166,3 +167,50 @@ copied-all {w} {n} {from} {to} {i} {w′} s all = record {
         let p : to + 2 * k + j ≡ to + (2 * k + j) = omega arith in
         let q : from + (2 * k + j) ≡ from + 2 * k + j = omega arith in
         ap (byte w′) p ∙ s .bytes-copied (2 * k + j) (omega arith) ∙ ap (byte w) q
+
+-- ---- all rows, put in the frame's own list
+
+-- where the loop stands: i of the n rows are there
+pub record AllRowsSoFar (n i : ℕ) (w w′ : List ℕ) : Type 0 where
+  pub few : i ≤ n
+  pub done : AllRows i w w′
+
+pub all-none : {n : ℕ} {w : List ℕ} → AllRowsSoFar n 0 w w
+all-none = record { few = omega arith; done = record { long = refl; rows-are = λ i h. absurd (omega arith); high = λ j h. refl } }
+
+module _ {n i : ℕ} {w m : List ℕ} (s : AllRowsSoFar n i w m) (ok : (n ≤ 512) × (1024 ≤ length w)) (more : i < n) where
+  -- the row's place lies in the buffer
+  pub all-in : (0 + 2 * i + 2 ≤ length m) × (i < 65536)
+  all-in = (omega (arith, ok .0, ok .1, s .done .long), omega (arith, ok .0))
+
+  pub all-more : {m′ : List ℕ} → RowPut m 0 i i m′ → AllRowsSoFar n (i + 1) w m′
+  all-more {m′} put = record {
+    few = omega arith;
+    done = record {
+      long = put .long ∙ s .done .long;
+      rows-are = λ k h. row-is k h (ℕ-discrete k i);
+      high = λ j h. put .behind j (omega (arith, ok .0)) ∙ s .done .high j h;
+    };
+  }
+    where
+      row-is : (k : ℕ) → k < i + 1 → Dec (k ≡ i) → rowAt m′ 0 k ≡ k
+      row-is k h (yes e) = ap (rowAt m′ 0) e ∙ put .here ∙ sym e
+      row-is k h (no e) = number-same 2 m′ m (0 + 2 * k) (0 + 2 * k) (λ j b. put .before (0 + 2 * k + j) (omega arith)) ∙ s .done .rows-are k (omega arith)
+
+pub all-ends : {n i : ℕ} {w w′ : List ℕ} → AllRowsSoFar n i w w′ → n ≤ i → AllRows n w w′
+all-ends {n} {i} {w} {w′} s h =
+    let few = s .few in
+    let e : i ≡ n = omega arith in
+    subst (λ (k : ℕ). AllRows k w w′) e (s .done)
+
+-- all rows rise, and each is listed
+module _ {n : ℕ} {w w′ : List ℕ} (a : AllRows n w w′) where
+  pub all-rise : n ≤ 512 → Rows w′ 0 n n
+  all-rise few = record {
+    few = few;
+    below = λ i h. omega (arith, a .rows-are i h);
+    rising = λ i j b h. omega (arith, a .rows-are i (omega arith), a .rows-are j h);
+  }
+
+  pub all-listed : (i : ℕ) → i < n → Listed w′ 0 n i
+  all-listed i h = (i, h, a .rows-are i h)

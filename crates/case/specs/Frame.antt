@@ -87,3 +87,9 @@ pub record Copied (w : List ℕ) (n from to : ℕ) (w′ : List ℕ) : Type 0 wh
   pub long : length w′ ≡ length w
   pub rows-copied : (i : ℕ) → i < n → rowAt w′ to i ≡ rowAt w from i
   pub before : (j : ℕ) → j < to → byte w′ j ≡ byte w j
+
+-- w is now w′: the first n rows of the frame's own list are the rows below n, and nothing behind the list is changed
+pub record AllRows (n : ℕ) (w w′ : List ℕ) : Type 0 where
+  pub long : length w′ ≡ length w
+  pub rows-are : (i : ℕ) → i < n → rowAt w′ 0 i ≡ i
+  pub high : (j : ℕ) → 1024 ≤ j → byte w′ j ≡ byte w j

@@ -17,7 +17,7 @@ ghost use Prim.Native.Nat.{_+_, _*_, _<_, _≤_};
 ghost use lib.ListN.{length};
 ghost use Rattle.scalar.specs.Value.{Storable, Gives};
 ghost use Rattle.case.specs.Evaluation.{OperatorGives};
-ghost use Rattle.case.specs.Frame.{rowAt, slotAt, Fillable, Filled, operationOf, Copied};
+ghost use Rattle.case.specs.Frame.{rowAt, slotAt, Fillable, Filled, operationOf, Copied, AllRows};
 ghost use Rattle.case.specs.Parting.{RowPut};
 ghost use Rattle.case.specs.Taking.{ScalarRight};
 
@@ -63,6 +63,18 @@ pub(crate) fn put_row(work: &mut [u8], at: usize, i: usize, row: usize)
     let p = at + 2 * i;
     work[p] = (row % 256) as u8;
     work[p + 1] = (row / 256) as u8;
+}
+
+// All rows below n, as the frame's own list.
+pub(crate) fn all_rows(work: &mut [u8], n: usize)
+    requires { ⌜ (n ≤ 512) × (1024 ≤ length (now work)) ⌝ }
+    ensures { λ _. ⌜ AllRows n (now (work .entry)) (now (work .exit)) ⌝ }
+{
+    let mut i = 0;
+    while i < n {
+        put_row(work, 0, i, i);
+        i += 1;
+    }
 }
 
 // The first n rows of the list at a place, to another behind it.

@@ -61,3 +61,8 @@ part l from to = take (to - from) (drop from l)
 pub record Written (k : ℕ) (l : List ℕ) (at n : ℕ) (done : Bool) (l′ : List ℕ) : Type 0 where
   pub says : done ≡ leb (at + k) (length l)
   pub holds : l′ ≡ cond done (sets l at (numberBytes k n)) l
+
+-- bytes written into the part at a place where they fit, with all before and behind them as it was, and nothing changed where they don't
+pub record PartWritten (l : List ℕ) (at : ℕ) (bytes : List ℕ) (done : Bool) (l′ : List ℕ) : Type 0 where
+  pub says : done ≡ leb (at + length bytes) (length l)
+  pub holds : l′ ≡ cond done (take at l ++ bytes ++ drop (at + length bytes) l) l

@@ -1,6 +1,6 @@
-// Parts of slices, handed on and handed back.
+// Parts of slices, handed on and written.
 ghost use mathlib.Core.Path.{_≡_};
-ghost use Rattle.layout.specs.Bytes.{part};
+ghost use Rattle.layout.specs.Bytes.{part, PartWritten};
 
 // The part of a slice from one place to another, as far as the slice goes; empty where the first is not below the second.
 pub fn part_of(s: &[u8], from: usize, to: usize) -> &[u8]
@@ -11,11 +11,20 @@ pub fn part_of(s: &[u8], from: usize, to: usize) -> &[u8]
     &s[start..end]
 }
 
-// The same of a slice that can be written.
-pub fn part_of_mut(s: &mut [u8], from: usize, to: usize) -> &mut [u8]
-    ensures { λ r. ⌜ now r ≡ part (now (s .entry)) from to ⌝ }
+// The bytes, written into the part of a slice at a place where they fit, and whether they do. All else stays as it was.
+pub fn put_part(s: &mut [u8], at: usize, bytes: &[u8]) -> bool
+    ensures { λ r. ⌜ PartWritten (now (s .entry)) at (now (bytes .entry)) r (now (s .exit)) ⌝ }
 {
-    let end = if to < s.len() { to } else { s.len() };
-    let start = if from < end { from } else { end };
-    &mut s[start..end]
+    if s.len() < at {
+        return false;
+    }
+    if s.len() - at < bytes.len() {
+        return false;
+    }
+    let mut i = 0;
+    while i < bytes.len() {
+        s[at + i] = bytes[i];
+        i += 1;
+    }
+    true
 }

@@ -23,7 +23,7 @@ use Rattle.rule.specs.ConstantWalks.{FailsGives}
 use Rattle.rule.specs.AnswerWalks.{StrategyGives, RuleNullableGives}
 use Rattle.rule.proofs.ReadNode.{read-node, accepted-node}
 use Rattle.rule.proofs.StepLaws.{gives-read, was-refused, was-read, on-ok, on-refused, behind-refused}
-use Rattle.rule.proofs.ReadColumns.{tree-projection}
+use Rattle.rule.proofs.ReadColumns.{tree-columns, tree-projection}
 
 -- a rule from its tree
 module _ (rule : List ℕ) (a : NodeRead) (h : ReadGives rule (readTree rule) a) where
@@ -50,6 +50,7 @@ module _ (rule : List ℕ) (a : NodeRead) (h : ReadGives rule (readTree rule) a)
           type-is = g .type-is;
           columns = x .seen;
           columns-are = tree-projection rule x (a .seen) is (g .behind .seen-are);
+          columns-met = tree-columns rule x is;
           seen-are = g .behind .seen-are;
         })))
 

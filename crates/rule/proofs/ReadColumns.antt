@@ -1,7 +1,7 @@
 -- The columns met while a rule is read are those of its tree. Assumes nothing.
 use mathlib.Core.Path.{_≡_, refl, ap, sym, subst, _∙_}
 use mathlib.Core.Bool.{Bool, true, false, _||_, or-false}
-use mathlib.Core.List.{List, [], _∷_, _++_}
+use mathlib.Core.List.{List, [], _∷_, _++_, reverse, reverseAux, reverseAux-append}
 use Prim.Native.Nat.{ℕ, zero, suc}
 use native.Mathlib.Omega.{arith}
 use lib.Dec.{eqb}
@@ -19,29 +19,13 @@ use Rattle.rule.specs.Seen.{SeenIs}
 use Rattle.rule.proofs.ReadInversions.{column-inv, literal-inv, unary-inv, cast-inv, binary-inv, branches-inv, optional-inv, parts-inv, case-inv, limitedCase-inv, field-inv, root-inv, tree-inv}
 use Rattle.rule.proofs.ProjectionLaws.{named, risen-same, indexes-risen, seen-bound}
 
--- columns that were met, and more
+-- columns that were met, and more, the last first
 abbrev Added : List Column → List Column → List Column → Type 0
-Added cols new seen = (i : ℕ) → named seen i ≡ (named new i || named cols i)
-
-named-append : (a b : List Column) (i : ℕ) → named (a ++ b) i ≡ (named a i || named b i)
-unfolding named
-named-append [] b i = refl
-named-append (c ∷ a) b i = go (eqb i (c .index)) (named-append a b i)
-  where
-    go : (t : Bool) → named (a ++ b) i ≡ (named a i || named b i) → (t || named (a ++ b) i) ≡ ((t || named a i) || named b i)
-    go true e = refl
-    go false e = e
+Added cols new seen = seen ≡ reverseAux new cols
 
 -- first some, then others
 both-added : (a b cols mid last : List Column) → Added cols a mid → Added mid b last → Added cols (a ++ b) last
-both-added a b cols mid last p q i =
-    q i ∙ ap (λ (t : Bool). named b i || t) (p i) ∙ go (named a i) (named b i) ∙ ap (λ (t : Bool). t || named cols i) (sym (named-append a b i))
-  where
-    go : (x y : Bool) → (y || (x || named cols i)) ≡ ((x || y) || named cols i)
-    go true true = refl
-    go true false = refl
-    go false true = refl
-    go false false = refl
+both-added a b cols mid last p q = q ∙ ap (reverseAux b) p ∙ sym (reverseAux-append a b cols)
 
 -- a reader that adds the columns of what it reads
 abbrev Met : {A : Type 0} → (A → List Column) → List Column → Read A → Type 0
@@ -52,20 +36,20 @@ Meets columns read = (bytes : List ℕ) (cols : List Column) (r : Read _) → re
 
 -- a column or a literal
 column-met : (f : Field) (cols : List Column) (r : Read Expr) → readColumn f cols ≡ ok r → Met columnsOf cols r
-unfolding named columnsOf
+unfolding columnsOf
 column-met f cols r p =
     let (c, content, like, is) = column-inv f cols r p in
-    subst (Met columnsOf cols) (sym is) (λ i. ap (λ (t : Bool). t || named cols i) (sym (or-false (eqb i (c .index)))))
+    subst (Met columnsOf cols) (sym is) refl
 
 literal-met : (f : Field) (cols : List Column) (r : Read Expr) → readLiteral f cols ≡ ok r → Met columnsOf cols r
-unfolding named columnsOf
-literal-met f cols r p = let (t, m, v, content, value, is) = literal-inv f cols r p in subst (Met columnsOf cols) (sym is) (λ i. refl)
+unfolding columnsOf
+literal-met f cols r p = let (t, m, v, content, value, is) = literal-inv f cols r p in subst (Met columnsOf cols) (sym is) refl
 
 -- branches and parts that may be absent
 module _ (child : Reader Expr) (ih : Meets columnsOf child) where
   branches-met : (n : ℕ) → Meets branchesColumns (readBranches child n)
-  unfolding readBranches named columnsOf
-  branches-met zero bytes cols r p = subst (Met branchesColumns cols) (ok-injective p) (λ i. refl)
+  unfolding readBranches columnsOf
+  branches-met zero bytes cols r p = subst (Met branchesColumns cols) (ok-injective p) refl
   branches-met (suc n) bytes cols r p =
       let (w, t, bs, first, second, rest, is) = branches-inv child n bytes cols r p in
       subst (Met branchesColumns cols) (sym is)
@@ -74,8 +58,8 @@ module _ (child : Reader Expr) (ih : Meets columnsOf child) where
       (branches-met n (t .rest) (t .seen) bs rest)))
 
   optional-met : (there : Bool) → Meets optionalColumns (readOptional there child)
-  unfolding readOptional named columnsOf
-  optional-met false bytes cols r p = subst (Met optionalColumns cols) (ok-injective p) (λ i. refl)
+  unfolding readOptional columnsOf
+  optional-met false bytes cols r p = subst (Met optionalColumns cols) (ok-injective p) refl
   optional-met true bytes cols r p =
       let (e, got, is) = optional-inv child bytes cols r p in
       subst (Met optionalColumns cols) (sym is) (ih bytes cols e got)
@@ -140,14 +124,31 @@ field-met (suc depth) cases bytes cols r p =
     let is : d ≡ depth = omega arith in
     kind-met (readField depth) (field-met depth) cases k f cols r (subst (λ (n : ℕ). readKind (readField n) cases k f cols ≡ ok r) is got)
 
+-- the columns met while a rule is read are those of its tree
+pub tree-columns : (rule : List ℕ) (x : Read Expr) → readTree rule ≡ ok x → x .seen ≡ reverse (columnsOf (x .tree))
+tree-columns rule x p =
+    let (some, most, root, end) = tree-inv rule x p in
+    let (f, head, tag, got) = root-inv rule x root in
+    field-met depthMost casesMost rule [] x got
+
+-- an index is named by columns and by others behind them
+named-reversed : (a b : List Column) (i : ℕ) → named (reverseAux a b) i ≡ (named a i || named b i)
+unfolding named
+named-reversed [] b i = refl
+named-reversed (c ∷ a) b i = named-reversed a (c ∷ b) i ∙ go (named a i) (eqb i (c .index))
+  where
+    go : (x t : Bool) → (x || (t || named b i)) ≡ ((t || x) || named b i)
+    go true true = refl
+    go true false = refl
+    go false true = refl
+    go false false = refl
+
 -- the indexes met while a rule is read are its tree's projection
 pub tree-projection : (rule : List ℕ) (x : Read Expr) (seen : Seen) → readTree rule ≡ ok x → SeenIs (x .seen) seen → indexes (x .seen) ≡ projection (x .tree)
 unfolding named
 tree-projection rule x seen p s =
-    let (some, most, root, end) = tree-inv rule x p in
-    let (f, head, tag, got) = root-inv rule x root in
-    let met = field-met depthMost casesMost rule [] x got in
-    let same : (i : ℕ) → named (x .seen) i ≡ named (columnsOf (x .tree)) i = λ i. met i ∙ or-false (named (columnsOf (x .tree)) i) in
+    let same : (i : ℕ) → named (x .seen) i ≡ named (columnsOf (x .tree)) i =
+    λ i. ap (λ (l : List Column). named l i) (tree-columns rule x p) ∙ named-reversed (columnsOf (x .tree)) [] i ∙ or-false (named (columnsOf (x .tree)) i) in
     let bound = seen-bound (x .seen) seen s in
     indexes-risen (x .seen) bound ∙ risen-same (named (x .seen)) (named (columnsOf (x .tree))) 256 (λ i h. same i)
     ∙ sym (indexes-risen (columnsOf (x .tree)) (λ i h. bound i (same i ∙ h)))

@@ -1,7 +1,7 @@
 -- What the steps of the reading promise beside their definitions.
 use mathlib.Core.Path.{_≡_}
 use mathlib.Core.Bool.{Bool, true, false, cond, not, _&&_, _||_}
-use mathlib.Core.List.{List, _∷_}
+use mathlib.Core.List.{List, _∷_, reverse}
 use Prim.Native.Nat.{ℕ, _<_}
 use lib.Dec.{eqb, ltb}
 use lib.ListN.{drop}
@@ -19,6 +19,7 @@ use Rattle.rule.specs.declared.node.NodeRead.{NodeRead}
 use Rattle.rule.specs.declared.node.BranchesRead.{BranchesRead}
 use Rattle.rule.specs.Tree.{Column, Expr, column, negation, negative, isNotNull, cast, tryCast, equal, less, Branches, branch, Optional, isNullLiteral}
 use Rattle.rule.specs.Typing.{typeOf, resultType, whenType, branchesTyped, elseTyped}
+use Rattle.rule.specs.Constant.{columnsOf}
 use Rattle.rule.specs.Projection.{indexes, projection}
 use Rattle.rule.specs.Reading.{Read, Reader, unlikeEarlier, markedValue, readColumn, readLiteral, readUnary, readCast, readBinary, readBranches, readLimitedCase}
 use Rattle.rule.specs.Seen.{SeenIs}
@@ -73,11 +74,12 @@ pub record FieldRead (bytes : List ℕ) (r : NodeRead) (x : Read Expr) : Type 0 
 abbrev pub ReadGives : List ℕ → Result (Read Expr) → NodeRead → Type 0
 ReadGives bytes definition r = Gives (FieldRead bytes r) definition (r .refused)
 
--- a rule: its type, and that the columns met are those that it names
+-- a rule: its type, and that the columns met are those that it names, the last first
 pub record RuleRead (r : NodeRead) (e : Expr) : Type 0 where
   pub type-is : r .result ≡ typeOf e
   pub columns : List Column
   pub columns-are : indexes columns ≡ projection e
+  pub columns-met : columns ≡ reverse (columnsOf e)
   pub seen-are : SeenIs columns (r .seen)
 
 -- a part that may be absent: a WHEN's type if it is a base, and whether it fits as an ELSE

@@ -11,5 +11,5 @@ pub mod read;
 pub mod seen;
 pub mod strategy;
 pub mod type_of;
-pub(crate) mod types;
+pub mod types;
 pub mod walk;

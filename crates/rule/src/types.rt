@@ -27,7 +27,7 @@ pub(crate) fn type_numbered(n: u8) -> TypeAnswer
 }
 
 // The number of a type.
-pub(crate) fn type_number(t: DataType) -> u8
+pub fn type_number(t: DataType) -> u8
     ensures { λ r. ⌜ r ≡ typeNumber t ⌝ }
 {
     match t {

@@ -174,17 +174,17 @@ elem-some f [] i d h = absurd (omega arith)
 elem-some f (x ∷ l) zero d h = refl
 elem-some f (x ∷ l) (suc i) d h = elem-some f l i d (omega arith)
 
-module _ {A : Type 0} (f : ColumnPlace → A) (l : List ℕ) (t : Table) (long : length (map f (t .columns)) ≡ 16) (column : ℕ) where
+module _ {A : Type 0} (f : ColumnPlace → A) (l : List ℕ) (t : Table) (long : length (map f (t .columns)) ≡ 16) (column row : ℕ) where
   -- how many columns there are
   columns-there : length (take (t .count) (t .columns)) ≡ min (t .count) 16
   columns-there = length-take (t .count) (t .columns) ∙ ap (min (t .count)) (sym (length-map (t .columns) f) ∙ long)
 
+  -- a column that the table doesn't have, and one that it has
   pub column-missing : min (t .count) 16 ≤ column → getElem? (map (columnIn l) (take (t .count) (t .columns))) column ≡ none
-  column-missing h =
-      elem-none (map (columnIn l) (take (t .count) (t .columns))) column (omega (arith, length-map (take (t .count) (t .columns)) (columnIn l), columns-there))
+  column-missing h = elem-none (map (columnIn l) (take (t .count) (t .columns))) column (omega (arith, length-map (take (t .count) (t .columns)) (columnIn l), columns-there))
 
-  pub no-column : (row : ℕ) → min (t .count) 16 ≤ column → EntryGives l (ok (tableIn l t)) column row NoColumn
-  no-column row h = record {
+  pub no-column : min (t .count) 16 ≤ column → EntryGives l (ok (tableIn l t)) column row NoColumn
+  no-column h = record {
     says = sym (ap (λ (c : Option TableColumn). entryOfColumn c (t .rows) row) (column-missing h));
     stores = λ _. tt;
   }
@@ -195,15 +195,15 @@ module _ {A : Type 0} (f : ColumnPlace → A) (l : List ℕ) (t : Table) (long :
         elem-some (columnIn l) (take (t .count) (t .columns)) column noPlace (omega (arith, columns-there))
         ∙ ap (λ (p : ColumnPlace). some (columnIn l p)) (getD-take (t .count) (t .columns) column noPlace (omega arith))
 
-    pub no-row : (row : ℕ) → t .rows ≤ row → EntryGives l (ok (tableIn l t)) column row NoRow
-    no-row row m = record {
+    pub no-row : t .rows ≤ row → EntryGives l (ok (tableIn l t)) column row NoRow
+    no-row m = record {
       says = sym (ap (λ (c : Option TableColumn). entryOfColumn c (t .rows) row) column-there ∙ simp (le-ltb row (t .rows) m));
       stores = λ _. tt;
     }
 
-    pub has-entry : (row : ℕ) → row < t .rows → (v : Value) → ValueGives l (entryAt (columnIn l (getD (t .columns) column noPlace)) row) v
+    pub has-entry : row < t .rows → (v : Value) → ValueGives l (entryAt (columnIn l (getD (t .columns) column noPlace)) row) v
         → EntryGives l (ok (tableIn l t)) column row (AnEntry v)
-    has-entry row m v g = record {
+    has-entry m v g = record {
       says = sym (ap (λ (c : Option TableColumn). entryOfColumn c (t .rows) row) column-there ∙ simp (lt-ltb row (t .rows) m, g .says []));
       stores = g .stores;
     }

@@ -12,8 +12,8 @@ entry-at-spec =
     (tie.spec
     (λ c. no-column _ (now (c .before .before .args .bytes)) (c .before .before .args .t2) (c .before .before .good .1 .0 .1 .1 .1 .1 .0 .1 .0 .1) (c .before .before .args .column) (c .before .before .args .row) (omega arith))
     (λ c. no-column _ (now (c .before .before .before .args .bytes)) (c .before .before .before .args .t2) (c .before .before .before .good .1 .0 .1 .1 .1 .1 .0 .1 .0 .1) (c .before .before .before .args .column) (c .before .before .before .args .row) (omega arith))
-    (λ c. no-row _ (now (c .before .before .before .before .args .bytes)) (c .before .before .before .before .args .t2) (c .before .before .before .before .good .1 .0 .1 .1 .1 .1 .0 .1 .0 .1) (c .before .before .before .before .args .column) (omega arith) (c .before .before .before .before .args .row) (c .if3 .taken))
+    (λ c. no-row _ (now (c .before .before .before .before .args .bytes)) (c .before .before .before .before .args .t2) (c .before .before .before .before .good .1 .0 .1 .1 .1 .1 .0 .1 .0 .1) (c .before .before .before .before .args .column) (c .before .before .before .before .args .row) (omega arith) (c .if3 .taken))
     (λ c. search needs)
     (λ c. search needs)
     (λ c κs. search needs)
-    (λ c. has-entry _ (now (c .before .before .before .before .before .before .args .bytes)) (c .before .before .before .before .before .before .args .t2) (c .before .before .before .before .before .before .good .1 .0 .1 .1 .1 .1 .0 .1 .0 .1) (c .before .before .before .before .before .before .args .column) (omega arith) (c .before .before .before .before .before .before .args .row) (c .before .before .if3 .left) (c .entry-in .result) (c .entry-in .ensures)))
+    (λ c. has-entry _ (now (c .before .before .before .before .before .before .args .bytes)) (c .before .before .before .before .before .before .args .t2) (c .before .before .before .before .before .before .good .1 .0 .1 .1 .1 .1 .0 .1 .0 .1) (c .before .before .before .before .before .before .args .column) (c .before .before .before .before .before .before .args .row) (omega arith) (c .before .before .if3 .left) (c .entry-in .result) (c .entry-in .ensures)))
