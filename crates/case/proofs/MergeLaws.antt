@@ -35,14 +35,13 @@ none-some : {A : Type 0} {x : A} → _≡_ {A = Option A} none (some x) → ⊥
 none-some p = let z : _≡_ {A = ℕ} 0 1 = cc in omega arith
 
 module _ {rule : List ℕ} {at end count place : ℕ} {w : List ℕ} {left : ℕ} {b : ResultBuilder} {values : List ℕ} (behind : BehindGives rule at (2 * count) place) (o : Open b w left (b .rows)) where
-  pub values-none : place ≡ end → (length values ≡ 512) × ((q : ℕ) → q < b .rows → getD values q 0 ≡ orElse 0 (heldBy b q)) → ElseGives rule at end count w left (b .rows) b values w
-  values-none same (size, is) = record {
+  pub values-none : place ≡ end → ((q : ℕ) → q < b .rows → getD values q 0 ≡ orElse 0 (heldBy b q)) → ElseGives rule at end count w left (b .rows) b values w
+  values-none same is = record {
     place = place;
     behind = behind;
     gives = record {
       long = refl;
       low = λ j h. refl;
-      sized = size;
       taken = λ no r l. absurd (no same);
       none-taken = λ p r l. is r (listed-below (o .list-ok) r l) ∙ ap (orElse 0) (o .free r l);
       others = λ r h no. is r h;
@@ -50,14 +49,13 @@ module _ {rule : List ℕ} {at end count place : ℕ} {w : List ℕ} {left : ℕ
   }
 
   pub values-some : {w′ : List ℕ} {index : ℕ} {s : Settled} → (place ≡ end → ⊥) → index ≡ count + 1 → Settles (λ q. index) w left (b .rows) b s w′
-      → (length values ≡ 512) × ((q : ℕ) → q < s .builder .rows → getD values q 0 ≡ orElse 0 (heldBy (s .builder) q)) → ElseGives rule at end count w left (b .rows) b values w′
-  values-some {index = index} {s = s} there i settles (size, is) = record {
+      → ((q : ℕ) → q < s .builder .rows → getD values q 0 ≡ orElse 0 (heldBy (s .builder) q)) → ElseGives rule at end count w left (b .rows) b values w′
+  values-some {index = index} {s = s} there i settles is = record {
     place = place;
     behind = behind;
     gives = record {
       long = settles .long;
       low = settles .low;
-      sized = size;
       taken = λ no r l. is r (fits r (listed-below (o .list-ok) r l)) ∙ ap (orElse 0) (settles .gone r l (λ z. omega arith)) ∙ i;
       none-taken = λ p r l. absurd (there p);
       others = λ r h no. is r (fits r h) ∙ ap (orElse 0) (settles .others r no);

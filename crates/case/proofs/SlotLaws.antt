@@ -168,3 +168,10 @@ slot-got w at low high v (p, a) (q, b) f = (
 pub slot-there : (w : List ℕ) (at behind : ℕ) (v : Value) → at + 1 ≡ behind → (v ≡ valueOf (byte w at) (numberAt 8 w (at + 1))) × Storable v
     → (v ≡ valueOf (byte w at) (numberAt 8 w behind)) × Storable v
 slot-there w at behind v e (p, s) = (p ∙ ap (λ (k : ℕ). valueOf (byte w at) (numberAt 8 w k)) e, s)
+
+-- a value by its kind and its payload
+pub stored-is : (v : Value) {k p : ℕ} {r : Value} → k ≡ kindOf v → p ≡ payloadOf v → r ≡ valueOf k p → p < 2 ^ 64 → Storable r × (Storable v → r ≡ v)
+stored-is v {k} {p} {r} a b c small = (
+  subst Storable (sym c) (valueOf-stores k p small),
+  λ s. c ∙ ap₂ valueOf a b ∙ payload-back v s,
+)

@@ -213,7 +213,6 @@ pub record MergedRight (rule : List ℕ) (at end : ℕ) (table : List ℕ) (t : 
 pub record ElseValues (at end count : ℕ) (w : List ℕ) (left rows : ℕ) (b : ResultBuilder) (values : List ℕ) (w′ : List ℕ) : Type 0 where
   pub long : length w′ ≡ length w
   pub low : (j : ℕ) → j < 5632 → byte w′ j ≡ byte w j
-  pub sized : length values ≡ 512
   pub taken : (at ≡ end → ⊥) → (r : ℕ) → Listed w 5632 left r → getD values r 0 ≡ count + 1
   pub none-taken : at ≡ end → (r : ℕ) → Listed w 5632 left r → getD values r 0 ≡ 0
   pub others : (r : ℕ) → r < rows → (Listed w 5632 left r → ⊥) → getD values r 0 ≡ orElse 0 (heldBy b r)
