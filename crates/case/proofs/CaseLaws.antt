@@ -24,7 +24,7 @@ use Rattle.rule.specs.Strategy.{strategyNumber, isColumn, isLiteral, dropNull, 
 use Rattle.rule.specs.Node.{NodeAt}
 use Rattle.rule.specs.Walks.{childrenOf, branchTrees, optionalTrees, TreesAt, EndGives, ChildrenGives, TypeGives}
 use Rattle.rule.specs.AnswerWalks.{StrategyGives}
-use Rattle.rule.proofs.NodeLaws.{node-byte, node-deep, case-counted, trees-split, trees-one}
+use Rattle.rule.proofs.NodeLaws.{node-byte, node-deep, node-children, case-counted, trees-split, trees-one, trees-deeper}
 use Rattle.rule.proofs.WalkLaws.{nothing-behind, first-tree}
 use Rattle.table.specs.declared.places.Table.{Table}
 use Rattle.case.specs.declared.builder.ResultBuilder.{ResultBuilder}
@@ -155,30 +155,30 @@ shape-5 b bs els e =
 -- ---- a CASE by its strategy
 
 -- a CASE is deeper than its children
-pub case-deep : {rule : List ℕ} {start at end depth : ℕ} {b : Optional} {bs : Branches} {els : Optional} → ChildrenGives rule start at → NodeAt rule start end (caseWhen b bs els) (depth + 1) → 0 < depth
+case-deep : {rule : List ℕ} {start end depth : ℕ} {b : Optional} {bs : Branches} {els : Optional} → NodeAt rule start end (caseWhen b bs els) (depth + 1) → 0 < depth
 unfolding branchCount
-case-deep {rule} {start} {at} {end} {depth} {b} {bs} {els} children node = go b bs (case-counted node .0) (children-below children node)
+case-deep {rule} {start} {end} {depth} {b} {bs} {els} node = go b bs (case-counted node .0) (trees-deeper depth (omega arith) (node-children (start + 5) node (omega arith)))
   where
-    go : (b : Optional) (bs : Branches) → 0 < branchCount bs → TreesAt rule at end (optionalTrees b ++ (branchTrees bs ++ optionalTrees els)) depth → 0 < depth
+    go : (b : Optional) (bs : Branches) → 0 < branchCount bs → TreesAt rule (start + 5) end (optionalTrees b ++ (branchTrees bs ++ optionalTrees els)) depth → 0 < depth
     go b noMore c trees = absurd (omega arith)
     go absent (branch w t bs) c trees = node-deep (trees-split trees .1)
     go (present x) (branch w t bs) c trees = node-deep (trees-split trees .1)
 
 module _ {rule : List ℕ} {start end : ℕ} {table : List ℕ} {t : Table} {depth : ℕ} {w : List ℕ} {n : ℕ} where
-  pub case-none : {at : ℕ} → ChildrenGives rule start at → depth ≡ 0 → Done (CaseRight anyCase rule start end table t depth) w n w
-  case-none children h = done-none (λ r. record { is = λ b bs els node s. absurd (let k = case-deep children node in omega arith) })
+  pub case-none : depth ≡ 0 → Done (CaseRight anyCase rule start end table t depth) w n w
+  case-none h = done-none (λ r. record { is = λ b bs els node s. absurd (let k = case-deep node in omega arith) })
 
   pub case-behind : {served : Optional → Branches → Optional → Type 0} → length rule ≤ start → Done (CaseRight served rule start end table t depth) w n w
   case-behind h = done-none (λ r. record { is = λ b bs els node s. absurd (let k = nothing-behind node in omega arith) })
 
   -- what its strategy gives is what is right
-  pub case-by : {s : Strategy} {served : Optional → Branches → Optional → Type 0} {w′ : List ℕ} → n ≤ 512 → StrategyGives rule start end s
+  pub case-by : {g s : Strategy} {served : Optional → Branches → Optional → Type 0} {w′ : List ℕ} → n ≤ 512 → StrategyGives rule start end g → g ≡ s
       → ((b : Optional) (bs : Branches) (els : Optional) → s ≡ strategyOf b bs els → served b bs els)
       → Done (CaseRight served rule start end table t depth) w n w′ → Done (CaseRight anyCase rule start end table t depth) w n w′
   unfolding strategy
-  case-by few gives shape d =
+  case-by few gives same shape d =
       done-done few refl (λ j h. refl) d
-      (λ r v l right. record { is = λ b bs els node s. right .is b bs els node (shape b bs els (gives .is (caseWhen b bs els) (depth + 1) node)) })
+      (λ r v l right. record { is = λ b bs els node s. right .is b bs els node (shape b bs els (sym same ∙ gives .is (caseWhen b bs els) (depth + 1) node)) })
 
 -- ---- strategies 3, 4 and 6: the slots have the WHEN or the base
 
@@ -419,5 +419,7 @@ pub by-base-gives : {rule : List ℕ} {at end : ℕ} {table : List ℕ} {t : Tab
     → Done (BasedRight rule at end table t depth count to w) w n w₃
 by-base-gives {rule} {at} {end} {table} {t} {depth} {count} {to} {w} {w₁} {w₂} {w₃} {n} {rows} {b} {s} few ok copied settles d =
     done-done few (settles .long ∙ copied .long) (λ j h. settles .low j (omega arith) ∙ copied .before j (omega arith)) d
-    (λ r v l g. record { is = λ bs els trees c.
-        by-base-row copied settles r v (listed-to w w₁ 0 5632 n (copied .rows-copied) r l) (listed-below ok r l) g bs els trees c (meaning rule table (slotAt w r)) refl })
+    (λ r v l g. record {
+      is = λ bs els trees c.
+          by-base-row copied settles r v (listed-to w w₁ 0 5632 n (copied .rows-copied) r l) (listed-below ok r l) g bs els trees c (meaning rule table (slotAt w r)) refl;
+    })

@@ -58,33 +58,41 @@ module _ {A : Type 0} (f : ColumnPlace → A) (table : List ℕ) (t : Table) (lo
     or-null-behind h d = filled-as d (λ r v e. record { is = λ end depth x node. absurd (let k = nothing-behind node in omega arith) })
 
     pub or-null-none : c ≡ byte rule (at + 3) → min (t .count) 16 ≤ c → Filled (ScalarRight Null Null w) w n w′ → Filled (CellsRight rule at table t w) w n w′
-    or-null-none i h d = filled-as d (λ r v e. record { is = λ end depth x node.
-        e rule table
-        ∙ ap (λ (o : Outcome). chosen isTrueTest (meaning rule table (slotAt w r)) o (entry null)) (sym (ap (rowIn table t r) (index-is i end depth x node) ∙ missing h r)) })
+    or-null-none i h d = filled-as d (λ r v e. record {
+      is = λ end depth x node.
+          e rule table
+          ∙ ap (λ (o : Outcome). chosen isTrueTest (meaning rule table (slotAt w r)) o (entry null)) (sym (ap (rowIn table t r) (index-is i end depth x node) ∙ missing h r));
+    })
 
     pub or-null-some : c ≡ byte rule (at + 3) → c < min (t .count) 16 → Filled (ColumnRight table (getD (t .columns) c noPlace) w) w n w′ → Filled (CellsRight rule at table t w) w n w′
-    or-null-some i a d = filled-as d (λ r v e. record { is = λ end depth x node.
-        e rule
-        ∙ ap (λ (o : Outcome). chosen isTrueTest (meaning rule table (slotAt w r)) o (entry null)) (sym (ap (rowIn table t r) (index-is i end depth x node) ∙ found a r)) })
+    or-null-some i a d = filled-as d (λ r v e. record {
+      is = λ end depth x node.
+          e rule
+          ∙ ap (λ (o : Outcome). chosen isTrueTest (meaning rule table (slotAt w r)) o (entry null)) (sym (ap (rowIn table t r) (index-is i end depth x node) ∙ found a r));
+    })
 
 -- ---- literals
 
 pub literal-filled : {rule : List ℕ} {start end : ℕ} {u v : Value} {w w′ : List ℕ} {n : ℕ} → LiteralGives rule start end u → (Storable u → v ≡ u) → Filled (λ r x. x ≡ v) w n w′
     → Filled (LiteralRight rule start end) w n w′
-literal-filled {rule} {start} {end} {u} {v} gives same d = filled-as d (λ r x e. record { is = λ f y depth node table.
-    let (means, stores) = gives f y depth node in
-    ap (meaning rule table) (e ∙ same stores) ∙ means table })
+literal-filled {rule} {start} {end} {u} {v} gives same d = filled-as d (λ r x e. record {
+  is = λ f y depth node table.
+      let (means, stores) = gives f y depth node in
+      ap (meaning rule table) (e ∙ same stores) ∙ means table;
+})
 
 pub scalars-filled : {rule : List ℕ} {at els end : ℕ} {a a′ b b′ c : Value} {to : DataType} {w w′ : List ℕ} {n : ℕ} → EndGives rule at els → LiteralGives rule at els a → (Storable a → a′ ≡ a)
     → TypeGives rule at to → LiteralGives rule els end b → Gives (λ e. entry (tryCastEntry to e)) b c → (Storable c → b′ ≡ c)
     → Filled (ScalarRight a′ b′ w) w n w′ → Filled (ScalarsRight rule at end w) w n w′
 unfolding typeOf
-scalars-filled {rule} {at} {els} {end} {a} {a′} {b} {b′} {c} {to} {w} ends first same types second cast same′ d = filled-as d (λ r x e. record { is = λ f g y z depth trees table.
-    let (one, rest) = first-tree ends trees in
-    let (means-a, stores-a) = first f y depth one in
-    let (means-b, stores-b) = second g z depth (trees-one rest) in
-    let to-is : to ≡ f = types els (literal f y) depth one in
-    e rule table
-    ∙ ap₂ (chosen isTrueTest (meaning rule table (slotAt w r))) (ap (meaning rule table) (same stores-a) ∙ means-a table)
-    (ap (meaning rule table) (same′ (cast .stores stores-b)) ∙ cast .means rule table ∙ ap (onEntry (λ v. entry (tryCastEntry to v))) (means-b table)
-    ∙ ap (λ (k : DataType). entry (tryCastEntry k z)) to-is) })
+scalars-filled {rule} {at} {els} {end} {a} {a′} {b} {b′} {c} {to} {w} ends first same types second cast same′ d = filled-as d (λ r x e. record {
+  is = λ f g y z depth trees table.
+      let (one, rest) = first-tree ends trees in
+      let (means-a, stores-a) = first f y depth one in
+      let (means-b, stores-b) = second g z depth (trees-one rest) in
+      let to-is : to ≡ f = types els (literal f y) depth one in
+      e rule table
+      ∙ ap₂ (chosen isTrueTest (meaning rule table (slotAt w r))) (ap (meaning rule table) (same stores-a) ∙ means-a table)
+      (ap (meaning rule table) (same′ (cast .stores stores-b)) ∙ cast .means rule table ∙ ap (onEntry (λ v. entry (tryCastEntry to v))) (means-b table)
+      ∙ ap (λ (k : DataType). entry (tryCastEntry k z)) to-is);
+})

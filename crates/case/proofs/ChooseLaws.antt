@@ -39,8 +39,11 @@ open-kept {b} {w} {left} {rows} w′ same o = record {
   part-held = o .part-held;
 }
 
-open-rows : {b : ResultBuilder} {w : List ℕ} {left rows : ℕ} (rows′ : ℕ) → rows ≡ rows′ → Open b w left rows → Open b w left rows′
+pub open-rows : {b : ResultBuilder} {w : List ℕ} {left rows : ℕ} (rows′ : ℕ) → rows ≡ rows′ → Open b w left rows → Open b w left rows′
 open-rows {b} {w} {left} rows′ e o = subst (Open b w left) e o
+
+pub open-self : {b : ResultBuilder} {w : List ℕ} {left rows : ℕ} → Open b w left rows → Open b w left (b .rows)
+open-self {b} {w} {left} o = subst (Open b w left) (sym (o .sized)) o
 
 -- ---- one branch
 
@@ -189,7 +192,15 @@ pub branch-at : (i : ℕ) (bs : Branches) → i < branchCount bs → BranchAt i 
 unfolding dropBranches branchCount resultAt
 branch-at i noMore h = absurd (omega arith)
 branch-at zero (branch w t bs) h = record {
-  when-is = w; then-is = t; later = bs; before = []; here = refl; behind = drop-none bs; result = λ row els. refl; many = refl; trees = refl;
+  when-is = w;
+  then-is = t;
+  later = bs;
+  before = [];
+  here = refl;
+  behind = drop-none bs;
+  result = λ row els. refl;
+  many = refl;
+  trees = refl;
 }
   where
     drop-none : (bs : Branches) → dropBranches zero bs ≡ bs
@@ -197,7 +208,13 @@ branch-at zero (branch w t bs) h = record {
 branch-at (suc i) (branch w t bs) h =
     let a = branch-at i bs (omega arith) in
     record {
-      when-is = a .when-is; then-is = a .then-is; later = a .later; before = w ∷ t ∷ a .before; here = a .here; behind = a .behind; result = a .result;
+      when-is = a .when-is;
+      then-is = a .then-is;
+      later = a .later;
+      before = w ∷ t ∷ a .before;
+      here = a .here;
+      behind = a .behind;
+      result = a .result;
       many = (let m = a .many in omega arith);
       trees = ap (λ (l : List Expr). w ∷ t ∷ l) (a .trees);
     }
@@ -299,10 +316,11 @@ module _ {rule : List ℕ} {at : ℕ} {table : List ℕ} {t : Table} {depth : �
               → evalBranches bs (rowIn table t q) test els ≡ chosen test (eval (x .when-is) (rowIn table t q)) (eval (x .then-is) (rowIn table t q)) (evalBranches (x .later) (rowIn table t q) test els)
               → (c ≤ count + 2) × (evalBranches bs (rowIn table t q) test els ≡ soFar (i + 1) bs (rowIn table t q) test els c)
           by bs test els x n c unfit p e before =
-              let is : c ≡ suc (suc (branchCount bs)) = e ∙ ap (leaving (passesTest test) (i + 1) (count + 2)) p ∙ (let k : count + 2 ≡ suc (suc (branchCount bs)) = omega arith in k) in
-              (omega arith,
-              before ∙ ap (λ (o : Outcome). chosen test o (eval (x .then-is) (rowIn table t q)) (evalBranches (x .later) (rowIn table t q) test els)) p
-              ∙ sym (result-failed bs (rowIn table t q) els) ∙ ap (soFar (i + 1) bs (rowIn table t q) test els) (sym is))
+              let is : c ≡ suc (suc (branchCount bs)) = e ∙ ap (leaving (passesTest test) (i + 1) (count + 2)) p ∙ (let k : count + 2 ≡ suc (suc (branchCount bs)) = omega arith in k) in (
+                omega arith,
+                before ∙ ap (λ (o : Outcome). chosen test o (eval (x .then-is) (rowIn table t q)) (evalBranches (x .later) (rowIn table t q) test els)) p
+                    ∙ sym (result-failed bs (rowIn table t q) els) ∙ ap (soFar (i + 1) bs (rowIn table t q) test els) (sym is),
+              )
           by bs test els x n c (entry v) p e before = passed (passes test v) refl
             where
               later-is : evalBranches bs (rowIn table t q) test els ≡ cond (passes test v) (eval (x .then-is) (rowIn table t q)) (evalBranches (x .later) (rowIn table t q) test els)
@@ -313,17 +331,19 @@ module _ {rule : List ℕ} {at : ℕ} {table : List ℕ} {t : Table} {depth : �
 
               passed : (y : Bool) → passes test v ≡ y → (c ≤ count + 2) × (evalBranches bs (rowIn table t q) test els ≡ soFar (i + 1) bs (rowIn table t q) test els c)
               passed true z =
-                  let is : c ≡ suc i = class-is ∙ ap (λ (y : Bool). cond y (i + 1) 0) z ∙ (let k : i + 1 ≡ suc i = omega arith in k) in
-                  (omega arith,
-                  later-is ∙ ap (λ (y : Bool). cond y (eval (x .then-is) (rowIn table t q)) (evalBranches (x .later) (rowIn table t q) test els)) z
-                  ∙ sym (x .result (rowIn table t q) els) ∙ ap (soFar (i + 1) bs (rowIn table t q) test els) (sym is))
+                  let is : c ≡ suc i = class-is ∙ ap (λ (y : Bool). cond y (i + 1) 0) z ∙ (let k : i + 1 ≡ suc i = omega arith in k) in (
+                    omega arith,
+                    later-is ∙ ap (λ (y : Bool). cond y (eval (x .then-is) (rowIn table t q)) (evalBranches (x .later) (rowIn table t q) test els)) z
+                        ∙ sym (x .result (rowIn table t q) els) ∙ ap (soFar (i + 1) bs (rowIn table t q) test els) (sym is),
+                  )
               passed false z =
                   let is : c ≡ 0 = class-is ∙ ap (λ (y : Bool). cond y (i + 1) 0) z in
-                  let one : suc i ≡ i + 1 = omega arith in
-                  (omega arith,
-                  later-is ∙ ap (λ (y : Bool). cond y (eval (x .then-is) (rowIn table t q)) (evalBranches (x .later) (rowIn table t q) test els)) z
-                  ∙ ap (λ (y : Branches). evalBranches y (rowIn table t q) test els) (sym (x .behind) ∙ ap (λ (j : ℕ). dropBranches j bs) one)
-                  ∙ ap (soFar (i + 1) bs (rowIn table t q) test els) (sym is))
+                  let one : suc i ≡ i + 1 = omega arith in (
+                    omega arith,
+                    later-is ∙ ap (λ (y : Bool). cond y (eval (x .then-is) (rowIn table t q)) (evalBranches (x .later) (rowIn table t q) test els)) z
+                        ∙ ap (λ (y : Branches). evalBranches y (rowIn table t q) test els) (sym (x .behind) ∙ ap (λ (j : ℕ). dropBranches j bs) one)
+                        ∙ ap (soFar (i + 1) bs (rowIn table t q) test els) (sym is),
+                  )
 
       held-index : (q k : ℕ) → Listed w 5632 left q → IndexSoFar rule at table t depth how count i w q (suc k) → IndexSoFar rule at table t depth how count (i + 1) w q (suc k)
       unfolding soFar

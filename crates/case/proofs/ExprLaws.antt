@@ -249,8 +249,10 @@ module _ {table : List ℕ} {t : Table} {depth : ℕ} {w w₁ : List ℕ} {n : �
         → Done (AgainstRight rule start end table t depth below w) w n w₂
     against-rows {below} e =
         done-filled (f .list-ok .few) back-long (λ j h. back-kept j (omega arith)) e
-        (λ r x l g. record { is = λ a node.
-            let small : r < 512 = listed-below (rows-small (f .small) (f .list-ok)) r l in
-            g .means
-            ∙ ap₂ (onEntries (comparison below)) (ap (meaning rule table) (kept-slot w (back w₁ ys) (λ j h. back-kept j (omega arith)) r small))
-            (next .here r small (listed-to w w₁ 0 6656 n (copied .rows-copied) r l) .is a node) })
+        (λ r x l g. record {
+          is = λ a node.
+              let small : r < 512 = listed-below (rows-small (f .small) (f .list-ok)) r l in
+              g .means
+              ∙ ap₂ (onEntries (comparison below)) (ap (meaning rule table) (kept-slot w (back w₁ ys) (λ j h. back-kept j (omega arith)) r small))
+              (next .here r small (listed-to w w₁ 0 6656 n (copied .rows-copied) r l) .is a node);
+        })

@@ -27,7 +27,7 @@ use Rattle.case.specs.declared.rows.Op.the-variants.{TryCast}
 use Rattle.case.specs.Frame.{rowAt, slotAt, nextSlot, Rows, Listed, Filled, FilledFrom, Fillable, FillableFrom, operationOf}
 use Rattle.case.specs.Taking.{Picked, HasIndex, startOf, startAt}
 use Rattle.case.specs.Evaluation.{Framed, Done, rowIn, ExprRight, resultAt, indexed, Takes, ElseRight, TakeRight}
-use Rattle.case.proofs.FrameLaws.{Kept, SameRows, kept-rows, kept-slot, listed-to, listed-from, rows-to, rows-small, listed-below, framed-few, framed-fillable, framed-kept, done-filled, lent, back, lent-rows, lent-slot, lent-framed, NextDone, next-done}
+use Rattle.case.proofs.FrameLaws.{Kept, SameRows, kept-rows, kept-slot, listed-to, listed-from, rows-to, rows-small, listed-below, framed-few, framed-fillable, framed-kept, done-filled, done-done, lent, back, lent-rows, lent-slot, lent-framed, NextDone, next-done}
 use Rattle.case.proofs.CaseLaws.{result-else, result-failed}
 use Rattle.case.proofs.ChooseLaws.{BranchAt, branch-at, last-two}
 
@@ -135,6 +135,21 @@ else-cast {rule} {at} {end} {table} {t} {depth} {to} {r} {u} {v} old there right
     go absent trees = absurd (there (trees-none trees))
     go (present e) trees = g .means rule table ∙ ap (onEntry (λ x. entry (tryCastEntry to x))) (right .is e (trees-one trees))
 
+-- ELSE in the next frame, cast there, and its slots back
+module _ {rule : List ℕ} {at end : ℕ} {table : List ℕ} {t : Table} {depth : ℕ} {w w₁ : List ℕ} {n m : ℕ} (values : List ℕ) {k : ℕ} (f : Framed table t w n (depth + 1)) (deep : 0 < depth)
+    (p : Picked (HasIndex values k) w n m w₁) (there : at ≡ end → ⊥) {ys : List ℕ} (d : Done (ExprRight rule at end table t depth) (lent w₁) m ys) where
+  pub else-next : NextDone (ExprRight rule at end table t depth) w₁ m (back w₁ ys)
+  else-next = picked-next values f deep p d
+
+  module _ (to : DataType) {zs : List ℕ} (e : Filled (λ r x. Gives (operationOf (TryCast to)) (slotAt (lent (back w₁ ys)) r) x) (lent (back w₁ ys)) m zs) where
+    pub else-again : NextDone (λ r v. (old : Value) → ElseRight rule at end table t depth to r old v) w₁ m (back (back w₁ ys) zs)
+    else-again = next-again values f deep p else-next e (λ r v h right g old. else-cast old there right g)
+
+    pub else-takes : {w₃ : List ℕ} → FilledFrom 6656 (λ r v. v ≡ nextSlot (back (back w₁ ys) zs) r) (back (back w₁ ys) zs) m w₃ → Takes values k (ElseRight rule at end table t depth to) w n w₃
+    else-takes g =
+        let x = next-takes values f deep p else-again g in
+        record { long = x .long; here = λ r l i. x .here r l i (slotAt w r); others = x .others; low = x .low }
+
 -- ---- one index after the other
 
 -- where the loop stands: the indexes from 1 to below k have been taken
@@ -147,22 +162,34 @@ pub record Taken (rule : List ℕ) (at end : ℕ) (table : List ℕ) (t : Table)
   pub done : (r : ℕ) → Listed w 0 n r → 0 < getD values r 0 → getD values r 0 < k → TakeRight rule at end table t depth count to values r (slotAt w′ r)
   pub open-rows : (r : ℕ) → Listed w 0 n r → (getD values r 0 ≡ 0) ⊎ (k ≤ getD values r 0) → slotAt w′ r ≡ startAt values (count + 2) r
 
-module _ {rule : List ℕ} {at end : ℕ} {table : List ℕ} {t : Table} {depth count : ℕ} {to : DataType} {values w : List ℕ} {n : ℕ} (f : Framed table t w n (depth + 1)) where
-  pub take-none : {w₁ : List ℕ} → Filled (λ r v. v ≡ startAt values (count + 2) r) w n w₁ → Taken rule at end table t depth count to values w n 1 at w₁
-  take-none d = record {
-    first = omega arith;
-    few = omega arith;
-    behind = record { stand = none-behind; onward = omega arith };
-    long = d .long;
-    low = d .low;
-    done = λ r l a b. absurd (omega arith);
-    open-rows = λ r l o. d .here r l;
-  }
-    where
-      none-behind : (end : ℕ) (es rest : List Expr) (depth : ℕ) → length es ≡ 2 * (1 - 1) → TreesAt rule at end (es ++ rest) depth → TreesAt rule at end rest depth
-      none-behind end [] rest depth p trees = trees
-      none-behind end (e ∷ es) rest depth p trees = absurd (omega arith)
+-- the slots that the loop begins with
+module _ {table : List ℕ} {t : Table} {depth : ℕ} {right : ℕ → Value → Type 0} {w w₁ : List ℕ} {n : ℕ} (f : Framed table t w n depth) (d : Filled right w n w₁) where
+  pub start-framed : Framed table t w₁ n depth
+  start-framed = framed-kept f depth (omega arith) w₁ (d .long) (d .low)
 
+  start-list : SameRows w 0 w₁ 0 n
+  start-list = kept-rows 1024 w w₁ 0 n (let q = f .list-ok .few in omega arith) (d .low)
+
+  pub start-done : {right′ : ℕ → Value → Type 0} {w₂ : List ℕ} → Done right′ w₁ n w₂ → Done right′ w n w₂
+  start-done e = done-done (f .list-ok .few) (d .long) (d .low) e (λ r v l x. x)
+
+pub take-none : {rule : List ℕ} {at end : ℕ} {table : List ℕ} {t : Table} {depth count : ℕ} {to : DataType} {values w w₁ : List ℕ} {n : ℕ} (failed : ℕ) → failed ≡ count + 2 → Framed table t w n (depth + 1)
+    → Filled (λ r v. v ≡ startAt values failed r) w n w₁ → Taken rule at end table t depth count to values w₁ n 1 at w₁
+take-none {rule} {at} {values = values} {w} {w₁} {n} failed e f d = record {
+  first = omega arith;
+  few = omega arith;
+  behind = record { stand = none-behind; onward = omega arith };
+  long = refl;
+  low = λ j h. refl;
+  done = λ r l a b. absurd (omega arith);
+  open-rows = λ r l o. d .here r (listed-from w w₁ 0 0 n (start-list f d) r l) ∙ ap (λ (k : ℕ). startAt values k r) e;
+}
+  where
+    none-behind : (end : ℕ) (es rest : List Expr) (depth : ℕ) → length es ≡ 2 * (1 - 1) → TreesAt rule at end (es ++ rest) depth → TreesAt rule at end rest depth
+    none-behind end [] rest depth p trees = trees
+    none-behind end (e ∷ es) rest depth p trees = absurd (omega arith)
+
+module _ {rule : List ℕ} {at end : ℕ} {table : List ℕ} {t : Table} {depth count : ℕ} {to : DataType} {values w : List ℕ} {n : ℕ} (f : Framed table t w n (depth + 1)) where
   module _ {k place : ℕ} {w₁ : List ℕ} (s : Taken rule at end table t depth count to values w n k place w₁) where
     pub take-framed : Framed table t w₁ n (depth + 1)
     take-framed = framed-kept f (depth + 1) (omega arith) w₁ (s .long) (s .low)
@@ -178,7 +205,7 @@ module _ {rule : List ℕ} {at end : ℕ} {table : List ℕ} {t : Table} {depth 
             let q = s .first in
             let at-i = branch-at (k - 1) bs (omega arith) in
             let here = s .behind .stand end (at-i .before) (at-i .when-is ∷ at-i .then-is ∷ (branchTrees (at-i .later) ++ optionalTrees els)) depth (at-i .many)
-                (subst (λ (l : List Expr). TreesAt rule at end l depth) (ap (λ (l : List Expr). l ++ optionalTrees els) (at-i .trees) ∙ append-assoc (at-i .before) (at-i .when-is ∷ at-i .then-is ∷ branchTrees (at-i .later)) (optionalTrees els)) trees) in
+            (subst (λ (l : List Expr). TreesAt rule at end l depth) (ap (λ (l : List Expr). l ++ optionalTrees els) (at-i .trees) ∙ append-assoc (at-i .before) (at-i .when-is ∷ at-i .then-is ∷ branchTrees (at-i .later)) (optionalTrees els)) trees) in
             let index-is : getD values r 0 ≡ suc (k - 1) = omega arith in
             x .is (at-i .then-is) (first-two to-then to-next here .1)
             ∙ sym (at-i .result (rowIn table t r) (evalElse els (rowIn table t r) to))

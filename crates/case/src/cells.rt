@@ -1,8 +1,8 @@
 // The entries of a column that a rule names in the slots of the listed rows.
-use crate::rows::fill_value;
-use crate::rows::choose_scalar;
 use crate::column::column_or_null;
 use crate::column::fill_column;
+use crate::rows::choose_scalar;
+use crate::rows::fill_value;
 use layout::number::byte_at;
 use scalar::value::Value;
 use table::places::Table;

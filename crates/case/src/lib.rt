@@ -5,6 +5,7 @@ pub(crate) mod bitmap;
 pub(crate) mod boolean_lookup_table;
 pub mod builder;
 pub(crate) mod bytes_like_lookup_table;
+pub(crate) mod case;
 pub(crate) mod cells;
 pub(crate) mod clear;
 pub(crate) mod column;

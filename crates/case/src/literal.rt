@@ -1,6 +1,6 @@
 // Literals in the slots of the listed rows.
-use crate::rows::fill_value;
 use crate::rows::choose_scalar;
+use crate::rows::fill_value;
 use crate::slot::stored;
 use rule::literal::literal_value;
 use rule::type_of::type_of;

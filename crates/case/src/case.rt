@@ -1,8 +1,8 @@
 // Expressions and CASEs over a list of rows, in the lent work buffer. `depth` is how deep a node, or what is below a CASE, may nest; the frame
 // of a call is at the front of `work`, and what it calls for other rows works in the part beyond.
-use crate::builder::ResultBuilder;
 use crate::binary::compare_rows;
 use crate::binary::compare_value;
+use crate::builder::ResultBuilder;
 use crate::cells::cells_or_null;
 use crate::cells::fill_cells;
 use crate::literal::fill_literal;
@@ -197,7 +197,21 @@ fn case_when_no_expr(
     let to = type_of(rule, start);
     copy_list(work, n, 0, 5632);
     let b = open_builder(t.rows);
-    branches(rule, at, end, table, t, work, n, n, Leave::TrueWhen, count, to, b, depth);
+    branches(
+        rule,
+        at,
+        end,
+        table,
+        t,
+        work,
+        n,
+        n,
+        Leave::TrueWhen,
+        count,
+        to,
+        b,
+        depth,
+    );
 }
 
 // CASE expression WHEN value THEN result .. ELSE result END. A null base goes to ELSE, and no WHEN is read.
@@ -248,7 +262,21 @@ fn by_base(
     let els = count as u16 + 1;
     let s = settle(rule, table, work, n, Leave::NullBase, els, els + 1, b);
     let builder = s.builder;
-    branches(rule, at, end, table, t, work, n, s.left, Leave::EqualWhen, count, to, builder, depth);
+    branches(
+        rule,
+        at,
+        end,
+        table,
+        t,
+        work,
+        n,
+        s.left,
+        Leave::EqualWhen,
+        count,
+        to,
+        builder,
+        depth,
+    );
 }
 
 // CASE WHEN condition THEN column [ELSE NULL] END
@@ -310,7 +338,21 @@ fn expr_or_expr(
     let to = type_of(rule, start);
     copy_list(work, n, 0, 5632);
     let b = open_builder(t.rows);
-    branches(rule, at, end, table, t, work, n, n, Leave::TrueWhen, 1, to, b, depth);
+    branches(
+        rule,
+        at,
+        end,
+        table,
+        t,
+        work,
+        n,
+        n,
+        Leave::TrueWhen,
+        1,
+        to,
+        b,
+        depth,
+    );
 }
 
 // CASE expression WHEN literal THEN literal .. [ELSE literal] END
@@ -388,7 +430,20 @@ fn choose(
     while i < count {
         let then = field_end(rule, place);
         let index = i as u16 + 1;
-        let s = turn(rule, place, then, table, t, work, open, how, index, failed, builder, depth);
+        let s = turn(
+            rule,
+            place,
+            then,
+            table,
+            t,
+            work,
+            open,
+            how,
+            index,
+            failed,
+            builder,
+            depth,
+        );
         open = s.left;
         let next = s.builder;
         builder = next;
