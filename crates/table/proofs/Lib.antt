@@ -7,3 +7,4 @@ pub mod ColumnLaws
 pub mod ReadLaws
 pub mod PlaceLaws
 pub mod EntryLaws
+pub mod RefusalLaws
