@@ -22,3 +22,4 @@ pub mod StrategyLaws
 pub mod NullableLaws
 pub mod ReadNode
 pub mod AnswerLaws
+pub mod RefusalLaws
