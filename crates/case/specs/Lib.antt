@@ -15,6 +15,7 @@ pub mod LookUpTables
 pub mod LookUpBooleans
 pub mod Write
 pub mod Evaluation
+pub mod Readings
 pub mod Writing
 pub mod Cases
 pub mod Demands

@@ -9,6 +9,7 @@ pub(crate) mod case;
 pub(crate) mod cells;
 pub(crate) mod clear;
 pub(crate) mod column;
+pub mod evaluate;
 pub(crate) mod fits;
 pub(crate) mod literal;
 pub(crate) mod literal_lookup_table;

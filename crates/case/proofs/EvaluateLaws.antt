@@ -1,0 +1,192 @@
+-- A whole evaluation beside its definition. Assumes nothing.
+use mathlib.Core.Path.{_≡_, refl, sym, ap, ap₂, subst, _∙_}
+use mathlib.Core.Bool.{Bool, true, false, cond, not}
+use mathlib.Core.List.{List, [], _∷_, _++_, map}
+use Prim.Native.Nat.{ℕ, zero, suc, _+_, _*_, _^_, _<_, _≤_}
+use native.Mathlib.Omega.{arith}
+use lib.Dec.{leb}
+use lib.ListN.{length, replicate, length-replicate}
+use borrow.Author.Tests.{le-leb, lt-leb}
+use Rattle.layout.specs.Bytes.{Bytes}
+use Rattle.layout.specs.Result.{Result, refused, ok, _>>=_, require}
+use Rattle.scalar.specs.declared.types.DataType.{DataType}
+use Rattle.scalar.specs.Entry.{Entry, Outcome, outcomeOfType}
+use Rattle.scalar.specs.Value.{meaning}
+use Rattle.rule.specs.declared.node.NodeRead.{NodeRead}
+use Rattle.rule.specs.Tree.{Expr}
+use Rattle.rule.specs.Typing.{typeOf}
+use Rattle.rule.specs.Row.{eval}
+use Rattle.rule.specs.Reading.{readRule}
+use Rattle.rule.specs.Steps.{RuleRead, Gives}
+use Rattle.rule.specs.Nullable.{nullable}
+use Rattle.rule.specs.AnswerWalks.{RuleNullableGives}
+use Rattle.rule.specs.Node.{NodeAt}
+use Rattle.rule.proofs.ReadNode.{accepted-node}
+use Rattle.rule.proofs.StepLaws.{was-refused, was-read}
+use Rattle.rule.proofs.RefusalLaws.{rule-refusals}
+use Rattle.table.specs.declared.places.Table.{Table as Places}
+use Rattle.table.specs.declared.places.TableAnswer.{TableAnswer}
+use Rattle.table.specs.Reading.{Table, readTable}
+use Rattle.table.specs.Places.{tableIn, readingIn, TableRead}
+use Rattle.table.proofs.TableInversions.{table-inv, table-few}
+use Rattle.table.proofs.RefusalLaws.{table-refusals}
+use Rattle.case.specs.declared.answer.RunAnswer.{RunAnswer}
+use Rattle.case.specs.declared.answer.RunAnswer.the-variants.{Answered, Refused}
+use Rattle.case.specs.Fits.{fits, rowOf}
+use Rattle.case.specs.Fitting.{FitsGives}
+use Rattle.case.specs.Run.{rowsFrom, outcomes, entriesOf, workLeast, written, writtenAs, runRead, run, zeros, workAfter, outputAfter}
+use Rattle.case.specs.Promise.{runAnswer, callRun, Evaluated}
+use Rattle.case.specs.Frame.{slotAt, AllRows}
+use Rattle.case.specs.Write.{slotOutcomes, slotRun, WriteAsks, WriteGives}
+use Rattle.case.specs.Evaluation.{Framed, Done, rowIn, ExprRight}
+use Rattle.case.specs.Readings.{ReadAsks, RowsGives}
+use Rattle.case.proofs.RunLaws.{run-is, run-rows, entries-refused}
+use Rattle.case.proofs.RowsTyped.{run-sound}
+use Rattle.case.proofs.RowsLaws.{all-rise, all-listed}
+
+-- ---- a refusal before anything is written
+
+-- a refusal of 14 at most leaves both buffers
+pub refused-early : {rule table work output : List ℕ} {n : ℕ} → callRun rule table work output ≡ refused n → n ≤ 14 → Evaluated rule table work output (Refused n) work output
+unfolding workAfter outputAfter
+refused-early {rule} {table} {work} {output} {n} is few = record {
+  says = ap runAnswer (sym is);
+  work-is = sym (ap (λ (r : Result (List ℕ)). workAfter r work) is ∙ ap (λ (b : Bool). cond b work (zeros work)) (le-leb n 14 few));
+  output-is = sym (ap (λ (r : Result (List ℕ)). outputAfter r output) is);
+}
+
+-- by the reading of the rule,
+pub rule-refused : {rule table work output : List ℕ} {a : NodeRead} → Gives (RuleRead a) (readRule rule) (a .refused) → (a .refused ≡ 0 → ⊥)
+    → Evaluated rule table work output (Refused (a .refused)) work output
+unfolding run
+rule-refused {rule} {table} {work} {output} {a} g not-0 =
+    let is = was-refused (readRule rule) g not-0 .0 in
+    refused-early (simp is) (let k = rule-refusals rule (a .refused) is in omega arith)
+
+-- of the table,
+reading-refused : (bytes : List ℕ) (n : ℕ) (t : Places) → (n ≡ 0 → ⊥) → readingIn bytes n t ≡ refused n
+reading-refused bytes zero t h = absurd (h refl)
+reading-refused bytes (suc n) t h = refl
+
+reading-ok : (bytes : List ℕ) (n : ℕ) (t : Places) → n ≡ 0 → readingIn bytes n t ≡ ok (tableIn bytes t)
+reading-ok bytes zero t h = refl
+reading-ok bytes (suc n) t h = absurd (omega arith)
+
+pub table-refused : {rule table work output : List ℕ} {a : NodeRead} {b : TableAnswer} → Gives (RuleRead a) (readRule rule) (a .refused) → a .refused ≡ 0 → TableRead table b
+    → (b .refused ≡ 0 → ⊥) → Evaluated rule table work output (Refused (b .refused)) work output
+unfolding run
+table-refused {rule} {table} {work} {output} {a} {b} g zero-a reads not-0 =
+    let (e, is, read) = was-read (readRule rule) g zero-a in
+    let no = sym (reads .says) ∙ reading-refused table (b .refused) (b .table) not-0 in
+    refused-early (simp (is, no)) (let k = table-refusals table (b .refused) no in omega arith)
+
+-- what the reading of both gives
+pub both-read : {rule table : List ℕ} {a : NodeRead} {b : TableAnswer} → Gives (RuleRead a) (readRule rule) (a .refused) → a .refused ≡ 0 → TableRead table b → b .refused ≡ 0
+    → ReadAsks rule a table (b .table)
+both-read {rule} {table} {a} {b} g zero-a reads zero-b =
+    let (e, is, read) = was-read (readRule rule) g zero-a in
+    record { tree = e; rule-reads = is; rule-is = read; table-reads = sym (reads .says) ∙ reading-ok table (b .refused) (b .table) zero-b }
+
+-- ---- the rows
+
+pub rows-framed : {table : List ℕ} {t : Places} {w w′ : List ℕ} → (t .rows ≤ 512) × (65536 ≤ length w) × (length table ≤ 65536) → AllRows (t .rows) w w′ → Framed table t w′ (t .rows) 8
+rows-framed (few, room, short) all = record { list-ok = all-rise all few; small = few; room = (let l = all .long in omega arith); short = omega arith }
+
+pub rows-given : {rule table : List ℕ} {t : Places} {w w₁ w₂ : List ℕ} → AllRows (t .rows) w w₁ → Done (ExprRight rule 0 (length rule) table t 8) w₁ (t .rows) w₂ → RowsGives rule table t w w₂
+rows-given all d = record { long = d .long ∙ all .long; here = λ e node i h. d .here i (all-listed all i h) .is e node }
+
+-- ---- a rule and a table that were read
+
+-- outcomes are the same where they agree at each row
+map-same : (f g : ℕ → Outcome) (from n : ℕ) → ((i : ℕ) → from ≤ i → i < from + n → f i ≡ g i) → map f (rowsFrom from n) ≡ map g (rowsFrom from n)
+unfolding rowsFrom
+map-same f g from zero h = refl
+map-same f g from (suc n) h = ap₂ (λ (x : Outcome) (l : List Outcome). x ∷ l) (h from (omega arith) (omega arith)) (map-same f g (suc from) n (λ i a b. h i (omega arith) (omega arith)))
+
+-- behind 13 and 14 a refusal is 15, 16 or 17
+written-late : (t : DataType) (n : Bool) (es : List Entry) (output k : ℕ) → writtenAs t n es output ≡ refused k → 15 ≤ k
+unfolding writtenAs
+written-late t n es output k r = go _ _ r
+  where
+    go : (a b : Bool) {l : List ℕ} → (require a 16 >>= λ _. require b 17 >>= λ _. ok l) ≡ refused k → 15 ≤ k
+    go false b q = let z : _≡_ {A = ℕ} 16 k = cc in omega arith
+    go true false q = let z : _≡_ {A = ℕ} 17 k = cc in omega arith
+    go true true q = absurd (let z : _≡_ {A = ℕ} 0 1 = cc in omega arith)
+
+slot-run-late : (rule table w : List ℕ) (rows : ℕ) (t : DataType) (n : Bool) (output k : ℕ) → slotRun rule table w rows t n output ≡ refused k → 15 ≤ k
+slot-run-late rule table w rows t n output k r = go (entriesOf (slotOutcomes rule table w rows)) refl r
+  where
+    go : (m : Result (List Entry)) → entriesOf (slotOutcomes rule table w rows) ≡ m → (m >>= λ es. writtenAs t n es output) ≡ refused k → 15 ≤ k
+    go (refused j) p q =
+        let z : j ≡ k = cc in
+        let f = entries-refused (λ i. meaning rule table (slotAt w i)) 0 rows j p .0 in
+        omega arith
+    go (ok es) p q = written-late t n es output k q
+
+-- the work buffer is zero whatever a late run says
+late-work : (r : Result (List ℕ)) (work : List ℕ) → ((k : ℕ) → r ≡ refused k → 15 ≤ k) → workAfter r work ≡ zeros work
+unfolding workAfter
+late-work (refused n) work h = ap (λ (b : Bool). cond b work (zeros work)) (lt-leb n 14 (h n refl))
+late-work (ok l) work h = refl
+
+module _ {rule table : List ℕ} {a : NodeRead} {t : Places} (bytes : Bytes rule) (table-bytes : Bytes table) (asks : ReadAsks rule a table t) where
+  call-is : (work output : List ℕ) → callRun rule table work output ≡ runRead (asks .tree) (tableIn table t) (length work) (length output)
+  call-is work output = run-is rule table (length work) (length output) (asks .tree) (tableIn table t) (asks .rule-reads) (asks .table-reads)
+
+  pub read-asks : {w : List ℕ} → 65536 ≤ length w → (t .rows ≤ 512) × (65536 ≤ length w) × (length table ≤ 65536)
+  read-asks room = (table-few table (tableIn table t) (asks .table-reads), room, table-inv table (tableIn table t) (asks .table-reads) .few-bytes)
+
+  module _ {seen-fits : Bool} (gives : FitsGives (a .seen) t seen-fits) where
+    fits-is : seen-fits ≡ fits (asks .tree) (tableIn table t)
+    fits-is = gives .says table a (asks .tree) (asks .rule-is) refl
+
+    pub not-fitting : {work output : List ℕ} → seen-fits ≡ false → Evaluated rule table work output (Refused 13) work output
+    unfolding runRead
+    not-fitting {work} {output} no = refused-early (call-is work output ∙ simp (sym fits-is ∙ no)) (omega arith)
+
+    module _ (yes-fits : seen-fits ≡ true) where
+      fitting : fits (asks .tree) (tableIn table t) ≡ true
+      fitting = sym fits-is ∙ yes-fits
+
+      pub too-short : {work output : List ℕ} → length work < 65536 → Evaluated rule table work output (Refused 14) work output
+      unfolding runRead
+      too-short {work} {output} less = refused-early (call-is work output ∙ simp (fitting, lt-leb 65536 (length work) less)) (omega arith)
+
+      module _ {w w₁ : List ℕ} (room : 65536 ≤ length w) (rows : RowsGives rule table t w w₁) where
+        node : NodeAt rule 0 (length rule) (asks .tree) 8
+        node = accepted-node rule (asks .tree) bytes (asks .rule-reads)
+
+        slots-are : slotOutcomes rule table w₁ (t .rows) ≡ outcomes (asks .tree) (tableIn table t)
+        slots-are = map-same _ _ 0 (t .rows) (λ i l h. rows .here (asks .tree) node i h)
+
+        pub write-asks : WriteAsks rule table w₁ (t .rows) (a .result)
+        write-asks = record {
+          few = table-few table (tableIn table t) (asks .table-reads);
+          room = (let l = rows .long in omega arith);
+          rule-short = node .few;
+          table-short = table-inv table (tableIn table t) (asks .table-reads) .few-bytes;
+          typed = λ i h.
+              ap₂ outcomeOfType (asks .rule-is .type-is) (rows .here (asks .tree) node i h)
+              ∙ run-sound rule table (asks .tree) (tableIn table t) i bytes table-bytes (asks .rule-reads) (asks .table-reads) fitting;
+        }
+
+        module _ {null : Bool} (null-is : RuleNullableGives rule null) {output output′ : List ℕ} {r : RunAnswer} (wrote : WriteGives rule table w₁ (t .rows) (a .result) null output r output′) where
+          run-slots : callRun rule table w output ≡ slotRun rule table w₁ (t .rows) (a .result) null (length output)
+          run-slots =
+              call-is w output ∙ run-rows (asks .tree) (tableIn table t) (length w) (length output) fitting room
+              ∙ ap₂ (λ (os : List Outcome) (d : DataType). entriesOf os >>= λ es. writtenAs d (nullable (asks .tree)) es (length output)) (sym slots-are) (sym (asks .rule-is .type-is))
+              ∙ ap (λ (b : Bool). slotRun rule table w₁ (t .rows) (a .result) b (length output)) (sym (null-is .is (asks .tree) node))
+
+          pub evaluated : {w₂ : List ℕ} → w₂ ≡ zeros w₁ → Evaluated rule table w output r w₂ output′
+          evaluated {w₂} cleared = record {
+            says = wrote .says ∙ ap runAnswer (sym run-slots);
+            work-is =
+                cleared ∙ ap (λ (k : ℕ). replicate k 0) (rows .long)
+                ∙ sym (ap (λ (x : Result (List ℕ)). workAfter x w) run-slots
+                ∙ late-work (slotRun rule table w₁ (t .rows) (a .result) null (length output)) w (slot-run-late rule table w₁ (t .rows) (a .result) null (length output)));
+            output-is = wrote .output-is ∙ ap (λ (x : Result (List ℕ)). outputAfter x output) (sym run-slots);
+          }
+
+-- clearing keeps the length
+pub cleared-long : {w w′ : List ℕ} → w′ ≡ zeros w → length w′ ≡ length w
+cleared-long {w} e = ap length e ∙ length-replicate (length w) 0

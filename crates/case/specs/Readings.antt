@@ -1,0 +1,30 @@
+-- A rule and a table that were read, and what their evaluation row by row promises (01, Where a call stops).
+use mathlib.Core.Path.{_≡_}
+use mathlib.Core.List.{List}
+use Prim.Native.Nat.{ℕ, _<_}
+use lib.ListN.{length}
+use Rattle.layout.specs.Result.{ok}
+use Rattle.scalar.specs.Value.{meaning}
+use Rattle.rule.specs.declared.node.NodeRead.{NodeRead}
+use Rattle.rule.specs.Tree.{Expr}
+use Rattle.rule.specs.Row.{eval}
+use Rattle.rule.specs.Reading.{readRule}
+use Rattle.rule.specs.Steps.{RuleRead}
+use Rattle.rule.specs.Node.{NodeAt}
+use Rattle.table.specs.declared.places.Table.{Table}
+use Rattle.table.specs.Reading.{readTable}
+use Rattle.table.specs.Places.{tableIn}
+use Rattle.case.specs.Frame.{slotAt}
+use Rattle.case.specs.Evaluation.{rowIn}
+
+-- what was read of a rule's and of a table's bytes
+pub record ReadAsks (rule : List ℕ) (a : NodeRead) (table : List ℕ) (t : Table) : Type 0 where
+  pub tree : Expr
+  pub rule-reads : readRule rule ≡ ok tree
+  pub rule-is : RuleRead a tree
+  pub table-reads : readTable table ≡ ok (tableIn table t)
+
+-- the slots of the rows have the outcomes of whatever rule the bytes are
+pub record RowsGives (rule table : List ℕ) (t : Table) (w w′ : List ℕ) : Type 0 where
+  pub long : length w′ ≡ length w
+  pub here : (e : Expr) → NodeAt rule 0 (length rule) e 8 → (i : ℕ) → i < t .rows → meaning rule table (slotAt w′ i) ≡ eval e (rowIn table t i)
