@@ -50,7 +50,8 @@ bind-most k (refused n) f p q = refused-most k n (p .most n refl)
 bind-most k (ok a) f p q = q a
 
 -- behind a test, a chain refuses with the test's number or as its next step
-pub require-most-then : {B : Type 0} (k : ℕ) (t : Bool) (n : ℕ) (f : Unit {0} → Result B) → n ≤ k → ((u : Unit {0}) → AtMost k (f u)) → AtMost k (require t n >>= f)
+pub require-most-then : {B : Type 0} (k : ℕ) (t : Bool) (n : ℕ) (f : Unit {0} → Result B) → n ≤ k
+    → ((u : Unit {0}) → AtMost k (f u)) → AtMost k (require t n >>= f)
 require-most-then k t n f h q = bind-most k (require t n) f (require-most k t n h) q
 
 -- a choice refuses as one of its two sides

@@ -39,8 +39,10 @@ firstByte-most (b ∷ l) = ok-most 8 b
 column-most : (f : Field) (seen : List Column) → AtMost 8 (readColumn f seen)
 unfolding readColumn
 column-most f seen =
-    require-most-then 8 (eqb (length (f .content)) 3) 3 _ (omega arith) (λ _. bind-most 8 _ _ (typeNumbered-most 8 3 (byte (f .content) 1) (omega arith)) (λ t.
-    bind-most 8 _ _ (markNumbered-most 8 3 (byte (f .content) 2) (omega arith)) (λ n. require-most-then 8 (not (unlikeEarlier (record { index = byte (f .content) 0; type = t; nullable = n }) seen)) 7 _ (omega arith) (λ _. ok-most 8 _))))
+    require-most-then 8 (eqb (length (f .content)) 3) 3 _ (omega arith) (λ _.
+    bind-most 8 _ _ (typeNumbered-most 8 3 (byte (f .content) 1) (omega arith)) (λ t.
+    bind-most 8 _ _ (markNumbered-most 8 3 (byte (f .content) 2) (omega arith)) (λ n.
+    require-most-then 8 (not (unlikeEarlier (record { index = byte (f .content) 0; type = t; nullable = n }) seen)) 7 _ (omega arith) (λ _. ok-most 8 _))))
 
 -- a number is refused with at most 8
 numberOf-most : (make : ℕ → Entry) (k : ℕ) (value : List ℕ) → AtMost 8 (numberOf make k value)
@@ -50,7 +52,8 @@ numberOf-most make k value = require-most-then 8 (eqb (length value) k) 3 _ (ome
 literalValue-most : (t : DataType) (value : List ℕ) → AtMost 8 (literalValue t value)
 unfolding literalValue
 literalValue-most Boolean value =
-    require-most-then 8 (eqb (length value) 1) 3 _ (omega arith) (λ _. bind-most 8 _ _ (markNumbered-most 8 3 (byte value 0) (omega arith)) (λ b. ok-most 8 _))
+    require-most-then 8 (eqb (length value) 1) 3 _ (omega arith) (λ _.
+    bind-most 8 _ _ (markNumbered-most 8 3 (byte value 0) (omega arith)) (λ b. ok-most 8 _))
 literalValue-most Int32 value = numberOf-most int32 4 value
 literalValue-most Int64 value = numberOf-most int64 8 value
 literalValue-most Float64 value = numberOf-most float64 8 value
@@ -75,7 +78,8 @@ literal-most f seen =
 -- behind its last child a node is refused with at most 8
 close-most : (e : Expr) (seen : List Column) (left rest : List ℕ) → AtMost 8 (closeNode e seen left rest)
 unfolding closeNode
-close-most e seen left rest = require-most-then 8 (isEmpty left) 3 _ (omega arith) (λ _. require-most-then 8 (nodeTyped e) 7 _ (omega arith) (λ _. ok-most 8 _))
+close-most e seen left rest =
+    require-most-then 8 (isEmpty left) 3 _ (omega arith) (λ _. require-most-then 8 (nodeTyped e) 7 _ (omega arith) (λ _. ok-most 8 _))
 
 -- a node of one child is refused with at most 8 if the child is
 unary-most : (node : Expr → Expr) (child : Reader Expr) (content : List ℕ) (seen : List Column) (rest : List ℕ) → Small child
@@ -108,7 +112,8 @@ branches-most child (suc n) bytes seen small =
     bind-most 8 _ _ (branches-most child n (t .rest) (t .seen) small) (λ bs. ok-most 8 _)))
 
 -- and so is its base or its ELSE
-optional-most : (there : Bool) (child : Reader Expr) (bytes : List ℕ) (seen : List Column) → Small child → AtMost 8 (readOptional there child bytes seen)
+optional-most : (there : Bool) (child : Reader Expr) (bytes : List ℕ) (seen : List Column) → Small child
+    → AtMost 8 (readOptional there child bytes seen)
 unfolding readOptional
 optional-most false child bytes seen small = ok-most 8 _
 optional-most true child bytes seen small = bind-most 8 _ _ (small bytes seen) (λ e. ok-most 8 _)
@@ -128,7 +133,9 @@ unfolding readCase
 case-most child content seen rest small =
     bind-most 8 _ _ (firstByte-most content) (λ flags.
     bind-most 8 _ _ (firstByte-most (drop 1 content)) (λ count.
-    require-most-then 8 (leb flags 3) 3 _ (omega arith) (λ _. require-most-then 8 (ltb 0 count) 5 _ (omega arith) (λ _. require-most-then 8 (leb count 32) 6 _ (omega arith)
+    require-most-then 8 (leb flags 3) 3 _ (omega arith) (λ _.
+    require-most-then 8 (ltb 0 count) 5 _ (omega arith) (λ _.
+    require-most-then 8 (leb count 32) 6 _ (omega arith)
     (λ _. parts-most child flags count (drop 2 content) seen rest small)))))
 
 -- and so is a CASE that may not stand on the path
@@ -166,18 +173,23 @@ field-most (suc depth) cases bytes seen =
 root-most : (bytes : List ℕ) → AtMost 8 (readRoot bytes)
 unfolding readRoot
 root-most bytes =
-    bind-most 8 _ _ (header-most 8 2 bytes (omega arith)) (λ f. require-most-then 8 (eqb (f .tag) (tagOf aCase)) 3 _ (omega arith) (λ _. field-most depthMost casesMost bytes []))
+    bind-most 8 _ _ (header-most 8 2 bytes (omega arith)) (λ f.
+    require-most-then 8 (eqb (f .tag) (tagOf aCase)) 3 _ (omega arith) (λ _.
+    field-most depthMost casesMost bytes []))
 
 -- a tree is refused with at most 8
 tree-most : (bytes : List ℕ) → AtMost 8 (readTree bytes)
 unfolding readTree
 tree-most bytes =
-    require-most-then 8 (ltb 0 (length bytes) && leb (length bytes) 4096) 1 _ (omega arith) (λ _. bind-most 8 _ _ (root-most bytes) (λ r. require-most-then 8 (isEmpty (r .rest)) 3 _ (omega arith) (λ _. ok-most 8 r)))
+    require-most-then 8 (ltb 0 (length bytes) && leb (length bytes) 4096) 1 _ (omega arith) (λ _.
+    bind-most 8 _ _ (root-most bytes) (λ r.
+    require-most-then 8 (isEmpty (r .rest)) 3 _ (omega arith) (λ _. ok-most 8 r)))
 
 -- a rule is refused with at most 8
 rule-most : (rule : List ℕ) → AtMost 8 (readRule rule)
 unfolding readRule
-rule-most rule = bind-most 8 _ _ (tree-most rule) (λ r. require-most-then 8 (not (constantFails (r .tree))) 8 _ (omega arith) (λ _. ok-most 8 (r .tree)))
+rule-most rule =
+    bind-most 8 _ _ (tree-most rule) (λ r. require-most-then 8 (not (constantFails (r .tree))) 8 _ (omega arith) (λ _. ok-most 8 (r .tree)))
 
 -- the number that a rule is refused with is at most 8
 pub rule-refusals : (rule : List ℕ) (n : ℕ) → readRule rule ≡ refused n → n ≤ 8

@@ -20,24 +20,30 @@ use Rattle.table.specs.Reading.{tagged, taggedPair, readValidity, neverF
 -- the field of a tag is refused with at most 12
 tagged-most : (tag : ℕ) (bytes : List ℕ) → AtMost 12 (tagged tag bytes)
 unfolding tagged
-tagged-most tag bytes = bind-most 12 _ _ (header-most 12 9 bytes (omega arith)) (λ f. require-most-then 12 (eqb (f .tag) tag) 9 _ (omega arith) (λ _. ok-most 12 f))
+tagged-most tag bytes =
+    bind-most 12 _ _ (header-most 12 9 bytes (omega arith)) (λ f. require-most-then 12 (eqb (f .tag) tag) 9 _ (omega arith) (λ _. ok-most 12 f))
 
 -- and so is one of two bytes
 taggedPair-most : (tag : ℕ) (bytes : List ℕ) → AtMost 12 (taggedPair tag bytes)
 unfolding taggedPair
-taggedPair-most tag bytes = bind-most 12 _ _ (tagged-most tag bytes) (λ f. require-most-then 12 (eqb (length (f .content)) 2) 9 _ (omega arith) (λ _. ok-most 12 f))
+taggedPair-most tag bytes =
+    bind-most 12 _ _ (tagged-most tag bytes) (λ f. require-most-then 12 (eqb (length (f .content)) 2) 9 _ (omega arith) (λ _. ok-most 12 f))
 
 -- a validity is refused with at most 12
 validity-most : (rows : ℕ) (bytes : List ℕ) → AtMost 12 (readValidity rows bytes)
 unfolding readValidity
-validity-most rows bytes = bind-most 12 _ _ (tagged-most 3 bytes) (λ f. require-most-then 12 (eqb (length (f .content)) 0 || eqb (length (f .content)) (bitmapLength rows)) 11 _ (omega arith) (λ _. ok-most 12 _))
+validity-most rows bytes =
+    bind-most 12 _ _ (tagged-most 3 bytes) (λ f.
+    require-most-then 12 (eqb (length (f .content)) 0 || eqb (length (f .content)) (bitmapLength rows)) 11 _ (omega arith) (λ _. ok-most 12 _))
 
 -- a text column's offsets are refused with at most 12
 textOffsets-most : (rows : ℕ) (bytes : List ℕ) → AtMost 12 (readTextOffsets rows bytes)
 unfolding readTextOffsets
 textOffsets-most rows bytes =
     bind-most 12 _ _ (tagged-most 5 bytes) (λ f.
-    require-most-then 12 (eqb (length (f .content)) (4 * suc rows)) 11 _ (omega arith) (λ _. require-most-then 12 (eqb (offsetAt (f .content) 0) 0) 11 _ (omega arith) (λ _. require-most-then 12 (neverFalls rows (f .content)) 11 _ (omega arith) (λ _. ok-most 12 _))))
+    require-most-then 12 (eqb (length (f .content)) (4 * suc rows)) 11 _ (omega arith) (λ _.
+    require-most-then 12 (eqb (offsetAt (f .content) 0) 0) 11 _ (omega arith) (λ _.
+    require-most-then 12 (neverFalls rows (f .content)) 11 _ (omega arith) (λ _. ok-most 12 _))))
 
 -- a column's offsets are refused with at most 12
 offsets-most : (t : DataType) (rows : ℕ) (bytes : List ℕ) → AtMost 12 (readOffsets t rows bytes)
@@ -50,7 +56,9 @@ offsets-most Utf8 rows bytes = textOffsets-most rows bytes
 -- a column's values are refused with at most 12
 values-most : (t : DataType) (rows : ℕ) (offsets bytes : List ℕ) → AtMost 12 (readValues t rows offsets bytes)
 unfolding readValues
-values-most t rows offsets bytes = bind-most 12 _ _ (tagged-most 4 bytes) (λ f. require-most-then 12 (eqb (length (f .content)) (valuesLength t rows offsets)) 11 _ (omega arith) (λ _. ok-most 12 _))
+values-most t rows offsets bytes =
+    bind-most 12 _ _ (tagged-most 4 bytes) (λ f.
+    require-most-then 12 (eqb (length (f .content)) (valuesLength t rows offsets)) 11 _ (omega arith) (λ _. ok-most 12 _))
 
 -- the parts of a column behind its tag 2 are refused with at most 12
 body-most : (rows : ℕ) (f : Field) → AtMost 12 (readBody rows f)
@@ -70,7 +78,9 @@ parts-most rows bytes = bind-most 12 _ _ (taggedPair-most 2 bytes) (λ f. body-m
 -- and so it is with its nulls
 column-most : (rows : ℕ) (bytes : List ℕ) → AtMost 12 (readColumn rows bytes)
 unfolding readColumn
-column-most rows bytes = bind-most 12 _ _ (parts-most rows bytes) (λ c. require-most-then 12 (c .part .nullable || noNull (c .part .validity) rows) 12 _ (omega arith) (λ _. ok-most 12 c))
+column-most rows bytes =
+    bind-most 12 _ _ (parts-most rows bytes) (λ c.
+    require-most-then 12 (c .part .nullable || noNull (c .part .validity) rows) 12 _ (omega arith) (λ _. ok-most 12 c))
 
 -- the columns are refused with at most 12
 columns-most : (rows left : ℕ) (bytes : List ℕ) → AtMost 12 (readColumns rows left bytes)
@@ -85,8 +95,10 @@ columns-most rows (suc left) (b ∷ bytes) =
 table-most : (bytes : List ℕ) → AtMost 12 (readTable bytes)
 unfolding readTable
 table-most bytes =
-    require-most-then 12 (ltb 0 (length bytes) && leb (length bytes) bytesMost) 9 _ (omega arith) (λ _. bind-most 12 _ _ (taggedPair-most 1 bytes) (λ f.
-    require-most-then 12 (leb (number (f .content)) rowsMost) 10 _ (omega arith) (λ _. bind-most 12 _ _ (columns-most (number (f .content)) columnsMost (f .rest)) (λ cs. ok-most 12 _))))
+    require-most-then 12 (ltb 0 (length bytes) && leb (length bytes) bytesMost) 9 _ (omega arith) (λ _.
+    bind-most 12 _ _ (taggedPair-most 1 bytes) (λ f.
+    require-most-then 12 (leb (number (f .content)) rowsMost) 10 _ (omega arith) (λ _.
+    bind-most 12 _ _ (columns-most (number (f .content)) columnsMost (f .rest)) (λ cs. ok-most 12 _))))
 
 -- the number that a table is refused with is at most 12
 pub table-refusals : (bytes : List ℕ) (n : ℕ) → readTable bytes ≡ refused n → n ≤ 12
