@@ -1,0 +1,4 @@
+-- The laws of `listing`.
+pub mod WriteLaws
+pub mod DigitLaws
+pub mod FitLaws
