@@ -2,3 +2,5 @@
 pub mod WriteLaws
 pub mod DigitLaws
 pub mod FitLaws
+pub mod ShownLaws
+pub mod LineLaws
