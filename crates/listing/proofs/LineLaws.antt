@@ -9,7 +9,7 @@ use lib.ListN.{length, length-append}
 use borrow.Author.Tests.{leb-true, leb-false, not-true, not-false}
 use Rattle.scalar.specs.declared.types.DataType.{DataType}
 use Rattle.scalar.specs.Types.{typeNumber, markNumber}
-use Rattle.scalar.specs.Entry.{Entry, entry}
+use Rattle.scalar.specs.Entry.{Entry, Outcome}
 use Rattle.scalar.specs.declared.value.Value.{Value}
 use Rattle.table.specs.Parts.{ValueGives}
 use Rattle.scalar.specs.TryCast.{orNull}
@@ -31,6 +31,12 @@ no-room {out} {at} xs {size} {r} e h q =
 -- there is
 pub has-room : (at size n : ℕ) {r : Bool} → r ≡ leb (at + size) n → not r ≡ false → at + size ≤ n
 has-room at size n {r} e h = leb-true (at + size) n (sym e ∙ not-false r h)
+
+-- for a decimal and more
+pub decimal-room : (n at more : ℕ) {k size : ℕ} {r : Bool} → k ≡ places n → r ≡ leb (at + (k + more)) size → not r ≡ false → at + (length (decimal n) + more) ≤ size
+decimal-room n at more {k} {size} e q h =
+    let fits : at + (k + more) ≤ size = has-room at (k + more) size q h in
+    omega (arith, e, length-decimal n)
 
 -- the digits of a decimal
 pub as-digits : (n : ℕ) {out : List ℕ} {at k p : ℕ} {m : List ℕ} → k ≡ places n → Wrote out at (digits 10 k n) p m → Wrote out at (decimal n) p m
@@ -61,9 +67,67 @@ pub head-as : (rows : ℕ) (d : DataType) (b : Bool) {out : List ℕ} {at t n p 
     → Wrote out at (rowsWord ++ decimal rows ++ typeWords t n) p m → Put out at (headLine rows d b) (Ends p) m
 head-as rows d b e q w = put-fits (wrote-as (ap₂ (λ (x y : ℕ). rowsWord ++ decimal rows ++ typeWords x y) e q) w)
 
+-- ---- an entry
+
+-- the place lies behind the buffer
+pub past-end : {out : List ℕ} {at : ℕ} (xs : List ℕ) → length out < at → Put out at xs Full out
+past-end xs h = put-full xs (omega arith)
+
+module _ (bytes : List ℕ) {v : Value} {s : Shown} (w : Shows v s) {out : List ℕ} {at : ℕ} where
+  -- what is shown doesn't fit
+  pub entry-full : at ≤ length out → {r : Bool} → r ≡ leb (length (shownBytes bytes s)) (length out - at) → not r ≡ true → Put out at (entryBytes (entryOf bytes v)) Full out
+  entry-full h {r} e q =
+      let over : length out - at < length (shownBytes bytes s) = leb-false (length (shownBytes bytes s)) (length out - at) (sym e ∙ not-true r q) in
+      let size : length (shownBytes bytes s) ≡ length (entryBytes (entryOf bytes v)) = ap length (w .says bytes) in
+      put-full (entryBytes (entryOf bytes v)) (omega arith)
+
+  -- what is shown is put
+  pub entry-put : {p : ℕ} {m : List ℕ} → Wrote out at (shownBytes bytes s) p m → Put out at (entryBytes (entryOf bytes v)) (Ends p) m
+  entry-put x = put-fits (wrote-as (w .says bytes) x)
+
+-- what is shown fits
+pub shown-room : (xs : List ℕ) (at n : ℕ) → at ≤ n → {r : Bool} → r ≡ leb (length xs) (n - at) → not r ≡ false → at + length xs ≤ n
+shown-room xs at n h {r} e q =
+    let fits : length xs ≤ n - at = leb-true (length xs) (n - at) (sym e ∙ not-false r q) in
+    omega arith
+
 -- ---- a row's line
+
+-- its number doesn't fit
+pub row-cut : (row : ℕ) (e : Entry) {out : List ℕ} {at k : ℕ} {r : Bool} → k ≡ places row → r ≡ leb (at + (k + 2)) (length out) → not r ≡ true → Put out at (rowLine row e) Full out
+row-cut row e {out} {at} {k} {r} p q h =
+    let over : length out < at + (k + 2) = leb-false (at + (k + 2)) (length out) (sym q ∙ not-true r h) in
+    put-full (rowLine row e) (omega (arith, p, length-row row (entryBytes e)))
+
+-- there is room for its number
+pub number-room : (at k n : ℕ) {r : Bool} → r ≡ leb (at + (k + 2)) n → not r ≡ false → (at ≤ n) × (k + 2 ≤ n - at)
+number-room at k n q h =
+    let fits : at + (k + 2) ≤ n = has-room at (k + 2) n q h in
+    (omega arith, omega arith)
+
+-- there is room for the rest too
+pub row-room : (row : ℕ) (xs : List ℕ) (at k n : ℕ) → k ≡ places row → {r : Bool} → r ≡ leb (at + (k + 2)) n → not r ≡ false
+    → {b : Bool} → b ≡ leb (length xs) (n - at - (k + 2)) → not b ≡ false → at + (length (decimal row) + 2 + length xs) ≤ n
+row-room row xs at k n p q h {b} e g =
+    let room = number-room at k n q h in
+    let fits : length xs ≤ n - at - (k + 2) = leb-true (length xs) (n - at - (k + 2)) (sym e ∙ not-false b g) in
+    omega (arith, p, length-decimal row, room .0, room .1)
 
 module _ {bytes : List ℕ} {e : Entry} {v : Value} {s : Shown} (g : ValueGives bytes e v) (w : Shows v s) where
   -- what is shown is the entry
-  pub shown-entry : shownBytes bytes s ≡ entryBytes e
-  shown-entry = w .says bytes ∙ ap (λ (o : _). entryBytes (orNull o)) (g .says [])
+  shown-entry : shownBytes bytes s ≡ entryBytes e
+  shown-entry = w .says bytes ∙ ap (λ (o : Outcome). entryBytes (orNull o)) (g .says [])
+
+  module _ (row : ℕ) {out : List ℕ} {at : ℕ} where
+    -- its entry doesn't fit
+    pub row-full : {k : ℕ} → k ≡ places row → {r : Bool} → r ≡ leb (at + (k + 2)) (length out) → not r ≡ false
+        → {b : Bool} → b ≡ leb (length (shownBytes bytes s)) (length out - at - (k + 2)) → not b ≡ true → Put out at (rowLine row e) Full out
+    row-full {k} p q h {b} x y =
+        let room = number-room at k (length out) q h in
+        let over : length out - at - (k + 2) < length (shownBytes bytes s) = leb-false (length (shownBytes bytes s)) (length out - at - (k + 2)) (sym x ∙ not-true b y) in
+        let size : length (shownBytes bytes s) ≡ length (entryBytes e) = ap length shown-entry in
+        put-full (rowLine row e) (omega (arith, p, room .0, room .1, length-row row (entryBytes e)))
+
+    -- the line is put
+    pub row-put : {p : ℕ} {m : List ℕ} → Wrote out at (decimal row ++ (32 ∷ []) ++ shownBytes bytes s ++ (10 ∷ [])) p m → Put out at (rowLine row e) (Ends p) m
+    row-put x = put-fits (wrote-as (ap (rowOf row) shown-entry) x)

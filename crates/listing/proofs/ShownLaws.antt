@@ -121,3 +121,7 @@ as-decimal n e = e ∙ sym (length-decimal n)
 -- as long as the word of a truth
 pub as-truth : (b c : Bool) → b ≡ c → length (truthWord c) ≡ length (truthWord b)
 as-truth b c e = ap (λ (x : Bool). length (truthWord x)) (sym e)
+
+-- the room of 16 digits
+pub digits-room : (n at size : ℕ) → at + length (digits 16 16 n) ≤ size → at + 16 ≤ size
+digits-room n at size h = omega (arith, h, length-digits 16 16 n)

@@ -66,6 +66,10 @@ wrote-as {out} {at} {xs} {ys} {p} {m} e w = subst (λ (l : List ℕ). Wrote out 
 pub wrote-byte : {out : List ℕ} {at a b : ℕ} {p : ℕ} {m : List ℕ} → a ≡ b → Wrote out at (a ∷ []) p m → Wrote out at (b ∷ []) p m
 wrote-byte e w = wrote-as (ap (λ (x : ℕ). x ∷ []) e) w
 
+-- the same room by another name of the bytes
+pub room-as : (at n : ℕ) {xs ys : List ℕ} → xs ≡ ys → at + length ys ≤ n → at + length xs ≤ n
+room-as at n e h = subst (λ (l : List ℕ). at + length l ≤ n) (sym e) h
+
 -- bytes stored one by one
 pub wrote-sets : {out : List ℕ} {at : ℕ} {p : ℕ} {m : List ℕ} (xs : List ℕ) → at + length xs ≤ length out → p ≡ at + length xs → m ≡ sets out at xs → Wrote out at xs p m
 unfolding wrote

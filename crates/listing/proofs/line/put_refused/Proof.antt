@@ -1,10 +1,8 @@
 -- `put_refused` writes the line where it fits.
 use borrow.Author.Needs.{needs}
-use native.Mathlib.Omega.{arith}
 use Rattle.listing.specs.Listing.{refusedLine}
 use Rattle.listing.proofs.WriteLaws.{put-fits}
-use Rattle.listing.proofs.DigitLaws.{length-decimal}
-use Rattle.listing.proofs.LineLaws.{no-room, has-room, length-refused}
+use Rattle.listing.proofs.LineLaws.{no-room, decimal-room, length-refused}
 use Rattle.listing.proofs.line.put_refused.Statement.{statement}
 use Rattle.listing.proofs.line.put_refused.Tie as tie
 
@@ -16,6 +14,6 @@ put-refused-spec =
     (λ c. search needs)
     (λ c κs. search needs)
     (λ c. no-room (refusedLine (c .before .before .before .before .args .n)) (c .before .room .ensures) (c .if1 .taken) (length-refused (c .before .before .before .before .args .n) (c .before .before .decimal-places .ensures .0)))
-    (λ c κs. omega (arith, has-room _ _ _ (c .before .before .room .ensures) (c .before .if1 .left), c .before .before .before .decimal-places .ensures .0, length-decimal (c .before .before .before .before .before .args .n)))
+    (λ c κs. decimal-room (c .before .before .before .before .before .args .n) (c .before .before .before .before .before .args .at) 9 (c .before .before .before .decimal-places .ensures .0) (c .before .before .room .ensures) (c .before .if1 .left))
     (λ c. search needs)
     (λ c. put-fits (c .before .before .write-refused .ensures)))
