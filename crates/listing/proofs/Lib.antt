@@ -4,3 +4,4 @@ pub mod DigitLaws
 pub mod FitLaws
 pub mod ShownLaws
 pub mod LineLaws
+pub mod ListingExamples

@@ -4,10 +4,12 @@ use mathlib.Core.List.{List, [], _∷_, _++_}
 use Prim.Native.Nat.{ℕ, zero, suc, _+_, _/_, _%_}
 use lib.Dec.{ltb}
 use lib.IntN.{ℤ, pos, negsuc}
+use Rattle.layout.specs.Result.{Result, refused, ok}
 use Rattle.scalar.specs.declared.types.DataType.{DataType}
 use Rattle.scalar.specs.Types.{typeNumber, markNumber}
 use Rattle.scalar.specs.Entry.{Entry, null, boolean, int32, int64, float64, utf8}
 use Rattle.scalar.specs.Integer.{signed}
+use Rattle.table.specs.Column.{TableColumn, entryAt}
 
 -- a digit: 0 to 9, then a to f, letters small (01, A listing)
 abbrev pub digit : ℕ → ℕ
@@ -83,3 +85,13 @@ refusedWord = 114 ∷ 101 ∷ 102 ∷ 117 ∷ 115 ∷ 101 ∷ 100 ∷ 32 ∷ []
 -- only `refused` and the number (01, A listing)
 abbrev pub refusedLine : ℕ → List ℕ
 refusedLine n = refusedWord ++ decimal n ++ (10 ∷ [])
+
+-- the lines of the first rows (01, A listing)
+unfoldable pub rowLines : TableColumn → ℕ → List ℕ
+rowLines c zero = []
+rowLines c (suc n) = rowLines c n ++ rowLine n (entryAt c n)
+
+-- what is printed of an answer of so many rows: the head line and each row's, or only the refusal's (01, A listing)
+unfoldable pub listing : ℕ → Result TableColumn → List ℕ
+listing rows (ok c) = headLine rows (c .type) (c .nullable) ++ rowLines c rows
+listing rows (refused n) = refusedLine n
