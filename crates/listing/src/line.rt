@@ -27,13 +27,7 @@ ghost use Rattle.listing.specs.Putting.{Wrote, Put, shownBytes};
 pub const LINE_MOST: usize = 131076;
 
 // The line of a row of the column at a place in the bytes.
-pub fn put_row(
-    bytes: &[u8],
-    place: ColumnPlace,
-    row: usize,
-    at: usize,
-    out: &mut [u8],
-) -> PutAnswer
+pub fn put_row(bytes: &[u8], place: ColumnPlace, row: usize, at: usize, out: &mut [u8]) -> PutAnswer
     ensures { λ r. ⌜ Put (now (out .entry)) at (rowLine row (entryAt (columnIn (now (bytes .entry)) place) row)) r (now (out .exit)) ⌝ }
 {
     let k = decimal_places(row as u64);
@@ -61,7 +55,13 @@ pub fn put_head(
     if !room(out.len(), at, k + 24) {
         return PutAnswer::Full;
     }
-    PutAnswer::Ends(write_head(rows as u64, type_number(data_type), mark_number(nullable), at, out))
+    PutAnswer::Ends(write_head(
+        rows as u64,
+        type_number(data_type),
+        mark_number(nullable),
+        at,
+        out,
+    ))
 }
 
 // The line of a refusal with a number.

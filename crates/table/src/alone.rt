@@ -30,8 +30,5 @@ pub fn read_alone(bytes: &[u8], rows: usize) -> PlaceAnswer
         return refuse_place(9);
     }
     let place = c.place;
-    PlaceAnswer {
-        refused: 0,
-        place,
-    }
+    PlaceAnswer { refused: 0, place }
 }
