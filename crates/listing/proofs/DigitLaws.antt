@@ -56,7 +56,7 @@ places-some n = go (decLt n 10)
     go (no p) = let more : 10 ≤ n = omega arith in omega (arith, places-more n more)
 
 -- below a power of ten, no more than its exponent
-places-most : (k n : ℕ) → n < 10 ^ suc k → places n ≤ suc k
+pub places-most : (k n : ℕ) → n < 10 ^ suc k → places n ≤ suc k
 places-most zero n h = omega (arith, places-one n h)
 places-most (suc k) n h = go (places-most k (n / 10) (omega (arith, pow-suc 10 (suc k)))) (decLt n 10)
   where

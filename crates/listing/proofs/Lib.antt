@@ -4,4 +4,5 @@ pub mod DigitLaws
 pub mod FitLaws
 pub mod ShownLaws
 pub mod LineLaws
+pub mod LineMostLaws
 pub mod ListingExamples

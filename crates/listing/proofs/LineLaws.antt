@@ -56,7 +56,7 @@ length-head rows {k} t nullable e =
 abbrev rowOf : ℕ → List ℕ → List ℕ
 rowOf row xs = decimal row ++ (32 ∷ []) ++ xs ++ (10 ∷ [])
 
-length-row : (row : ℕ) (xs : List ℕ) → length (rowOf row xs) ≡ places row + 2 + length xs
+pub length-row : (row : ℕ) (xs : List ℕ) → length (rowOf row xs) ≡ places row + 2 + length xs
 length-row row xs =
     omega (arith, length-append (decimal row ++ (32 ∷ []) ++ xs) (10 ∷ []), length-append (decimal row ++ (32 ∷ [])) xs, length-append (decimal row) (32 ∷ []), length-decimal row)
 

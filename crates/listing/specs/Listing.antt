@@ -65,6 +65,10 @@ entryBytes (utf8 text) = 116 ∷ hexBytes text
 abbrev pub rowLine : ℕ → Entry → List ℕ
 rowLine row e = decimal row ++ (32 ∷ []) ++ entryBytes e ++ (10 ∷ [])
 
+-- the longest line of an answer: a row's number below 512, a space, `t`, a text of 65,535 bytes in hex and LF (01, A listing)
+abbrev pub lineMost : ℕ
+lineMost = 131076
+
 -- `rows ` (01, A listing)
 abbrev pub rowsWord : List ℕ
 rowsWord = 114 ∷ 111 ∷ 119 ∷ 115 ∷ 32 ∷ []
