@@ -14,6 +14,7 @@ use run::run;
 use table::read::read;
 ghost use mathlib.Core.Path.{_≡_};
 ghost use lib.ListN.{length};
+ghost use Rattle.listing.specs.Listing.{lineMost};
 
 // One byte more than a rule may have.
 fn rule_buffer() -> [u8; 4097]
@@ -31,7 +32,7 @@ fn table_buffer() -> [u8; 65537]
 
 // As many bytes as the longest line has.
 fn line_buffer() -> [u8; LINE_MOST]
-    ensures { λ r. ⌜ 131076 ≡ length r ⌝ }
+    ensures { λ r. ⌜ lineMost ≡ length r ⌝ }
 {
     [0; LINE_MOST]
 }

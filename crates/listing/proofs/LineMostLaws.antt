@@ -1,24 +1,24 @@
 -- No line of an answer is longer than the longest. Assumes nothing.
-use mathlib.Core.Path.{_≡_, refl, sym, ap, subst, _∙_}
+use mathlib.Core.Path.{_≡_, sym, subst}
 use mathlib.Core.Bool.{Bool, true, false, cond}
-use mathlib.Core.List.{List, [], _∷_}
-use Prim.Native.Nat.{ℕ, zero, suc, _+_, _-_, _*_, _^_, _<_, _≤_}
+use mathlib.Core.List.{List}
+use Prim.Native.Nat.{ℕ, suc, _-_, _^_, _<_, _≤_}
 use native.Mathlib.Decide.{decLt}
 use native.Mathlib.Omega.{arith}
 use lib.IntN.{ℤ, pos, negsuc}
-use lib.ListN.{length, take, drop, length-take, length-drop}
+use lib.ListN.{length, drop, length-take, length-drop}
 use lib.Signed.{mag}
-use Rattle.layout.specs.Bytes.{Bytes, bitAt, numberAt}
+use Rattle.layout.specs.Bytes.{Bytes}
 use Rattle.layout.specs.Result.{ok}
 use Rattle.scalar.specs.declared.types.DataType.{DataType}
 use Rattle.scalar.specs.declared.types.DataType.the-variants.{Boolean, Int32, Int64, Float64, Utf8}
 use Rattle.scalar.specs.Entry.{Entry, null, boolean, int32, int64, float64, utf8}
 use Rattle.scalar.specs.Integer.{signed}
 use Rattle.scalar.proofs.IntegerLaws.{signed-low, signed-high}
-use Rattle.table.specs.Column.{TableColumn, validIn, offsetAt, textBetween, valueAt, entryAt}
+use Rattle.table.specs.Column.{TableColumn, validIn, offsetAt, valueAt, entryAt}
 use Rattle.table.specs.Reading.{readAlone}
 use Rattle.table.proofs.AloneLaws.{alone-short}
-use Rattle.listing.specs.Listing.{digits, places, decimal, hexBytes, truthWord, integerBytes, entryBytes, rowLine, lineMost}
+use Rattle.listing.specs.Listing.{integerBytes, entryBytes, rowLine, lineMost}
 use Rattle.listing.proofs.DigitLaws.{length-digits, length-decimal, length-hex, places-most}
 use Rattle.listing.proofs.LineLaws.{length-row}
 

@@ -1,14 +1,14 @@
 -- What is shown of a value, and whether it fits. Assumes nothing.
 use mathlib.Core.Path.{_≡_, refl, sym, ap, subst, _∙_}
-use mathlib.Core.Bool.{Bool, true, false}
+use mathlib.Core.Bool.{Bool}
 use mathlib.Core.List.{List, [], _∷_}
-use Prim.Native.Nat.{ℕ, zero, suc, _+_, _-_, _%_, _^_, _<_, _≤_}
+use Prim.Native.Nat.{ℕ, suc, _+_, _-_, _%_, _^_, _<_, _≤_}
 use native.Mathlib.Decide.{decLt}
 use native.Mathlib.Omega.{arith}
-use lib.Dec.{leb, ltb}
+use lib.Dec.{leb}
 use lib.Ieee.{Float, binary64, toBits}
-use lib.IntN.{ℤ, pos, negsuc}
-use lib.ListN.{length, take, drop}
+use lib.IntN.{ℤ, negsuc}
+use lib.ListN.{length, take}
 use lib.Seq.{take-nil, drop-nil}
 use Rattle.scalar.specs.declared.value.Value.{Value}
 use Rattle.scalar.specs.declared.value.Value.the-variants as Value
@@ -18,7 +18,7 @@ use Rattle.scalar.proofs.IntegerLaws.{signed-low, signed-high}
 use Rattle.listing.specs.declared.shown.Shown.{Shown}
 use Rattle.listing.specs.declared.shown.Shown.the-variants.{Null, Truth, Number, Negative, Bits, Text}
 use Rattle.listing.specs.Listing.{digits, places, decimal, hexBytes, truthWord, integerBytes, entryBytes}
-use Rattle.listing.specs.Putting.{Wrote, entryOf, shownBytes, Shows, ShowsInteger}
+use Rattle.listing.specs.Putting.{Wrote, shownBytes, Shows, ShowsInteger}
 use Rattle.listing.proofs.DigitLaws.{length-digits, length-decimal}
 
 -- ---- an integer

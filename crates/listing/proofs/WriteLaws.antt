@@ -2,15 +2,13 @@
 use mathlib.Core.Path.{_≡_, refl, sym, ap, ap₂, subst, _∙_}
 use mathlib.Core.Bool.{Bool, true, false, cond}
 use mathlib.Core.List.{List, [], _∷_, _++_, append-nil, append-assoc}
-use Prim.Native.Nat.{ℕ, zero, suc, _+_, _-_, _<_, _≤_}
+use Prim.Native.Nat.{ℕ, suc, _+_, _<_, _≤_}
 use native.Mathlib.Nat.{add-zero}
 use native.Mathlib.Numerals.{add-one}
 use native.Mathlib.Omega.{arith}
-use lib.Dec.{leb}
 use lib.ListN.{length, take, drop, set, getD, length-append, length-drop, length-set, take-append-drop}
 use lib.Seq.{length-take-le, take-at, drop-at, drop-drop, sets, sets-eq, take-length, paste, paste-zero, paste-suc, set-append-left, take-set-lt, take-suc-set, append-snoc}
-use borrow.Author.Tests.{le-leb, lt-leb, leb-true, leb-false}
-use Rattle.listing.specs.declared.put.PutAnswer.{PutAnswer}
+use borrow.Author.Tests.{le-leb, lt-leb}
 use Rattle.listing.specs.declared.put.PutAnswer.the-variants.{Ends, Full}
 use Rattle.listing.specs.Putting.{wrote, Wrote, fitsAt, Put}
 

@@ -20,7 +20,7 @@ ghost use lib.ListN.{length};
 ghost use Rattle.scalar.specs.Types.{typeNumber, markNumber};
 ghost use Rattle.table.specs.Column.{entryAt};
 ghost use Rattle.table.specs.Places.{columnIn};
-ghost use Rattle.listing.specs.Listing.{decimal, rowLine, typeWords, headLine, refusedLine};
+ghost use Rattle.listing.specs.Listing.{decimal, rowLine, rowsWord, typeWords, headLine, refusedLine};
 ghost use Rattle.listing.specs.Putting.{Wrote, Put, shownBytes};
 
 // The longest line of a table's column: a row's number below 512, a space, `t`, a text of 65,535 bytes in hex, LF.
@@ -121,7 +121,7 @@ fn write_types(t: u64, n: u64, at: usize, out: &mut [u8]) -> usize
 // The head line, where it fits.
 fn write_head(rows: u64, t: u64, n: u64, at: usize, out: &mut [u8]) -> usize
     requires { ⌜ (t ≤ 5) × (n ≤ 1) × (at + (length (decimal rows) + 24) ≤ length (now out)) ⌝ }
-    ensures { λ r. ⌜ Wrote (now (out .entry)) at ((114 ∷ 111 ∷ 119 ∷ 115 ∷ 32 ∷ []) ++ decimal rows ++ typeWords t n) r (now (out .exit)) ⌝ }
+    ensures { λ r. ⌜ Wrote (now (out .entry)) at (rowsWord ++ decimal rows ++ typeWords t n) r (now (out .exit)) ⌝ }
 {
     let p = write_bytes(b"rows ", at, out);
     let q = write_decimal(rows, p, out);

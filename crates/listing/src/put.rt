@@ -4,7 +4,7 @@ ghost use Prim.Native.Nat.{_+_, _≤_};
 ghost use mathlib.Core.Path.{_≡_};
 ghost use lib.Dec.{leb};
 ghost use lib.ListN.{length};
-ghost use Rattle.listing.specs.Putting.{Wrote, Put};
+ghost use Rattle.listing.specs.Putting.{Wrote};
 
 // Where the bytes that were put end, or that they don't fit.
 pub enum PutAnswer {

@@ -2,7 +2,6 @@
 use scalar::cast::widened;
 use scalar::value::Value;
 use scalar::value::float_bits;
-ghost use mathlib.Core.Path.{_≡_};
 ghost use Rattle.scalar.specs.Integer.{signed};
 ghost use Rattle.listing.specs.Putting.{Shows, ShowsInteger};
 

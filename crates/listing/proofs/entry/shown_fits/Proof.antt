@@ -1,11 +1,11 @@
 -- `shown_fits`, arm by arm.
 use borrow.Author.Needs.{needs}
 use denote.Ref.{now}
-use mathlib.Core.Path.{refl, sym, ap, _∙_}
+use mathlib.Core.Path.{refl, sym, ap}
 use mathlib.Core.List.{List, _∷_}
 use Prim.Native.Nat.{ℕ, suc}
 use lib.ListN.{length}
-use Rattle.listing.specs.Listing.{hexBytes, digits}
+use Rattle.listing.specs.Listing.{hexBytes}
 use Rattle.listing.proofs.DigitLaws.{length-digits}
 use Rattle.listing.proofs.ShownLaws.{fits-at, after-sign, as-decimal, as-truth}
 use Rattle.listing.proofs.entry.shown_fits.Statement.{statement}
