@@ -4,6 +4,7 @@ pub mod TableTyped
 pub mod OffsetLaws
 pub mod PartsLaws
 pub mod ColumnLaws
+pub mod AloneLaws
 pub mod ReadLaws
 pub mod PlaceLaws
 pub mod EntryLaws

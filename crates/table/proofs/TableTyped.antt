@@ -24,7 +24,7 @@ use Rattle.table.specs.Column.{TableColumn, validIn, offsetAt, valueAt, 
 use Rattle.table.specs.Reading.{Part, neverFalls, valuesLength, noNull, bytesMost, rowsMost, columnsMost, tagged, taggedPair, readValidity, readTextOffsets, readOffsets, readValues, readBody, readParts, readColumn, readColumns, Table, readTable}
 
 -- a number in k bytes is below 256 to the k
-numberAt-below : (k : ℕ) (l : List ℕ) (at : ℕ) → Bytes l → numberAt k l at < 256 ^ k
+pub numberAt-below : (k : ℕ) (l : List ℕ) (at : ℕ) → Bytes l → numberAt k l at < 256 ^ k
 numberAt-below k l at h =
     let n = number-below (take k (drop at l)) (bytes-take k (drop at l) (bytes-drop at l h)) in
     let m = length-take k (drop at l) in
@@ -62,7 +62,7 @@ tagged-bytes tag bytes f h p =
     subst FieldBytes (ok-injective b) (header-bytes-parts 9 bytes (a .0) h (a .1))
 
 -- and so has one of two bytes
-pair-bytes : (tag : ℕ) (bytes : List ℕ) (f : Field) → Bytes bytes → taggedPair tag bytes ≡ ok f → FieldBytes f
+pub pair-bytes : (tag : ℕ) (bytes : List ℕ) (f : Field) → Bytes bytes → taggedPair tag bytes ≡ ok f → FieldBytes f
 unfolding taggedPair
 pair-bytes tag bytes f h p =
     let a = bind-ok (tagged tag bytes) _ f p in
@@ -73,14 +73,14 @@ pair-bytes tag bytes f h p =
 abbrev RestBytes : Part (List ℕ) → Type 0
 RestBytes r = Bytes (r .rest)
 
-validity-rest : (rows : ℕ) (bytes : List ℕ) (r : Part (List ℕ)) → Bytes bytes → readValidity rows bytes ≡ ok r → RestBytes r
+pub validity-rest : (rows : ℕ) (bytes : List ℕ) (r : Part (List ℕ)) → Bytes bytes → readValidity rows bytes ≡ ok r → RestBytes r
 unfolding readValidity
 validity-rest rows bytes r h p =
     let f = bind-ok (tagged 3 bytes) _ r p in
     let a = require-then (eqb (length (f .0 .content)) 0 || eqb (length (f .0 .content)) (bitmapLength rows)) 11 _ r (f .2) .1 in
     subst RestBytes (ok-injective a) (tagged-bytes 3 bytes (f .0) h (f .1) .1)
 
-offsets-rest : (t : DataType) (rows : ℕ) (bytes : List ℕ) (r : Part (List ℕ)) → Bytes bytes → readOffsets t rows bytes ≡ ok r → RestBytes r
+pub offsets-rest : (t : DataType) (rows : ℕ) (bytes : List ℕ) (r : Part (List ℕ)) → Bytes bytes → readOffsets t rows bytes ≡ ok r → RestBytes r
 unfolding readTextOffsets
 offsets-rest Boolean rows bytes r h p = subst RestBytes (ok-injective p) h
 offsets-rest Int32 rows bytes r h p = subst RestBytes (ok-injective p) h

@@ -12,6 +12,7 @@ use Rattle.table.specs.declared.part.PartAnswer.{PartAnswer}
 use Rattle.table.specs.declared.part.PartAnswer.the-variants.{At, Refused}
 use Rattle.table.specs.declared.column.ColumnAnswer.{ColumnAnswer}
 use Rattle.table.specs.declared.places.TableAnswer.{TableAnswer}
+use Rattle.table.specs.declared.places.PlaceAnswer.{PlaceAnswer}
 use Rattle.table.specs.Column.{TableColumn}
 use Rattle.scalar.specs.declared.types.DataType.{DataType}
 use Rattle.scalar.specs.declared.value.Value.{Value}
@@ -86,6 +87,10 @@ headStep kind mark rows bytes = do
 
 -- a refusal with a number
 pub record Refuses (n : ℕ) (r : ColumnAnswer) : Type 0 where
+  pub number : r .refused ≡ n
+
+-- a refusal of one column with a number
+pub record PlaceRefuses (n : ℕ) (r : PlaceAnswer) : Type 0 where
   pub number : r .refused ≡ n
 
 -- ---- the columns

@@ -10,10 +10,11 @@ use Rattle.layout.specs.Bytes.{part}
 use Rattle.table.specs.declared.places.ColumnPlace.{ColumnPlace}
 use Rattle.table.specs.declared.places.Table.{Table as TablePlaces}
 use Rattle.table.specs.declared.places.TableAnswer.{TableAnswer}
+use Rattle.table.specs.declared.places.PlaceAnswer.{PlaceAnswer}
 use Rattle.scalar.specs.declared.types.DataType.the-variants.{Boolean}
 use Rattle.table.specs.declared.answer.EntryAnswer.{EntryAnswer}
 use Rattle.table.specs.Column.{TableColumn}
-use Rattle.table.specs.Reading.{Table, readTable}
+use Rattle.table.specs.Reading.{Table, readTable, readAlone}
 use Rattle.table.specs.Answers.{entryAnswer, entryOfTable, StorableAnswer}
 
 -- the column that bytes hold at a place
@@ -64,6 +65,16 @@ pub record TableRead (bytes : List ℕ) (r : TableAnswer) : Type 0 where
   pub says : readingIn bytes (r .refused) (r .table) ≡ readTable bytes
   pub few : r .table .count ≤ 16
   pub inside : r .refused ≡ 0 → (i : ℕ) → i < r .table .count → ColumnInside (length bytes) (getD (r .table .columns) i noPlace)
+
+-- 0 is a column, any other number a refusal
+abbrev pub placeIn : List ℕ → ℕ → ColumnPlace → Result TableColumn
+placeIn bytes zero p = ok (columnIn bytes p)
+placeIn bytes (suc n) p = refused (suc n)
+
+-- what the reading of one column promises: its answer says what the definition reads, and where there is one, its places lie in the bytes
+pub record AloneRead (bytes : List ℕ) (rows : ℕ) (r : PlaceAnswer) : Type 0 where
+  pub says : placeIn bytes (r .refused) (r .place) ≡ readAlone rows bytes
+  pub inside : r .refused ≡ 0 → ColumnInside (length bytes) (r .place)
 
 -- a part of a column, of no column empty
 abbrev pub partOfColumn : (TableColumn → List ℕ) → Option TableColumn → List ℕ

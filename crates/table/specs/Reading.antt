@@ -136,3 +136,11 @@ readTable bytes = do
   _ ← require (leb (number (f .content)) rowsMost) 10
   cs ← readColumns (number (f .content)) columnsMost (f .rest)
   ok (record { rows = number (f .content); columns = cs })
+
+-- one column that is the whole of the bytes, as the answer is (01, Bytes of a table): above 512 rows 10, bytes behind the column 9
+unfoldable pub readAlone : ℕ → List ℕ → Result TableColumn
+readAlone rows bytes = do
+  _ ← require (leb rows rowsMost) 10
+  c ← readParts rows bytes
+  _ ← require (eqb (length (c .rest)) 0) 9
+  ok (c .part)

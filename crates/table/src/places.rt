@@ -25,3 +25,9 @@ pub struct TableAnswer {
     pub refused: u8,
     pub table: Table,
 }
+
+// The reading of one column: refused with a number, or 0 and where its parts stand.
+pub struct PlaceAnswer {
+    pub refused: u8,
+    pub place: ColumnPlace,
+}

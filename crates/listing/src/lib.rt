@@ -1,0 +1,6 @@
+// The lines of a listing, put at a place of a lent buffer. Every public function takes every argument.
+pub mod digits;
+pub mod entry;
+pub mod line;
+pub mod put;
+pub mod shown;

@@ -1,0 +1,34 @@
+// Reading one column that is the whole of the bytes, as the answer of a run is.
+use crate::column::column_parts;
+use crate::column::no_place;
+use crate::places::PlaceAnswer;
+ghost use Rattle.table.specs.Places.{AloneRead};
+ghost use Rattle.table.specs.Parts.{PlaceRefuses};
+
+// A column that is refused.
+fn refuse_place(n: u8) -> PlaceAnswer
+    ensures { λ r. ⌜ PlaceRefuses n r ⌝ }
+{
+    PlaceAnswer {
+        refused: n,
+        place: no_place(),
+    }
+}
+
+// Where the parts of the one column of so many rows stand, or the number with which it is refused: above 512 rows 10, bytes behind the column 9.
+pub fn read_alone(bytes: &[u8], rows: usize) -> PlaceAnswer
+    ensures { λ r. ⌜ AloneRead (now (bytes .entry)) rows r ⌝ }
+{
+    if 512 < rows {
+        return refuse_place(10);
+    }
+    let c = column_parts(bytes, 0, rows);
+    if c.refused != 0 {
+        return refuse_place(c.refused);
+    }
+    if c.next < bytes.len() {
+        return refuse_place(9);
+    }
+    let place = c.place;
+    PlaceAnswer { refused: 0, place }
+}
