@@ -5,7 +5,7 @@ use mathlib.Core.List.{List, [], _∷_, _++_, map}
 use Prim.Native.Nat.{ℕ, zero, suc, _+_, _*_, _^_, _<_, _≤_}
 use native.Mathlib.Omega.{arith}
 use lib.Dec.{leb}
-use lib.ListN.{length, replicate, length-replicate}
+use lib.ListN.{length, replicate}
 use borrow.Author.Tests.{le-leb, lt-leb}
 use Rattle.layout.specs.Bytes.{Bytes}
 use Rattle.layout.specs.Result.{Result, refused, ok, _>>=_, require}
@@ -34,7 +34,8 @@ use Rattle.case.specs.declared.answer.RunAnswer.{RunAnswer}
 use Rattle.case.specs.declared.answer.RunAnswer.the-variants.{Answered, Refused}
 use Rattle.case.specs.Fits.{fits, rowOf}
 use Rattle.case.specs.Fitting.{FitsGives}
-use Rattle.case.specs.Run.{rowsFrom, outcomes, entriesOf, workLeast, written, writtenAs, runRead, run, zeros, workAfter, outputAfter}
+use Rattle.case.specs.Answer.{columnOf, columnBytes, textLength}
+use Rattle.case.specs.Run.{rowsFrom, outcomes, entriesOf, workLeast, textMost, written, writtenAs, runRead, run, zeros, workAfter, outputAfter}
 use Rattle.case.specs.Promise.{runAnswer, callRun, Evaluated}
 use Rattle.case.specs.Frame.{slotAt, AllRows}
 use Rattle.case.specs.Write.{slotOutcomes, slotRun, WriteAsks, WriteGives}
@@ -97,6 +98,14 @@ rows-given all d = record { long = d .long ∙ all .long; here = λ e node i h. 
 
 -- ---- a rule and a table that were read
 
+not-false : (b : Bool) → not b ≡ true → b ≡ false
+not-false true e = sym e
+not-false false e = refl
+
+not-true : (b : Bool) → not b ≡ false → b ≡ true
+not-true true e = refl
+not-true false e = sym e
+
 -- outcomes are the same where they agree at each row
 map-same : (f g : ℕ → Outcome) (from n : ℕ) → ((i : ℕ) → from ≤ i → i < from + n → f i ≡ g i) → map f (rowsFrom from n) ≡ map g (rowsFrom from n)
 unfolding rowsFrom
@@ -106,12 +115,12 @@ map-same f g from (suc n) h = ap₂ (λ (x : Outcome) (l : List Outcome). x ∷ 
 -- behind 13 and 14 a refusal is 15, 16 or 17
 written-late : (t : DataType) (n : Bool) (es : List Entry) (output k : ℕ) → writtenAs t n es output ≡ refused k → 15 ≤ k
 unfolding writtenAs
-written-late t n es output k r = go _ _ r
+written-late t n es output k r = go (leb (textLength es) textMost) (leb (length (columnBytes (columnOf t n es))) output) (columnBytes (columnOf t n es)) r
   where
-    go : (a b : Bool) {l : List ℕ} → (require a 16 >>= λ _. require b 17 >>= λ _. ok l) ≡ refused k → 15 ≤ k
-    go false b q = let z : _≡_ {A = ℕ} 16 k = cc in omega arith
-    go true false q = let z : _≡_ {A = ℕ} 17 k = cc in omega arith
-    go true true q = absurd (let z : _≡_ {A = ℕ} 0 1 = cc in omega arith)
+    go : (a b : Bool) (l : List ℕ) → (require a 16 >>= λ _. require b 17 >>= λ _. ok l) ≡ refused k → 15 ≤ k
+    go false b l q = let z : _≡_ {A = ℕ} 16 k = cc in omega arith
+    go true false l q = let z : _≡_ {A = ℕ} 17 k = cc in omega arith
+    go true true l q = absurd (let z : _≡_ {A = ℕ} 0 1 = cc in omega arith)
 
 slot-run-late : (rule table w : List ℕ) (rows : ℕ) (t : DataType) (n : Bool) (output k : ℕ) → slotRun rule table w rows t n output ≡ refused k → 15 ≤ k
 slot-run-late rule table w rows t n output k r = go (entriesOf (slotOutcomes rule table w rows)) refl r
@@ -133,20 +142,20 @@ module _ {rule table : List ℕ} {a : NodeRead} {t : Places} (bytes : Bytes rule
   call-is : (work output : List ℕ) → callRun rule table work output ≡ runRead (asks .tree) (tableIn table t) (length work) (length output)
   call-is work output = run-is rule table (length work) (length output) (asks .tree) (tableIn table t) (asks .rule-reads) (asks .table-reads)
 
-  pub read-asks : {w : List ℕ} → 65536 ≤ length w → (t .rows ≤ 512) × (65536 ≤ length w) × (length table ≤ 65536)
-  read-asks room = (table-few table (tableIn table t) (asks .table-reads), room, table-inv table (tableIn table t) (asks .table-reads) .few-bytes)
+  pub read-asks : (w : List ℕ) → 65536 ≤ length w → (t .rows ≤ 512) × (65536 ≤ length w) × (length table ≤ 65536)
+  read-asks w room = (table-few table (tableIn table t) (asks .table-reads), room, table-inv table (tableIn table t) (asks .table-reads) .few-bytes)
 
   module _ {seen-fits : Bool} (gives : FitsGives (a .seen) t seen-fits) where
     fits-is : seen-fits ≡ fits (asks .tree) (tableIn table t)
     fits-is = gives .says table a (asks .tree) (asks .rule-is) refl
 
-    pub not-fitting : {work output : List ℕ} → seen-fits ≡ false → Evaluated rule table work output (Refused 13) work output
+    pub not-fitting : {work output : List ℕ} → not seen-fits ≡ true → Evaluated rule table work output (Refused 13) work output
     unfolding runRead
-    not-fitting {work} {output} no = refused-early (call-is work output ∙ simp (sym fits-is ∙ no)) (omega arith)
+    not-fitting {work} {output} un = refused-early (call-is work output ∙ simp (sym fits-is ∙ not-false seen-fits un)) (omega arith)
 
-    module _ (yes-fits : seen-fits ≡ true) where
+    module _ (yes-fits : not seen-fits ≡ false) where
       fitting : fits (asks .tree) (tableIn table t) ≡ true
-      fitting = sym fits-is ∙ yes-fits
+      fitting = sym fits-is ∙ not-true seen-fits yes-fits
 
       pub too-short : {work output : List ℕ} → length work < 65536 → Evaluated rule table work output (Refused 14) work output
       unfolding runRead
@@ -157,7 +166,7 @@ module _ {rule table : List ℕ} {a : NodeRead} {t : Places} (bytes : Bytes rule
         node = accepted-node rule (asks .tree) bytes (asks .rule-reads)
 
         slots-are : slotOutcomes rule table w₁ (t .rows) ≡ outcomes (asks .tree) (tableIn table t)
-        slots-are = map-same _ _ 0 (t .rows) (λ i l h. rows .here (asks .tree) node i h)
+        slots-are = map-same _ _ 0 (t .rows) (λ i l h. rows .here (asks .tree) node i (omega arith))
 
         pub write-asks : WriteAsks rule table w₁ (t .rows) (a .result)
         write-asks = record {
@@ -186,7 +195,3 @@ module _ {rule table : List ℕ} {a : NodeRead} {t : Places} (bytes : Bytes rule
                 ∙ late-work (slotRun rule table w₁ (t .rows) (a .result) null (length output)) w (slot-run-late rule table w₁ (t .rows) (a .result) null (length output)));
             output-is = wrote .output-is ∙ ap (λ (x : Result (List ℕ)). outputAfter x output) (sym run-slots);
           }
-
--- clearing keeps the length
-pub cleared-long : {w w′ : List ℕ} → w′ ≡ zeros w → length w′ ≡ length w
-cleared-long {w} e = ap length e ∙ length-replicate (length w) 0

@@ -3,7 +3,7 @@ use native.Mathlib.Omega.{arith}
 use mathlib.Core.Path.{_∙_, ap}
 use lib.ListN.{length}
 use denote.Ref.{now}
-use Rattle.case.proofs.EvaluateLaws.{read-asks, not-fitting, too-short, write-asks, evaluated, cleared-long}
+use Rattle.case.proofs.EvaluateLaws.{read-asks, not-fitting, too-short, write-asks, evaluated}
 use borrow.Author.Needs.{needs}
 use Rattle.case.proofs.evaluate.evaluate_read.Statement.{statement}
 use Rattle.case.proofs.evaluate.evaluate_read.Tie as tie
@@ -15,10 +15,10 @@ evaluate-read-spec =
     (λ c κs. search needs)
     (λ c. not-fitting (λ i. omega (arith, c .before .before .before .before .before .before .shared-slice-known .given i)) (λ i. omega (arith, c .before .before .before .before .before .shared-slice-known2 .given i)) (c .before .before .before .before .before .before .before .pre) (c .before .fits-table .ensures) (c .if1 .taken))
     (λ c. too-short (λ i. omega (arith, c .before .before .before .before .before .before .before .shared-slice-known .given i)) (λ i. omega (arith, c .before .before .before .before .before .before .shared-slice-known2 .given i)) (c .before .before .before .before .before .before .before .before .pre) (c .before .before .fits-table .ensures) (c .before .if1 .left) (c .if2 .taken))
-    (λ c κs. read-asks (λ i. omega (arith, c .before .before .before .before .before .before .before .before .shared-slice-known .given i)) (λ i. omega (arith, c .before .before .before .before .before .before .before .shared-slice-known2 .given i)) (c .before .before .before .before .before .before .before .before .before .pre) (omega arith))
+    (λ c κs. read-asks (λ i. omega (arith, c .before .before .before .before .before .before .before .before .shared-slice-known .given i)) (λ i. omega (arith, c .before .before .before .before .before .before .before .shared-slice-known2 .given i)) (c .before .before .before .before .before .before .before .before .before .pre) (now (c .before .before .before .before .before .before .before .before .before .args .work)) (omega arith))
     (λ c κs. search needs)
     (λ c κs. write-asks (λ i. omega (arith, c .before .before .before .before .before .before .before .before .before .before .before .before .before .before .shared-slice-known .given i)) (λ i. omega (arith, c .before .before .before .before .before .before .before .before .before .before .before .before .before .shared-slice-known2 .given i)) (c .before .before .before .before .before .before .before .before .before .before .before .before .before .before .before .pre) (c .before .before .before .before .before .before .before .before .before .fits-table .ensures) (c .before .before .before .before .before .before .before .before .if1 .left) (omega arith) (c .before .before .before .before .before .evaluate-rows .ensures))
     (λ c κs. search needs)
-    (λ c. cleared-long (c .before .before .clear .ensures) ∙ c .before .before .before .before .before .before .before .before .before .before .before .before .evaluate-rows .ensures .long)
+    (λ c. c .before .before .clear .kept .0 ∙ c .before .before .before .before .before .before .before .before .before .before .before .before .evaluate-rows .ensures .long)
     (λ c. search needs)
     (λ c. evaluated (λ i. omega (arith, c .before .before .before .before .before .before .before .before .before .before .before .before .before .before .before .before .before .before .before .before .before .shared-slice-known .given i)) (λ i. omega (arith, c .before .before .before .before .before .before .before .before .before .before .before .before .before .before .before .before .before .before .before .before .shared-slice-known2 .given i)) (c .before .before .before .before .before .before .before .before .before .before .before .before .before .before .before .before .before .before .before .before .before .before .pre) (c .before .before .before .before .before .before .before .before .before .before .before .before .before .before .before .before .fits-table .ensures) (c .before .before .before .before .before .before .before .before .before .before .before .before .before .before .before .if1 .left) (omega arith) (c .before .before .before .before .before .before .before .before .before .before .before .before .evaluate-rows .ensures) (c .before .before .before .before .before .before .before .before .nullable-of .ensures) (c .before .before .before .before .before .before .write-answer .ensures) (c .before .before .clear .ensures)))

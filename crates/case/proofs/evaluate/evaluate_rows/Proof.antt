@@ -9,7 +9,7 @@ pub evaluate-rows-spec : {M : Type 1} → statement M
 evaluate-rows-spec =
     tie.close
     (tie.spec
-    (λ c κs. (c .before .before .before .before .pre .0, (let k = c .before .before .before .before .pre .1 .0 in omega arith)))
+    (λ c κs. (c .before .before .before .before .pre .0, (let k = c .before .before .before .before .pre .1 in omega arith)))
     (λ c κs. rows-framed (c .before .before .before .before .before .before .before .before .pre) (c .before .before .before .all-rows .ensures))
     (λ c. c .before .before .evaluate-expr .ensures .long ∙ c .before .before .before .before .before .before .all-rows .ensures .long)
     (λ c. rows-given (c .before .before .before .before .before .before .all-rows .ensures) (c .before .before .evaluate-expr .ensures)))
