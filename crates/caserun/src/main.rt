@@ -1,16 +1,15 @@
 // Evaluates the rule in rule.bin over the table in batch.bin, or in the two files that the arguments name, and prints the answer's listing.
 mod file;
 mod print;
-mod run;
 
 use case::answer::RunAnswer;
+use case::evaluate::evaluate;
 use file::Loaded;
 use file::load;
 use layout::part::part_of;
 use listing::line::LINE_MOST;
 use print::print_answer;
 use print::print_refused;
-use run::run;
 use table::read::read;
 ghost use mathlib.Core.Path.{_≡_};
 ghost use lib.ListN.{length};
@@ -42,7 +41,7 @@ fn list(rule: &[u8], table: &[u8]) {
     let mut work = io::large_buffer();
     let mut output = io::large_buffer();
     let mut line = line_buffer();
-    match run(rule, table, &mut work, &mut output) {
+    match evaluate(rule, table, &mut work, &mut output) {
         RunAnswer::Answered(size) => {
             let t = read(table).table;
             print_answer(part_of(&output, 0, size), t.rows, &mut line);
