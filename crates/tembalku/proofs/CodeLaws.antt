@@ -1,22 +1,43 @@
 -- Answers as one number. Assumes nothing.
-use mathlib.Core.Path.{_≡_, refl, sym, ap, _∙_}
-use mathlib.Core.List.{List}
-use Prim.Native.Nat.{ℕ, zero, suc, _+_, _≤_}
+use mathlib.Core.Path.{_≡_, refl, sym, ap, ap₂, subst, _∙_}
+use mathlib.Core.Bool.{Bool, true, false, cond}
+use mathlib.Core.List.{List, _++_}
+use Prim.Native.Nat.{ℕ, zero, suc, _+_, _-_, _≤_}
+use lib.Dec.{leb}
+use lib.ListN.{length, take, drop, replicate}
+use lib.Seq.{take-append-seam}
 use native.Mathlib.Omega.{arith}
 use Rattle.layout.specs.Result.{Result, refused, ok}
+use Rattle.layout.specs.Bytes.{part, PartWritten}
+use Rattle.layout.proofs.ResultLaws.{bind-ok}
 use Rattle.scalar.specs.declared.types.DataType.{DataType}
 use Rattle.scalar.specs.declared.types.DataType.the-variants.{Boolean, Int32, Int64, Float64, Utf8}
-use Rattle.scalar.specs.Types.{typeNumber}
+use Rattle.scalar.specs.Types.{typeNumber, markNumber}
 use Rattle.rule.specs.declared.answer.RuleAnswer.{RuleAnswer}
 use Rattle.rule.specs.declared.answer.RuleAnswer.the-variants.{Accepted, Refused}
 use Rattle.rule.specs.Tree.{Expr}
-use Rattle.rule.specs.Answers.{ruleAnswer}
+use Rattle.rule.specs.declared.answer.StrategyAnswer.{StrategyAnswer}
+use Rattle.rule.specs.declared.answer.StrategyAnswer.the-variants as OfStrategy
+use Rattle.rule.specs.declared.answer.NullableAnswer.{NullableAnswer}
+use Rattle.rule.specs.declared.answer.NullableAnswer.the-variants as OfNullable
+use Rattle.rule.specs.declared.answer.ProjectionAnswer.{ProjectionAnswer}
+use Rattle.rule.specs.declared.strategy.Strategy.{Strategy}
+use Rattle.rule.specs.declared.strategy.Strategy.the-variants.{NoExpression, WithExpression, InfallibleExprOrNull, ScalarOrScalar, ExpressionOrExpression, WithExprScalarLookupTable}
+use Rattle.rule.specs.Strategy.{strategyNumber}
+use Rattle.rule.specs.Projection.{projection}
+use Rattle.rule.specs.Reading.{readRule}
+use Rattle.rule.specs.Answers.{ruleAnswer, strategyAnswer, nullableAnswer, projectionAnswer}
+use Rattle.case.specs.declared.answer.RunAnswer.{RunAnswer}
+use Rattle.case.specs.declared.answer.RunAnswer.the-variants as OfRun
+use Rattle.case.specs.Run.{runRead, run}
+use Rattle.case.specs.Promise.{runAnswer, callRun, Evaluated}
+use Rattle.case.proofs.RunLaws.{run-answered}
 use Rattle.table.specs.declared.places.Table.{Table as TablePlaces}
 use Rattle.table.specs.declared.places.TableAnswer.{TableAnswer}
 use Rattle.table.specs.Reading.{readTable}
 use Rattle.table.specs.Places.{tableIn, readingIn, TableRead}
 use Rattle.table.proofs.TableInversions.{table-few}
-use Rattle.tembalku.specs.Codes.{ruleCode, tableCode}
+use Rattle.tembalku.specs.Codes.{ruleCode, tableCode, strategyCode, nullableCode, projectionCode, columnsAfter, Projected, runCode, Called}
 
 -- a type's number is small
 pub type-small : (t : DataType) → typeNumber t ≤ 5
@@ -60,3 +81,109 @@ table-rows bytes r g z = table-few bytes (tableIn bytes (r .table)) (sym (accept
 
 pub table-accepted : (bytes : List ℕ) (r : TableAnswer) → TableRead bytes r → r .refused ≡ 0 → 65536 + r .table .rows ≡ tableCode (readTable bytes)
 table-accepted bytes r g z = ap tableCode (accepted-is bytes r g z)
+
+-- ---- strategy, nullability and projection
+
+pub strategy-small : (s : Strategy) → strategyNumber s ≤ 6
+strategy-small NoExpression = omega arith
+strategy-small WithExpression = omega arith
+strategy-small InfallibleExprOrNull = omega arith
+strategy-small ScalarOrScalar = omega arith
+strategy-small ExpressionOrExpression = omega arith
+strategy-small WithExprScalarLookupTable = omega arith
+
+pub strategy-refused : (d : Result Expr) (n : ℕ) → OfStrategy.Refused n ≡ strategyAnswer d → n ≡ strategyCode d
+strategy-refused (refused m) n e = cc
+strategy-refused (ok x) n e = let z : _≡_ {A = ℕ} 0 1 = cc in absurd (omega arith)
+
+by-injective : {a b : Strategy} → OfStrategy.By a ≡ OfStrategy.By b → a ≡ b
+by-injective q = cc
+
+pub strategy-by : (d : Result Expr) (s : Strategy) (k : ℕ) → OfStrategy.By s ≡ strategyAnswer d → k ≡ strategyNumber s → 256 + k ≡ strategyCode d
+strategy-by (refused m) s k e p = let z : _≡_ {A = ℕ} 0 1 = cc in absurd (omega arith)
+strategy-by (ok x) s k e p = ap (λ (n : ℕ). 256 + n) (p ∙ ap strategyNumber (by-injective e))
+
+pub nullable-refused : (d : Result Expr) (n : ℕ) → OfNullable.Refused n ≡ nullableAnswer d → n ≡ nullableCode d
+nullable-refused (refused m) n e = cc
+nullable-refused (ok x) n e = let z : _≡_ {A = ℕ} 0 1 = cc in absurd (omega arith)
+
+nullable-injective : {a b : Bool} → OfNullable.Nullable a ≡ OfNullable.Nullable b → a ≡ b
+nullable-injective q = cc
+
+pub nullable-is : (d : Result Expr) (b c : Bool) → OfNullable.Nullable b ≡ nullableAnswer d → b ≡ c → cond c 257 256 ≡ nullableCode d
+nullable-is (refused m) b c e p = let z : _≡_ {A = ℕ} 0 1 = cc in absurd (omega arith)
+nullable-is (ok x) b true e p = ap (λ (y : Bool). 256 + markNumber y) (sym p ∙ nullable-injective e)
+nullable-is (ok x) b false e p = ap (λ (y : Bool). 256 + markNumber y) (sym p ∙ nullable-injective e)
+
+-- ---- an evaluation
+
+-- an answer is no longer than its output
+pub run-fits : (rule table : List ℕ) (work output : ℕ) (answer : List ℕ) → run rule table work output ≡ ok answer → length answer ≤ output
+unfolding run
+run-fits rule table work output answer r =
+    let a = bind-ok (readRule rule) _ answer r in
+    let b = bind-ok (readTable table) _ answer (a .2) in
+    run-answered rule table work output answer (a .0) (b .0) (a .1) (b .1) r .1 .room
+
+answered-is : (d : Result (List ℕ)) (k : ℕ) → OfRun.Answered k ≡ runAnswer d → (l : List ℕ) × (d ≡ ok l) × (k ≡ length l)
+answered-is (refused n) k e = let z : _≡_ {A = ℕ} 0 1 = cc in absurd (omega arith)
+answered-is (ok l) k e = (l, refl, cc)
+
+pub answer-fits : {rule table work output : List ℕ} {r : RunAnswer} {w o : List ℕ} {k : ℕ} → Evaluated rule table work output r w o → r ≡ OfRun.Answered k → k ≤ length output
+answer-fits {rule} {table} {work} {output} {k = k} g e =
+    let (l, is, size) = answered-is (callRun rule table work output) k (sym e ∙ g .says) in
+    subst (λ (j : ℕ). j ≤ length output) (sym size) (run-fits rule table (length work) (length output) l is)
+
+refused-is : (d : Result (List ℕ)) (n : ℕ) → OfRun.Refused n ≡ runAnswer d → n ≡ runCode d
+refused-is (refused m) n e = cc
+refused-is (ok l) n e = let z : _≡_ {A = ℕ} 0 1 = cc in absurd (omega arith)
+
+pub called-refused : {rule table work output : List ℕ} {r : RunAnswer} {w o : List ℕ} {n : ℕ} → Evaluated rule table work output r w o → r ≡ OfRun.Refused n → Called rule table work output n w o
+called-refused {rule} {table} {work} {output} {n = n} g e =
+    record { says = refused-is (callRun rule table work output) n (sym e ∙ g .says); work-is = g .work-is; output-is = g .output-is }
+
+pub called-answered : {rule table work output : List ℕ} {r : RunAnswer} {w o : List ℕ} {k : ℕ} → Evaluated rule table work output r w o → r ≡ OfRun.Answered k → Called rule table work output (65536 + k) w o
+called-answered {rule} {table} {work} {output} {k = k} g e =
+    let (l, is, size) = answered-is (callRun rule table work output) k (sym e ∙ g .says) in
+    record { says = ap (λ (j : ℕ). 65536 + j) size ∙ ap runCode (sym is); work-is = g .work-is; output-is = g .output-is }
+
+-- ---- the projection
+
+accepted-rule : (d : Result Expr) (t : DataType) → Accepted t ≡ ruleAnswer d → (e : Expr) × (d ≡ ok e)
+accepted-rule (refused n) t p = let z : _≡_ {A = ℕ} 0 1 = cc in absurd (omega arith)
+accepted-rule (ok e) t p = (e, refl)
+
+pub projected-refused : {rule columns : List ℕ} {n : ℕ} → Refused n ≡ ruleAnswer (readRule rule) → Projected rule columns n columns
+projected-refused {rule} {columns} {n} e = go (readRule rule) refl e
+  where
+    go : (d : Result Expr) → readRule rule ≡ d → Refused n ≡ ruleAnswer d → Projected rule columns n columns
+    go (refused m) p q = let same : n ≡ m = cc in record { says = same ∙ ap projectionCode (sym p); columns-are = ap (λ (r : Result Expr). columnsAfter r columns) (sym p) }
+    go (ok x) p q = let z : _≡_ {A = ℕ} 0 1 = cc in absurd (omega arith)
+
+module _ (rule : List ℕ) {t : DataType} {p : ProjectionAnswer} (accepted : Accepted t ≡ ruleAnswer (readRule rule)) (is : p ≡ projectionAnswer (readRule rule)) where
+  rule-is : readRule rule ≡ ok (accepted-rule (readRule rule) t accepted .0)
+  rule-is = accepted-rule (readRule rule) t accepted .1
+
+  answer-is : p ≡ projectionAnswer (ok (accepted-rule (readRule rule) t accepted .0))
+  answer-is = is ∙ ap projectionAnswer rule-is
+
+  pub projected-is : {columns given : List ℕ} {done : Bool} {columns′ : List ℕ} → given ≡ part (p .columns) 0 (p .count) → PartWritten columns 0 given done columns′
+      → Projected rule columns (256 + length given) columns′
+  projected-is {columns} {given} {done} {columns′} g w = record {
+    says = ap (λ (l : List ℕ). 256 + length l) given-is ∙ ap projectionCode (sym rule-is);
+    columns-are =
+        w .holds ∙ ap (λ (b : Bool). cond b (given ++ drop (0 + length given) columns) columns) (w .says)
+        ∙ ap (λ (l : List ℕ). cond (leb (0 + length l) (length columns)) (l ++ drop (0 + length l) columns) columns) given-is
+        ∙ shift (projection (accepted-rule (readRule rule) t accepted .0))
+        ∙ ap (λ (r : Result Expr). columnsAfter r columns) (sym rule-is);
+  }
+    where
+      shift : (l : List ℕ) → cond (leb (0 + length l) (length columns)) (l ++ drop (0 + length l) columns) columns ≡ cond (leb (length l) (length columns)) (l ++ drop (length l) columns) columns
+      shift l = let z : 0 + length l ≡ length l = omega arith in ap (λ (k : ℕ). cond (leb k (length columns)) (l ++ drop k columns) columns) z
+
+      given-is : given ≡ projection (accepted-rule (readRule rule) t accepted .0)
+      given-is =
+          let z : (n : ℕ) → n - 0 ≡ n = λ n. omega arith in
+          g ∙ ap (λ (n : ℕ). take n (p .columns)) (z (p .count))
+          ∙ ap₂ (λ (l : List ℕ) (n : ℕ). take n l) (ap (λ (a : ProjectionAnswer). a .columns) answer-is) (ap (λ (a : ProjectionAnswer). a .count) answer-is)
+          ∙ take-append-seam (projection (accepted-rule (readRule rule) t accepted .0)) (replicate (256 - length (projection (accepted-rule (readRule rule) t accepted .0))) 0)

@@ -1,10 +1,21 @@
 -- What the library's functions say in one number.
+use mathlib.Core.Path.{_≡_}
+use mathlib.Core.Bool.{cond}
+use mathlib.Core.List.{List, _++_}
 use Prim.Native.Nat.{ℕ, _+_}
+use lib.Dec.{leb}
+use lib.ListN.{length, drop}
 use Rattle.layout.specs.Result.{Result, refused, ok}
-use Rattle.scalar.specs.Types.{typeNumber}
+use Rattle.scalar.specs.Types.{typeNumber, markNumber}
 use Rattle.rule.specs.Tree.{Expr}
 use Rattle.rule.specs.Typing.{typeOf}
+use Rattle.rule.specs.Reading.{readRule}
+use Rattle.rule.specs.Strategy.{strategyNumber, strategy}
+use Rattle.rule.specs.Nullable.{nullable}
+use Rattle.rule.specs.Projection.{projection}
 use Rattle.table.specs.Reading.{Table}
+use Rattle.case.specs.Run.{workAfter, outputAfter}
+use Rattle.case.specs.Promise.{callRun}
 
 -- a rule: its refusal number, or 256 and the number of the result's type
 abbrev pub ruleCode : Result Expr → ℕ
@@ -15,3 +26,41 @@ ruleCode (ok e) = 256 + typeNumber (typeOf e)
 abbrev pub tableCode : Result Table → ℕ
 tableCode (refused n) = n
 tableCode (ok t) = 65536 + t .rows
+
+-- a rule's strategy: its refusal number, or 256 and the strategy's number
+abbrev pub strategyCode : Result Expr → ℕ
+strategyCode (refused n) = n
+strategyCode (ok e) = 256 + strategyNumber (strategy e)
+
+-- a rule's nullability: its refusal number, or 256 and 1 or 0
+abbrev pub nullableCode : Result Expr → ℕ
+nullableCode (refused n) = n
+nullableCode (ok e) = 256 + markNumber (nullable e)
+
+-- a rule's projection: its refusal number, or 256 and how many columns it has
+abbrev pub projectionCode : Result Expr → ℕ
+projectionCode (refused n) = n
+projectionCode (ok e) = 256 + length (projection e)
+
+-- a list at the front of a buffer where it fits, and the buffer as it was where it doesn't
+abbrev pub atFront : List ℕ → List ℕ → List ℕ
+atFront l buffer = cond (leb (length l) (length buffer)) (l ++ drop (length l) buffer) buffer
+
+abbrev pub columnsAfter : Result Expr → List ℕ → List ℕ
+columnsAfter (refused n) columns = columns
+columnsAfter (ok e) columns = atFront (projection e) columns
+
+pub record Projected (rule columns : List ℕ) (r : ℕ) (columns′ : List ℕ) : Type 0 where
+  pub says : r ≡ projectionCode (readRule rule)
+  pub columns-are : columns′ ≡ columnsAfter (readRule rule) columns
+
+-- an evaluation: its refusal number, or 65,536 and the answer's length
+abbrev pub runCode : Result (List ℕ) → ℕ
+runCode (refused n) = n
+runCode (ok bytes) = 65536 + length bytes
+
+-- the number and the final state of both buffers
+pub record Called (rule table work output : List ℕ) (r : ℕ) (work′ output′ : List ℕ) : Type 0 where
+  pub says : r ≡ runCode (callRun rule table work output)
+  pub work-is : work′ ≡ workAfter (callRun rule table work output) work
+  pub output-is : output′ ≡ outputAfter (callRun rule table work output) output

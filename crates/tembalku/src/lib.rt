@@ -1,13 +1,24 @@
 // The library for display makers: every function can be called from C and takes every argument.
+use case::answer::RunAnswer;
+use case::evaluate::evaluate;
+use layout::part::part_of;
+use layout::part::put_part;
+use rule::answer::NullableAnswer;
 use rule::answer::RuleAnswer;
+use rule::answer::StrategyAnswer;
+use rule::answer::nullable;
+use rule::answer::projection;
 use rule::answer::read as read_rule;
+use rule::answer::strategy;
+use rule::strategy::Strategy;
 use scalar::types::DataType;
 use table::read::read as read_table;
 ghost use mathlib.Core.Path.{_≡_};
 ghost use Rattle.rule.specs.Reading.{readRule};
 ghost use Rattle.scalar.specs.Types.{typeNumber};
 ghost use Rattle.table.specs.Reading.{readTable};
-ghost use Rattle.tembalku.specs.Codes.{ruleCode, tableCode};
+ghost use Rattle.rule.specs.Strategy.{strategyNumber};
+ghost use Rattle.tembalku.specs.Codes.{ruleCode, tableCode, strategyCode, nullableCode, Projected, Called};
 
 // The number of a type.
 fn type_number(t: DataType) -> u32
@@ -45,4 +56,73 @@ pub extern "C" fn tembalku_table_read(table: &[u8]) -> u32
     let t = answer.table;
     let rows = t.rows;
     65536 + (rows as u32)
+}
+
+// The number of a strategy.
+fn strategy_number(s: Strategy) -> u32
+    ensures { λ r. ⌜ r ≡ strategyNumber s ⌝ }
+{
+    match s {
+        Strategy::NoExpression => 1,
+        Strategy::WithExpression => 2,
+        Strategy::InfallibleExprOrNull => 3,
+        Strategy::ScalarOrScalar => 4,
+        Strategy::ExpressionOrExpression => 5,
+        Strategy::WithExprScalarLookupTable => 6,
+    }
+}
+
+// The strategy of a rule's root CASE: a refusal number, or 256 and the strategy's number.
+#[no_mangle]
+pub extern "C" fn tembalku_rule_strategy(rule: &[u8]) -> u32
+    ensures { λ r. ⌜ r ≡ strategyCode (readRule (now (rule .entry))) ⌝ }
+{
+    match strategy(rule) {
+        StrategyAnswer::Refused(n) => n as u32,
+        StrategyAnswer::By(s) => 256 + strategy_number(s),
+    }
+}
+
+// Whether a rule's answer is marked nullable: a refusal number, or 256 and 1 or 0.
+#[no_mangle]
+pub extern "C" fn tembalku_rule_nullable(rule: &[u8]) -> u32
+    ensures { λ r. ⌜ r ≡ nullableCode (readRule (now (rule .entry))) ⌝ }
+{
+    match nullable(rule) {
+        NullableAnswer::Refused(n) => n as u32,
+        NullableAnswer::Nullable(b) => if b { 257 } else { 256 },
+    }
+}
+
+// The columns that a rule names, each once, rising, at the front of `columns` where they fit: a refusal number, or 256 and how many they are.
+#[no_mangle]
+pub extern "C" fn tembalku_rule_projection(rule: &[u8], columns: &mut [u8]) -> usize
+    ensures { λ r. ⌜ Projected (now (rule .entry)) (now (columns .entry)) r (now (columns .exit)) ⌝ }
+{
+    match read_rule(rule) {
+        RuleAnswer::Refused(n) => n as usize,
+        RuleAnswer::Accepted(_) => {
+            let p = projection(rule);
+            let all = p.columns;
+            let named = part_of(&all, 0, p.count);
+            put_part(columns, 0, named);
+            256 + named.len()
+        },
+    }
+}
+
+// Evaluates a rule over a table: a refusal number, or 65,536 and the length of the answer at the front of the output.
+#[no_mangle]
+pub extern "C" fn tembalku_evaluate(
+    rule: &[u8],
+    table: &[u8],
+    work: &mut [u8],
+    output: &mut [u8],
+) -> usize
+    ensures { λ r. ⌜ Called (now (rule .entry)) (now (table .entry)) (now (work .entry)) (now (output .entry)) r (now (work .exit)) (now (output .exit)) ⌝ }
+{
+    match evaluate(rule, table, work, output) {
+        RunAnswer::Refused(n) => n as usize,
+        RunAnswer::Answered(size) => 65536 + size,
+    }
 }
