@@ -3,8 +3,6 @@
  * For makers of displays. Link with libtembalku.a (`rt staticlib tembalku`). The layouts of rules, tables and answers, the meaning of a
  * rule at a row, and the order in which refusals are tested are document 01's; docs/REFUSALS.md explains the refusals.
  *
- * In the library now: tembalku_rule_read and tembalku_table_read. The others are declared as they will be.
- *
  * Every function
  * - takes any bytes: there is no rule and no table that it must not be given;
  * - ends, reads and writes only what it was lent, and keeps nothing between calls;
@@ -125,7 +123,7 @@ uint32_t tembalku_rule_nullable(const uint8_t *rule, size_t rule_len);
 /* The projection of a rule: the indexes of the columns that it names, each once, rising. Gives its refusal (1 to 8), or 256 and their
  * number, at most 256. They are written to the front of `columns`, a byte each, if all of them fit into columns_len bytes; what lies
  * behind them is untouched. If they don't fit, or at a refusal, all of `columns` is untouched. */
-uint32_t tembalku_rule_projection(const uint8_t *rule, size_t rule_len, uint8_t *columns, size_t columns_len);
+size_t tembalku_rule_projection(const uint8_t *rule, size_t rule_len, uint8_t *columns, size_t columns_len);
 
 /* Reads a table. Gives its refusal (9 to 12), or 65,536 and the number of its rows. */
 uint32_t tembalku_table_read(const uint8_t *table, size_t table_len);
@@ -138,7 +136,7 @@ uint32_t tembalku_table_read(const uint8_t *table, size_t table_len);
  *
  * Afterwards: `work` is zero in all its work_len bytes at an answer and at 15 to 17, and untouched at 1 to 14. `output` is untouched
  * behind an answer, and all of it at a refusal. */
-uint32_t tembalku_evaluate(const uint8_t *rule, size_t rule_len,
+size_t tembalku_evaluate(const uint8_t *rule, size_t rule_len,
                            const uint8_t *table, size_t table_len,
                            uint8_t *work, size_t work_len,
                            uint8_t *output, size_t output_len);

@@ -56,9 +56,9 @@ static void list(const uint8_t *answer, size_t rows) {
 }
 
 int main(void) {
-    uint32_t said = tembalku_evaluate(rule, sizeof rule, table, sizeof table, work, sizeof work, output, sizeof output);
+    size_t said = tembalku_evaluate(rule, sizeof rule, table, sizeof table, work, sizeof work, output, sizeof output);
     if (said < TEMBALKU_RULE_ACCEPTED) {
-        printf("refused %" PRIu32 "\n", said);
+        printf("refused %zu\n", said);
         return 1;
     }
     list(output, tembalku_table_read(table, sizeof table) - TEMBALKU_TABLE_ACCEPTED);

@@ -9,7 +9,7 @@ mod library {
             table: *const u8, table_len: usize,
             work: *mut u8, work_len: usize,
             output: *mut u8, output_len: usize,
-        ) -> u32;
+        ) -> usize;
     }
 }
 
@@ -27,20 +27,20 @@ const TABLE: [u8; 18] = [
 ];
 
 /// The answer's length, or the refusal.
-fn evaluate(rule: &[u8], table: &[u8], work: &mut [u8], output: &mut [u8]) -> Result<usize, u32> {
+fn evaluate(rule: &[u8], table: &[u8], work: &mut [u8], output: &mut [u8]) -> Result<usize, usize> {
     // The lengths are the slices' own, and slices that are written overlap no others.
     let said = unsafe {
         library::tembalku_evaluate(
             rule.as_ptr(), rule.len(), table.as_ptr(), table.len(), work.as_mut_ptr(), work.len(), output.as_mut_ptr(), output.len(),
         )
     };
-    if said < 256 { Err(said) } else { Ok((said - 65536) as usize) }
+    if said < 256 { Err(said) } else { Ok(said - 65536) }
 }
 
 /// The number of a table's rows, or the refusal.
-fn table_rows(table: &[u8]) -> Result<usize, u32> {
+fn table_rows(table: &[u8]) -> Result<usize, usize> {
     let said = unsafe { library::tembalku_table_read(table.as_ptr(), table.len()) };
-    if said < 256 { Err(said) } else { Ok((said - 65536) as usize) }
+    if said < 256 { Err(said as usize) } else { Ok((said - 65536) as usize) }
 }
 
 /// A little-endian number.

@@ -33,3 +33,4 @@ pub mod EvaluateLaws
 pub mod AnswerLaws
 pub mod RowsTyped
 pub mod DemandsHold
+pub mod CallsHold

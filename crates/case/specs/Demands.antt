@@ -5,7 +5,7 @@ use mathlib.Core.Path.{_≡_}
 use mathlib.Core.List.{List, [], _∷_, _++_, List·Memᴰ}
 use mathlib.Core.Logic.{_↔_}
 use Prim.Native.Nat.{ℕ, _<_, _≤_}
-use lib.ListN.{length}
+use lib.ListN.{length, take}
 use Rattle.layout.specs.Result.{Result, refused, ok}
 use Rattle.layout.specs.Bytes.{Bytes, numberBytes}
 use Rattle.layout.specs.Field.{fieldBytes}
@@ -19,7 +19,10 @@ use Rattle.rule.specs.Reading.{readRule}
 use Rattle.table.specs.Column.{TableColumn, entryAt}
 use Rattle.table.specs.Reading.{Part, readParts, Table, readTable}
 use Rattle.case.specs.Fits.{fits, rowOf}
+use Rattle.case.specs.declared.answer.RunAnswer.{RunAnswer}
+use Rattle.case.specs.declared.answer.RunAnswer.the-variants.{Answered, Refused}
 use Rattle.case.specs.Run.{run, workLeast}
+use Rattle.case.specs.Promise.{Evaluated}
 
 -- an answer of so many rows is a whole column and has this entry at this row
 pub record Holds (answer : List ℕ) (rows i : ℕ) (v : Entry) : Type 0 where
@@ -82,3 +85,17 @@ abbrev pub AnswerReadsBack : Type 0
 AnswerReadsBack = (rule table : List ℕ) (e : Expr) (t : Table) (work output : ℕ) (answer : List ℕ) (u : Table) → BothRead rule table e t
     → run rule table work output ≡ ok answer → readTable (behindCount (t .rows) answer) ≡ ok u
     → (u .rows ≡ t .rows) × (length (u .columns) ≡ 1) × ((i : ℕ) → i < t .rows → eval e (rowOf t i) ≡ rowOf u i 0)
+
+-- the same of two calls of `evaluate`, by what each promises: the answer of a call is at the front of its output (demand 3)
+abbrev pub CallsAgree : Type 0
+CallsAgree = (rule table table′ : List ℕ) (e : Expr) (t t′ : Table) (i i′ : ℕ) (work output w o work′ output′ w′ o′ : List ℕ) (n n′ : ℕ)
+    → BothRead rule table e t → BothRead rule table′ e t′
+    → Evaluated rule table work output (Answered n) w o → Evaluated rule table′ work′ output′ (Answered n′) w′ o′ → i < t .rows → i′ < t′ .rows
+    → Agree (columnsRead (path e (rowOf t i))) (rowOf t i) (rowOf t′ i′)
+    → (v : Entry) × (eval e (rowOf t i) ≡ entry v) × Holds (take n o) (t .rows) i v × Holds (take n′ o′) (t′ .rows) i′ v
+
+-- a call of `evaluate` on an accepted rule, a table that fits and a full work buffer says 15 exactly when some row's path holds a cast that
+-- doesn't fit (demand 3)
+abbrev pub CallFailsExactly : Type 0
+CallFailsExactly = (rule table : List ℕ) (e : Expr) (t : Table) (work output w o : List ℕ) (r : RunAnswer) → readRule rule ≡ ok e → readTable table ≡ ok t
+    → fits e t ≡ true → workLeast ≤ length work → Evaluated rule table work output r w o → (r ≡ Refused 15) ↔ SomePathFails e t
