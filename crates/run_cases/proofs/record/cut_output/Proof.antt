@@ -1,6 +1,5 @@
 -- `cut_output`: the part that is lent has the length that was compared.
 use native.Mathlib.Omega.{arith}
-use borrow.Author.Needs.{needs}
 use lib.ListN.{length-take}
 use Rattle.run_cases.proofs.record.cut_output.Statement.{statement}
 use Rattle.run_cases.proofs.record.cut_output.Tie as tie
@@ -10,12 +9,12 @@ cut-output-spec =
     tie.close
     (tie.spec
     (λ c κs. tt)
-    (λ c. search needs)
+    (λ c. omega arith)
     (λ c. tt)
-    (λ c. search needs)
+    (λ c. omega arith)
     (λ c. simp length-take (omega arith))
     (λ c κs. tt)
-    (λ c. search needs)
-    (λ c. search needs)
-    (λ c. search needs)
+    (λ c. omega arith)
+    (λ c. omega arith)
+    (λ c. omega arith)
     (λ c. tt))
