@@ -1,0 +1,20 @@
+-- `cut_work`: the part that is lent has the length that was compared.
+use native.Mathlib.Omega.{arith}
+use lib.ListN.{length-take}
+use Rattle.run_cases.proofs.record.cut_work.Statement.{statement}
+use Rattle.run_cases.proofs.record.cut_work.Tie as tie
+
+pub cut-work-spec : {M : Type 1} → statement M
+cut-work-spec =
+    tie.close
+    (tie.spec
+    (λ c κs. tt)
+    (λ c. omega arith)
+    (λ c. tt)
+    (λ c. omega arith)
+    (λ c. simp length-take (omega arith))
+    (λ c κs. tt)
+    (λ c. omega arith)
+    (λ c. omega arith)
+    (λ c. omega arith)
+    (λ c. tt))
