@@ -3,6 +3,7 @@
 
 crates/run_cases/data/listings.bin  all of listing.txt
 crates/run_cases/data/runs.bin      all of runs.txt
+crates/run_cases/data/refusals.bin  the refused cases of listing.txt as runs, since runs.txt has no 1 to 8, 12, 15 and 16: what they leave in memory
 crates/run_cases/data/limits.bin    listings of what document 01 says is run only: no rows, 512 and 513 rows, 32 and 33 branches
 crates/run_cases/stdout             how many of each there are
 
@@ -12,7 +13,7 @@ the rule, the table, what is wanted. Of a listing that is its text, of a run its
 import os
 import sys
 
-from check_definitions import HERE, bitmap, blocks, field, fields, number, runs
+from check_definitions import HERE, bitmap, blocks, field, fields, listing, number, runs
 
 FULL = 65536
 MOST_FILE, MOST_WORK, MOST_OUTPUT = 524287, 70000, 65536
@@ -31,9 +32,19 @@ def listings(cases):
         yield record(bytes.fromhex(f["rule"]), bytes.fromhex(f["table"]), FULL, FULL, text.encode())
 
 
+def as_run(rule, table, work, output, want):
+    return record(rule, table, work, output, bytes([want[1]]) if want[0] == "refused" else b"\0" + want[1])
+
+
 def stored_runs(cases):
-    for _, rule, table, work, output, (kind, want) in runs(os.path.join(cases, "runs.txt")):
-        yield record(rule, table, work, output, bytes([want]) if kind == "refused" else b"\0" + want)
+    for _, *run in runs(os.path.join(cases, "runs.txt")):
+        yield as_run(*run)
+
+
+def refusals(cases):
+    for _, *run in listing(os.path.join(cases, "listing.txt")):
+        if run[-1][0] == "refused":
+            yield as_run(*run)
 
 
 # Values of a type, by a number: the bytes, and how a listing shows them.
@@ -106,7 +117,8 @@ def main(cases):
     crate = os.path.join(HERE, "crates", "run_cases")
     os.makedirs(os.path.join(crate, "data"), exist_ok=True)
     lines = ""
-    for name, records in ("listings", listings(cases)), ("runs", stored_runs(cases)), ("limits", limits()):
+    files = {"listings": listings(cases), "runs": stored_runs(cases), "refusals": refusals(cases), "limits": limits()}
+    for name, records in files.items():
         records = list(records)
         data = b"".join(records)
         assert len(data) <= MOST_FILE

@@ -1,5 +1,5 @@
-// Replays the stored listings, the stored runs and the cases of document 01 that are only run, and prints of each kind how many agree, with
-// the first that doesn't.
+// Replays the stored listings, the stored runs, the refused listings as runs, and the cases of document 01 that are only run, and prints of
+// each kind how many agree, with the first that doesn't.
 mod bytes;
 mod record;
 mod run;
@@ -84,5 +84,6 @@ fn replay_file(name: &[u8], path: &[u8], kind: Kind) {
 fn main() {
     replay_file(b"listings", b"listings.bin", Kind::Listing);
     replay_file(b"runs", b"runs.bin", Kind::Run);
+    replay_file(b"refusals", b"refusals.bin", Kind::Run);
     replay_file(b"limits", b"limits.bin", Kind::Listing);
 }
