@@ -9,8 +9,8 @@
  * - answers one number: below TEMBALKU_RULE_ACCEPTED (256) it is a refusal, a value of tembalku_refusal, never 0; else what the function says.
  *
  * What the caller sees to: a pointer and its length name memory that is there; a pointer isn't NULL, even if its length is 0; a buffer that
- * is written overlaps no other argument. Pointers need no alignment. Reading the worst rule was seen to need between 256 and 512 KB of
- * stack (docs/DECISIONS.md).
+ * is written overlaps no other argument. Pointers need no alignment. The stack that
+ * calls were seen to need is in docs/ARCHITECTURE.md (Memory); 512 KB were enough in every measurement.
  */
 #ifndef TEMBALKU_H
 #define TEMBALKU_H
@@ -137,9 +137,9 @@ uint32_t tembalku_table_read(const uint8_t *table, size_t table_len);
  * Afterwards: `work` is zero in all its work_len bytes at an answer and at 15 to 17, and untouched at 1 to 14. `output` is untouched
  * behind an answer, and all of it at a refusal. */
 size_t tembalku_evaluate(const uint8_t *rule, size_t rule_len,
-                           const uint8_t *table, size_t table_len,
-                           uint8_t *work, size_t work_len,
-                           uint8_t *output, size_t output_len);
+                         const uint8_t *table, size_t table_len,
+                         uint8_t *work, size_t work_len,
+                         uint8_t *output, size_t output_len);
 
 #ifdef __cplusplus
 }

@@ -2,7 +2,7 @@
 """bench_evaluate.py [--count]: evaluates tables of 512 rows through the static library, outside of the gate.
 
 Builds tools/bench_evaluate.c with target/staticlib/libtembalku.a (made by `rt staticlib tembalku`) and prints nanoseconds a table for seven
-rules; with --count also instructions a table, by valgrind's callgrind (a call's own, from the counts of one and of two runs' difference).
+rules; with --count also instructions a table, by valgrind's callgrind, collected within one call.
 """
 import os
 import random
@@ -98,7 +98,8 @@ def main(count):
         if count:
             run = subprocess.run(["valgrind", "--tool=callgrind", "--toggle-collect=tembalku_evaluate", "--callgrind-out-file=/dev/null",
                                   program, scratch, name, "once"], capture_output=True, text=True)
-            print("  ", [l.split(":")[-1].strip() for l in run.stderr.splitlines() if "Collected" in l], "instructions", flush=True)
+            counts = [l.split(":")[-1].strip() for l in run.stderr.splitlines() if "Collected" in l]
+            print("  ", " ".join(counts), "instructions", flush=True)
 
 
 main("--count" in sys.argv[1:])

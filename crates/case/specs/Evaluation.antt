@@ -131,13 +131,14 @@ tableCase b bs els = (x : Expr) × (b ≡ present x) × (tableServes bs (dropNul
 
 -- ---- choosing
 
--- the outcome at a row of an index: 0 is null, then the THENs in order, ELSE, and any other failed
+-- what stands behind an index at a row, counted from 0: the THENs in order, ELSE, and failed
 unfoldable pub resultAt : Branches → Row → Outcome → ℕ → Outcome
 resultAt noMore row els zero = els
 resultAt noMore row els (suc k) = unfit
 resultAt (branch w t bs) row els zero = eval t row
 resultAt (branch w t bs) row els (suc k) = resultAt bs row els k
 
+-- the outcome of a row's index: 0 is none, and null; the others count from 1
 abbrev pub indexed : Branches → Row → Outcome → ℕ → Outcome
 indexed bs row els zero = entry null
 indexed bs row els (suc k) = resultAt bs row els k
