@@ -15,6 +15,8 @@ pub mod LookUpTables
 pub mod LookUpBooleans
 pub mod Write
 pub mod Evaluation
+pub mod Steps
+pub mod Results
 pub mod Readings
 pub mod Writing
 pub mod Cases

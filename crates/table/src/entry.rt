@@ -22,7 +22,7 @@ ghost use Rattle.table.specs.Places.{columnIn, tableIn, EntryGives};
 ghost use Rattle.table.specs.Parts.{ValueGives};
 
 // Whether a row has a value: length 0 means no null.
-fn valid_at(validity: &[u8], row: usize) -> bool
+pub fn valid_at(validity: &[u8], row: usize) -> bool
     ensures { λ r. ⌜ r ≡ validIn (now (validity .entry)) row ⌝ }
 {
     if validity.len() == 0 {
@@ -32,7 +32,7 @@ fn valid_at(validity: &[u8], row: usize) -> bool
 }
 
 // A row's number of four bytes; behind the end it is 0.
-fn row_u32(values: &[u8], row: usize) -> u32
+pub fn row_u32(values: &[u8], row: usize) -> u32
     ensures { λ r. ⌜ r ≡ numberAt 4 (now (values .entry)) (4 * row) ⌝ }
 {
     if values.len() / 4 < row {
@@ -42,7 +42,7 @@ fn row_u32(values: &[u8], row: usize) -> u32
 }
 
 // A row's number of eight bytes; behind the end it is 0.
-fn row_u64(values: &[u8], row: usize) -> u64
+pub fn row_u64(values: &[u8], row: usize) -> u64
     ensures { λ r. ⌜ r ≡ numberAt 8 (now (values .entry)) (8 * row) ⌝ }
 {
     if values.len() / 8 < row {

@@ -1,0 +1,36 @@
+-- The literals among a CASE's THENs and its ELSE, by the index that a row has for them: they are put before the other results are taken.
+use mathlib.Core.Path.{_≡_}
+use mathlib.Core.Bool.{Bool, true}
+use mathlib.Core.List.{List, _++_}
+use Prim.Native.Nat.{ℕ, zero, suc, _+_, _<_, _≤_}
+use lib.ListN.{getD}
+use Rattle.scalar.specs.declared.types.DataType.{DataType}
+use Rattle.scalar.specs.declared.value.Value.{Value}
+use Rattle.scalar.specs.Value.{meaning}
+use Rattle.rule.specs.Tree.{Branches, noMore, branch, Optional, absent, present, branchCount}
+use Rattle.rule.specs.Row.{Row, evalElse}
+use Rattle.rule.specs.Strategy.{isLiteral}
+use Rattle.rule.specs.Walks.{branchTrees, optionalTrees, TreesAt}
+use Rattle.case.specs.Evaluation.{indexed}
+
+-- an ELSE that is not there, or a literal
+abbrev pub elseKnown : Optional → Bool
+elseKnown absent = true
+elseKnown (present e) = isLiteral e
+
+-- whether what stands behind an index, counted from 0, is known without the row: a literal, no ELSE, or failed
+unfoldable pub resultKnown : Branches → Optional → ℕ → Bool
+resultKnown noMore els zero = elseKnown els
+resultKnown noMore els (suc k) = true
+resultKnown (branch w t bs) els zero = isLiteral t
+resultKnown (branch w t bs) els (suc k) = resultKnown bs els k
+
+-- the same of a row's index: 0 is none, and null
+abbrev pub indexKnown : Branches → Optional → ℕ → Bool
+indexKnown bs els zero = true
+indexKnown bs els (suc k) = resultKnown bs els k
+
+-- the outcome of a row's index, where it is known without the row
+pub record StartRight (rule : List ℕ) (at end count : ℕ) (to : DataType) (values : List ℕ) (r : ℕ) (v : Value) : Type 0 where
+  pub is : (bs : Branches) (els : Optional) (depth : ℕ) (row : Row) (table : List ℕ) → TreesAt rule at end (branchTrees bs ++ optionalTrees els) depth → branchCount bs ≡ count
+      → getD values r 0 ≤ count + 2 → indexKnown bs els (getD values r 0) ≡ true → meaning rule table v ≡ indexed bs row (evalElse els row to) (getD values r 0)
