@@ -5,7 +5,7 @@ use mathlib.Core.List.{List, [], _∷_, _++_}
 use mathlib.Core.Option.{Option, some, none}
 use Prim.Native.Nat.{ℕ, zero, suc, _+_, _-_, _*_, _^_, _<_, _≤_}
 use native.Mathlib.Omega.{arith}
-use lib.ListN.{length}
+use lib.ListN.{length, getD}
 use Rattle.layout.specs.Bytes.{byte}
 use Rattle.layout.proofs.TestLaws.{both-hold}
 use Rattle.scalar.specs.declared.value.Value.{Value}
@@ -34,7 +34,8 @@ use Rattle.case.specs.declared.settle.Settled.{Settled}
 use Rattle.case.specs.Frame.{rowAt, slotAt, Rows, Listed, Filled, Fillable, Copied}
 use Rattle.case.specs.Choosing.{leaving, nullOutcome, classAt, heldBy, Open, Settles}
 use Rattle.case.specs.LookUp.{LookedUp}
-use Rattle.case.specs.Evaluation.{Framed, Done, rowIn, ExprRight, CaseRight, anyCase, withoutBaseCase, withBaseCase, columnCase, scalarCase, singleCase, tableCase, resultAt, indexed, BranchesRight, MergedRight, BasedRight, ScalarsRight, CellsRight}
+use Rattle.case.specs.Evaluation.{Framed, Done, rowIn, ExprRight, CaseRight, anyCase, withoutBaseCase, withBaseCase, columnCase, scalarCase, singleCase, tableCase, resultAt, indexed, BranchesRight, TakeRight, MergedRight, BasedRight, ScalarsRight, CellsRight}
+use Rattle.case.specs.Steps.{StepIndex, StepsGive}
 use Rattle.case.proofs.FrameLaws.{Kept, SameRows, kept-rows, kept-slot, listed-to, rows-to, rows-small, listed-below, done-filled, done-done, done-none}
 use Rattle.case.proofs.ExprLaws.{children-below}
 
@@ -324,34 +325,79 @@ unfolding resultAt branchCount
 result-failed noMore row els = refl
 result-failed (branch w t bs) row els = result-failed bs row els
 
+-- a CASE without a base is what its branches give
+without-base : {rule : List ℕ} {start at end : ℕ} (table : List ℕ) (t : Table) {depth count : ℕ} {to : DataType} (r : ℕ) (v : Value) → ChildrenGives rule start at → TypeGives rule start to
+    → ((bs : Branches) (els : Optional) → TreesAt rule at end (branchTrees bs ++ optionalTrees els) depth → branchCount bs ≡ count
+    → meaning rule table v ≡ evalBranches bs (rowIn table t r) isTrueTest (evalElse els (rowIn table t r) to))
+    → (b : Optional) (bs : Branches) (els : Optional) → NodeAt rule start end (caseWhen b bs els) (depth + 1) → (b ≡ absent) × (branchCount bs ≡ count)
+    → meaning rule table v ≡ eval (caseWhen b bs els) (rowIn table t r)
+unfolding eval typeOf
+without-base {rule} {start} {end = end} table t {depth} r v children types g b bs els node (p, c) =
+    let same : caseWhen b bs els ≡ caseWhen absent bs els = ap (λ (o : Optional). caseWhen o bs els) p in
+    let node′ = subst (λ (e : Expr). NodeAt rule start end e (depth + 1)) same node in
+    let type-is = types end (caseWhen absent bs els) (depth + 1) node′ in
+    g bs els (children-below children node′) c
+    ∙ ap (λ (f : DataType). evalBranches bs (rowIn table t r) isTrueTest (evalElse els (rowIn table t r) f)) type-is
+    ∙ ap (λ (e : Expr). eval e (rowIn table t r)) (sym same)
+
+-- what the shapes without a base are
+abbrev Shaped : (Optional → Branches → Optional → Type 0) → List ℕ → ℕ → ℕ → ℕ → ℕ → Type 0
+Shaped served rule start end depth count =
+    (b : Optional) (bs : Branches) (els : Optional) → NodeAt rule start end (caseWhen b bs els) (depth + 1) → served b bs els → (b ≡ absent) × (branchCount bs ≡ count)
+
+no-expr-shaped : {rule : List ℕ} {start end : ℕ} (depth : ℕ) {count : ℕ} → count ≡ byte rule (start + 4) → Shaped withoutBaseCase rule start end depth count
+no-expr-shaped {start = start} depth counted b bs els node s = (s, sym (counted ∙ node-byte 1 (start + 4) node (omega arith) (omega arith)))
+
+single-shaped : {rule : List ℕ} {start end : ℕ} (depth : ℕ) {count : ℕ} → count ≡ 1 → Shaped singleCase rule start end depth count
+unfolding branchCount
+single-shaped depth one b bs els node s = (s .2, ap branchCount (s .3) ∙ sym one)
+
+scalar-shaped : {rule : List ℕ} {start end : ℕ} (depth : ℕ) {count : ℕ} → count ≡ 1 → Shaped scalarCase rule start end depth count
+unfolding branchCount
+scalar-shaped depth one b bs els node s = (s .3, ap branchCount (s .4) ∙ sym one)
+
 -- the open list is the whole list
 module _ {rule : List ℕ} {start at end : ℕ} {table : List ℕ} {t : Table} {depth : ℕ} {w w₁ w₂ : List ℕ} {n count : ℕ} {to : DataType} {b : ResultBuilder} (few : n ≤ 512)
     (children : ChildrenGives rule start at) (types : TypeGives rule start to) (copied : Copied w n 0 5632 w₁)
     (d : Done (MergedRight rule at end table t depth TrueWhen count to w₁ n b) w₁ n w₂) where
-  whole-gives : (served : Optional → Branches → Optional → Type 0)
-      → ((b : Optional) (bs : Branches) (els : Optional) → NodeAt rule start end (caseWhen b bs els) (depth + 1) → served b bs els → (b ≡ absent) × (branchCount bs ≡ count))
-      → Done (CaseRight served rule start end table t depth) w n w₂
-  unfolding eval typeOf
+  whole-gives : (served : Optional → Branches → Optional → Type 0) → Shaped served rule start end depth count → Done (CaseRight served rule start end table t depth) w n w₂
   whole-gives served shape =
       done-done few (copied .long) (λ j h. copied .before j (omega arith)) d
-      (λ r v l g. record { is = λ b bs els node s. go r v (g .of-open (listed-to w w₁ 0 5632 n (copied .rows-copied) r l)) b bs els node (shape b bs els node s) })
-    where
-      go : (r : ℕ) (v : Value) → BranchesRight rule at end table t depth TrueWhen count to w₁ r v → (b : Optional) (bs : Branches) (els : Optional)
-          → NodeAt rule start end (caseWhen b bs els) (depth + 1) → (b ≡ absent) × (branchCount bs ≡ count) → meaning rule table v ≡ eval (caseWhen b bs els) (rowIn table t r)
-      go r v g b bs els node (p, c) =
-          let same : caseWhen b bs els ≡ caseWhen absent bs els = ap (λ (o : Optional). caseWhen o bs els) p in
-          let node′ = subst (λ (e : Expr). NodeAt rule start end e (depth + 1)) same node in
-          let type-is = types end (caseWhen absent bs els) (depth + 1) node′ in
-          g .is bs els isTrueTest (children-below children node′) c refl
-          ∙ ap (λ (f : DataType). evalBranches bs (rowIn table t r) isTrueTest (evalElse els (rowIn table t r) f)) type-is
-          ∙ ap (λ (e : Expr). eval e (rowIn table t r)) (sym same)
+      (λ r v l g. record {
+        is = λ b bs els node s.
+            without-base table t r v children types (λ bs els trees c. g .of-open (listed-to w w₁ 0 5632 n (copied .rows-copied) r l) .is bs els isTrueTest trees c refl) b bs els node (shape b bs els node s);
+      })
 
   pub no-expr-gives : count ≡ byte rule (start + 4) → Done (CaseRight withoutBaseCase rule start end table t depth) w n w₂
-  no-expr-gives counted = whole-gives withoutBaseCase (λ b bs els node s. (s, sym (counted ∙ node-byte 1 (start + 4) node (omega arith) (omega arith))))
+  no-expr-gives counted = whole-gives withoutBaseCase (no-expr-shaped depth counted)
 
   pub single-gives : count ≡ 1 → Done (CaseRight singleCase rule start end table t depth) w n w₂
-  unfolding branchCount
-  single-gives one = whole-gives singleCase (λ b bs els node s. (s .2, ap branchCount (s .3) ∙ sym one))
+  single-gives one = whole-gives singleCase (single-shaped depth one)
+
+-- the rows' indices are found by steps
+module _ {rule : List ℕ} {start at end : ℕ} {table : List ℕ} {t : Table} {depth : ℕ} {w w₁ : List ℕ} {n count : ℕ} {to : DataType} {served : Bool} (values : List ℕ) (few : n ≤ 512)
+    (children : ChildrenGives rule start at) (types : TypeGives rule start to) (steps : StepsGive rule at table t count w n served values) (all : served ≡ true)
+    (d : Done (TakeRight rule at end table t depth count to values) w n w₁) where
+  steps-give : (shape : Optional → Branches → Optional → Type 0) → Shaped shape rule start end depth count → Done (CaseRight shape rule start end table t depth) w n w₁
+  steps-give shape shaped =
+      done-done few refl (λ j h. refl) d
+      (λ r v l g. record {
+        is = λ b bs els node s.
+            without-base table t r v children types
+            (λ bs els trees c.
+                let i = steps .each all r l in
+                g .is bs els trees c (let h = i .few in omega arith) ∙ sym (i .is bs (optionalTrees els) end depth (evalElse els (rowIn table t r) to) trees c))
+            b bs els node (shaped b bs els node s);
+      })
+
+  pub no-expr-steps : count ≡ byte rule (start + 4) → Done (CaseRight withoutBaseCase rule start end table t depth) w n w₁
+  no-expr-steps counted = steps-give withoutBaseCase (no-expr-shaped depth counted)
+
+  pub single-steps : count ≡ 1 → Done (CaseRight singleCase rule start end table t depth) w n w₁
+  single-steps one = steps-give singleCase (single-shaped depth one)
+
+  pub scalar-steps : count ≡ 1 → Done (CaseRight scalarCase rule start end table t depth) w n w₁
+  scalar-steps one = steps-give scalarCase (scalar-shaped depth one)
 
 -- with a base: it is in the slots
 pub with-expr-gives : {rule : List ℕ} {start at first end : ℕ} {table : List ℕ} {t : Table} {depth count : ℕ} {to : DataType} {w w₁ w₂ : List ℕ} {n : ℕ} → n ≤ 512

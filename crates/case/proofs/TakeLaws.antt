@@ -6,30 +6,29 @@ use mathlib.Core.Logic.{_⊎_, inl, inr}
 use Prim.Native.Nat.{ℕ, zero, suc, _+_, _-_, _*_, _^_, _<_, _≤_}
 use native.Mathlib.Omega.{arith}
 use native.Mathlib.Decide.{ℕ-discrete, decLt}
-use lib.Dec.{eqb}
 use lib.ListN.{length, getD}
-use borrow.Author.Tests.{eq-eqb, ne-eqb}
 use Rattle.layout.specs.Bytes.{byte}
 use Rattle.scalar.specs.declared.value.Value.{Value}
-use Rattle.scalar.specs.declared.value.Value.the-variants.{Null, Failed}
 use Rattle.scalar.specs.declared.types.DataType.{DataType}
 use Rattle.scalar.specs.Entry.{Entry, null, Outcome, entry, unfit, onEntry}
 use Rattle.scalar.specs.TryCast.{tryCastEntry}
 use Rattle.scalar.specs.Value.{meaning, Gives}
 use Rattle.rule.specs.Tree.{Expr, Branches, noMore, branch, Optional, absent, present, branchCount}
 use Rattle.rule.specs.Row.{Row, eval, evalElse}
+use Rattle.rule.specs.Strategy.{isLiteral}
 use Rattle.rule.specs.Node.{NodeAt}
 use Rattle.rule.specs.Walks.{branchTrees, optionalTrees, TreesAt, EndGives, BehindGives}
-use Rattle.rule.proofs.NodeLaws.{trees-one, trees-none, trees-some}
-use Rattle.rule.proofs.WalkLaws.{first-two, branches-length}
+use Rattle.rule.proofs.NodeLaws.{Tagged, ofLiteral, trees-one, trees-none, trees-some}
+use Rattle.rule.proofs.WalkLaws.{node-of-tag, first-two, branches-length}
 use Rattle.table.specs.declared.places.Table.{Table}
 use Rattle.case.specs.declared.rows.Op.the-variants.{TryCast}
 use Rattle.case.specs.Frame.{rowAt, slotAt, nextSlot, Rows, Listed, Filled, FilledFrom, Fillable, FillableFrom, operationOf}
-use Rattle.case.specs.Taking.{Picked, HasIndex, startOf, startAt}
-use Rattle.case.specs.Evaluation.{Framed, Done, rowIn, ExprRight, resultAt, indexed, Takes, ElseRight, TakeRight}
+use Rattle.case.specs.Taking.{Picked, HasIndex}
+use Rattle.case.specs.Evaluation.{Framed, Done, rowIn, ExprRight, resultAt, indexed, Takes, TakeRight}
+use Rattle.case.specs.Results.{elseKnown, resultKnown, indexKnown, StartRight, ThenRight, ElseRight}
 use Rattle.case.proofs.FrameLaws.{Kept, SameRows, kept-rows, kept-slot, listed-to, listed-from, rows-to, rows-small, listed-below, framed-few, framed-fillable, framed-kept, done-filled, done-done, lent, back, lent-rows, lent-slot, lent-framed, NextDone, next-done}
 use Rattle.case.proofs.CaseLaws.{result-else, result-failed}
-use Rattle.case.proofs.ChooseLaws.{BranchAt, branch-at, last-two}
+use Rattle.case.proofs.ChooseLaws.{dropBranches, BranchAt, branch-at, last-two}
 
 -- ---- the rows of an index
 
@@ -110,20 +109,43 @@ module _ {table : List ℕ} {t : Table} {depth : ℕ} {w w₁ : List ℕ} {n m :
       low = λ j h. e .low j h ∙ next-kept j (omega arith);
     }
 
--- ELSE: where there is none nothing is done
+-- nothing is done where the slots have the outcome already
+takes-none : {right : ℕ → Value → Value → Type 0} {values : List ℕ} {k : ℕ} {w : List ℕ} {n : ℕ} → ((r : ℕ) (v : Value) → right r v v) → Takes values k right w n w
+takes-none {w = w} right = record { long = refl; here = λ r l i. right r (slotAt w r); others = λ r l no. refl; low = λ j h. refl }
+
+-- a node whose first byte is 17
+literal-node : {rule : List ℕ} {start end : ℕ} {e : Expr} {depth : ℕ} → NodeAt rule start end e depth → byte rule start ≡ 17 → isLiteral e ≡ true
+literal-node {e = e} node is = go e (node-of-tag node is)
+  where
+    go : (e : Expr) → Tagged 17 e → isLiteral e ≡ true
+    go e (ofLiteral t v) = refl
+
+-- a THEN that is a literal
+pub then-known : {rule : List ℕ} {start end : ℕ} {table : List ℕ} {t : Table} {depth : ℕ} {values : List ℕ} {k : ℕ} {w : List ℕ} {n : ℕ} → byte rule start ≡ 17
+    → Takes values k (ThenRight rule start end table t depth) w n w
+then-known is = takes-none (λ r v. record { is = λ e node old. old (literal-node node is) })
+
+-- any other
+pub then-takes : {rule : List ℕ} {start end : ℕ} {table : List ℕ} {t : Table} {depth : ℕ} {values : List ℕ} {k : ℕ} {w w′ : List ℕ} {n : ℕ}
+    → Takes values k (λ r old v. ExprRight rule start end table t depth r v) w n w′ → Takes values k (ThenRight rule start end table t depth) w n w′
+then-takes d = record { long = d .long; here = λ r l i. record { is = λ e node old. d .here r l i .is e node }; others = d .others; low = d .low }
+
+-- ELSE: where there is none, or a literal
 pub else-none : {rule : List ℕ} {at end : ℕ} {table : List ℕ} {t : Table} {depth : ℕ} {to : DataType} {values : List ℕ} {k : ℕ} {w : List ℕ} {n : ℕ} → at ≡ end
     → Takes values k (ElseRight rule at end table t depth to) w n w
-unfolding evalElse
-else-none {rule} {at} {end} {table} {t} {depth} {to} same = record {
-  long = refl;
-  here = λ r l i. record { is = λ els trees old. go r els trees old };
-  others = λ r l no. refl;
-  low = λ j h. refl;
-}
+else-none {rule} {at} {end} {table} {t} {depth} {to} same = takes-none (λ r v. record { is = λ els trees old. old (go els trees) })
   where
-    go : {o : Outcome} (r : ℕ) (els : Optional) → TreesAt rule at end (optionalTrees els) depth → o ≡ entry null → o ≡ evalElse els (rowIn table t r) to
-    go r absent trees old = old
-    go r (present e) trees old = absurd (let k = trees-some trees in omega arith)
+    go : (els : Optional) → TreesAt rule at end (optionalTrees els) depth → elseKnown els ≡ true
+    go absent trees = refl
+    go (present e) trees = absurd (let k = trees-some trees in omega arith)
+
+pub else-known : {rule : List ℕ} {at end : ℕ} {table : List ℕ} {t : Table} {depth : ℕ} {to : DataType} {values : List ℕ} {k : ℕ} {w : List ℕ} {n : ℕ} → byte rule at ≡ 17
+    → Takes values k (ElseRight rule at end table t depth to) w n w
+else-known {rule} {at} {end} {table} {t} {depth} {to} is = takes-none (λ r v. record { is = λ els trees old. old (go els trees) })
+  where
+    go : (els : Optional) → TreesAt rule at end (optionalTrees els) depth → elseKnown els ≡ true
+    go absent trees = refl
+    go (present e) trees = literal-node (trees-one trees) is
 
 -- its outcome, cast
 pub else-cast : {rule : List ℕ} {at end : ℕ} {table : List ℕ} {t : Table} {depth : ℕ} {to : DataType} {r : ℕ} {u v : Value} (old : Value) → (at ≡ end → ⊥) → ExprRight rule at end table t depth r u
@@ -152,6 +174,23 @@ module _ {rule : List ℕ} {at end : ℕ} {table : List ℕ} {t : Table} {depth 
 
 -- ---- one index after the other
 
+-- whether a result is known: of a THEN whether it is a literal, of ELSE whether it is one or is not there; a failure always is
+known-then : (i : ℕ) (bs : Branches) (els : Optional) (w t : Expr) (later : Branches) → dropBranches i bs ≡ branch w t later → resultKnown bs els i ≡ isLiteral t
+unfolding dropBranches resultKnown
+known-then zero bs els w t later e = ap (λ (b : Branches). resultKnown b els 0) e
+known-then (suc i) noMore els w t later e = absurd (let z : _≡_ {A = ℕ} 0 1 = cc in omega arith)
+known-then (suc i) (branch v u bs) els w t later e = known-then i bs els w t later e
+
+known-else : (bs : Branches) (els : Optional) → resultKnown bs els (branchCount bs) ≡ elseKnown els
+unfolding resultKnown branchCount
+known-else noMore els = refl
+known-else (branch w t bs) els = known-else bs els
+
+known-failed : (bs : Branches) (els : Optional) → resultKnown bs els (suc (branchCount bs)) ≡ true
+unfolding resultKnown branchCount
+known-failed noMore els = refl
+known-failed (branch w t bs) els = known-failed bs els
+
 -- where the loop stands: the indexes from 1 to below k have been taken
 pub record Taken (rule : List ℕ) (at end : ℕ) (table : List ℕ) (t : Table) (depth count : ℕ) (to : DataType) (values w : List ℕ) (n k place : ℕ) (w′ : List ℕ) : Type 0 where
   pub first : 1 ≤ k
@@ -160,7 +199,8 @@ pub record Taken (rule : List ℕ) (at end : ℕ) (table : List ℕ) (t : Table)
   pub long : length w′ ≡ length w
   pub low : (j : ℕ) → j < 1024 → byte w′ j ≡ byte w j
   pub done : (r : ℕ) → Listed w 0 n r → 0 < getD values r 0 → getD values r 0 < k → TakeRight rule at end table t depth count to values r (slotAt w′ r)
-  pub open-rows : (r : ℕ) → Listed w 0 n r → (getD values r 0 ≡ 0) ⊎ (k ≤ getD values r 0) → slotAt w′ r ≡ startAt values (count + 2) r
+  pub started : (r : ℕ) → Listed w 0 n r → StartRight rule at end count to values r (slotAt w r)
+  pub open-rows : (r : ℕ) → Listed w 0 n r → (getD values r 0 ≡ 0) ⊎ (k ≤ getD values r 0) → slotAt w′ r ≡ slotAt w r
 
 -- the slots that the loop begins with
 module _ {table : List ℕ} {t : Table} {depth : ℕ} {right : ℕ → Value → Type 0} {w w₁ : List ℕ} {n : ℕ} (f : Framed table t w n depth) (d : Filled right w n w₁) where
@@ -173,16 +213,17 @@ module _ {table : List ℕ} {t : Table} {depth : ℕ} {right : ℕ → Value →
   pub start-done : {right′ : ℕ → Value → Type 0} {w₂ : List ℕ} → Done right′ w₁ n w₂ → Done right′ w n w₂
   start-done e = done-done (f .list-ok .few) (d .long) (d .low) e (λ r v l x. x)
 
-pub take-none : {rule : List ℕ} {at end : ℕ} {table : List ℕ} {t : Table} {depth count : ℕ} {to : DataType} {values w w₁ : List ℕ} {n : ℕ} (failed : ℕ) → failed ≡ count + 2 → Framed table t w n (depth + 1)
-    → Filled (λ r v. v ≡ startAt values failed r) w n w₁ → Taken rule at end table t depth count to values w₁ n 1 at w₁
-take-none {rule} {at} {values = values} {w} {w₁} {n} failed e f d = record {
+pub take-none : {rule : List ℕ} {at end : ℕ} {table : List ℕ} {t : Table} {depth count : ℕ} {to : DataType} {values w w₁ : List ℕ} {n : ℕ} → Framed table t w n (depth + 1)
+    → Filled (StartRight rule at end count to values) w n w₁ → Taken rule at end table t depth count to values w₁ n 1 at w₁
+take-none {rule} {at} {w = w} {w₁} {n} f d = record {
   first = omega arith;
   few = omega arith;
   behind = record { stand = none-behind; onward = omega arith };
   long = refl;
   low = λ j h. refl;
   done = λ r l a b. absurd (omega arith);
-  open-rows = λ r l o. d .here r (listed-from w w₁ 0 0 n (start-list f d) r l) ∙ ap (λ (k : ℕ). startAt values k r) e;
+  started = λ r l. d .here r (listed-from w w₁ 0 0 n (start-list f d) r l);
+  open-rows = λ r l o. refl;
 }
   where
     none-behind : (end : ℕ) (es rest : List Expr) (depth : ℕ) → length es ≡ 2 * (1 - 1) → TreesAt rule at end (es ++ rest) depth → TreesAt rule at end rest depth
@@ -198,22 +239,28 @@ module _ {rule : List ℕ} {at end : ℕ} {table : List ℕ} {t : Table} {depth 
     same-list = kept-rows 1024 w w₁ 0 n (let q = f .list-ok .few in omega arith) (s .low)
 
     module _ (more : k < count + 1) {then next : ℕ} {w₂ : List ℕ} (to-then : EndGives rule place then) (to-next : EndGives rule then next)
-        (d : Takes values k (λ r old v. ExprRight rule then next table t depth r v) w₁ n w₂) where
-      right-here : (r : ℕ) → getD values r 0 ≡ k → (v : Value) → ExprRight rule then next table t depth r v → TakeRight rule at end table t depth count to values r v
-      right-here r i v x = record {
+        (d : Takes values k (ThenRight rule then next table t depth) w₁ n w₂) where
+      right-here : (r : ℕ) → Listed w 0 n r → getD values r 0 ≡ k → (v : Value) → ThenRight rule then next table t depth r (slotAt w₁ r) v → TakeRight rule at end table t depth count to values r v
+      right-here r l i v x = record {
         is = λ bs els trees c small.
             let q = s .first in
             let at-i = branch-at (k - 1) bs (omega arith) in
             let here = s .behind .stand end (at-i .before) (at-i .when-is ∷ at-i .then-is ∷ (branchTrees (at-i .later) ++ optionalTrees els)) depth (at-i .many)
             (subst (λ (l : List Expr). TreesAt rule at end l depth) (ap (λ (l : List Expr). l ++ optionalTrees els) (at-i .trees) ∙ append-assoc (at-i .before) (at-i .when-is ∷ at-i .then-is ∷ branchTrees (at-i .later)) (optionalTrees els)) trees) in
             let index-is : getD values r 0 ≡ suc (k - 1) = omega arith in
-            x .is (at-i .then-is) (first-two to-then to-next here .1)
+            let known-is = ap (indexKnown bs els) index-is ∙ known-then (k - 1) bs els (at-i .when-is) (at-i .then-is) (at-i .later) (at-i .here) in
+            let old : isLiteral (at-i .then-is) ≡ true → meaning rule table (slotAt w₁ r) ≡ eval (at-i .then-is) (rowIn table t r) = λ lit.
+                ap (meaning rule table) (s .open-rows r l (inr (omega arith)))
+                ∙ s .started r l .is bs els depth (rowIn table t r) table trees c small (known-is ∙ lit)
+                ∙ ap (indexed bs (rowIn table t r) (evalElse els (rowIn table t r) to)) index-is
+                ∙ at-i .result (rowIn table t r) (evalElse els (rowIn table t r) to) in
+            x .is (at-i .then-is) (first-two to-then to-next here .1) old
             ∙ sym (at-i .result (rowIn table t r) (evalElse els (rowIn table t r) to))
             ∙ ap (indexed bs (rowIn table t r) (evalElse els (rowIn table t r) to)) (sym index-is);
       }
 
       take-done : (r : ℕ) → Listed w 0 n r → 0 < getD values r 0 → getD values r 0 < k + 1 → Dec (getD values r 0 ≡ k) → TakeRight rule at end table t depth count to values r (slotAt w₂ r)
-      take-done r l a b (yes i) = right-here r i (slotAt w₂ r) (d .here r (listed-to w w₁ 0 0 n same-list r l) i)
+      take-done r l a b (yes i) = right-here r l i (slotAt w₂ r) (d .here r (listed-to w w₁ 0 0 n same-list r l) i)
       take-done r l a b (no i) =
           subst (TakeRight rule at end table t depth count to values r) (sym (d .others r (listed-to w w₁ 0 0 n same-list r l) i)) (s .done r l a (omega arith))
 
@@ -233,6 +280,7 @@ module _ {rule : List ℕ} {at end : ℕ} {table : List ℕ} {t : Table} {depth 
         long = d .long ∙ s .long;
         low = λ j h. d .low j h ∙ s .low j h;
         done = λ r l a b. take-done r l a b (ℕ-discrete (getD values r 0) k);
+        started = s .started;
         open-rows = λ r l o. d .others r (listed-to w w₁ 0 0 n same-list r l) (not-now r o) ∙ s .open-rows r l (still r o);
       }
         where
@@ -252,28 +300,25 @@ module _ {rule : List ℕ} {at end : ℕ} {table : List ℕ} {t : Table} {depth 
           l₁ : Listed w₁ 0 n r
           l₁ = listed-to w w₁ 0 0 n same-list r l
 
-          started : (b : Bool) → eqb (getD values r 0) (count + 2) ≡ b → (getD values r 0 ≡ 0) ⊎ (k ≤ getD values r 0) → meaning rule table (slotAt w₁ r) ≡ meaning rule table (startOf b)
-          started b e o = ap (meaning rule table) (s .open-rows r l o ∙ ap startOf e)
+          -- what the row was started with, where its index is known
+          started : (getD values r 0 ≡ 0) ⊎ (k ≤ getD values r 0) → indexKnown bs els (getD values r 0) ≡ true
+              → meaning rule table (slotAt w₁ r) ≡ indexed bs (rowIn table t r) (evalElse els (rowIn table t r) to) (getD values r 0)
+          started o known = ap (meaning rule table) (s .open-rows r l o) ∙ s .started r l .is bs els depth (rowIn table t r) table trees c small known
 
           go : (i : ℕ) → getD values r 0 ≡ i → Dec (getD values r 0 ≡ count + 1) → Dec (getD values r 0 < k)
               → meaning rule table (slotAt w₂ r) ≡ indexed bs (rowIn table t r) (evalElse els (rowIn table t r) to) (getD values r 0)
           go zero i (yes e) b = absurd (omega arith)
-          go zero i (no e) b =
-              ap (meaning rule table) (d .others r l₁ e) ∙ started false (ne-eqb (getD values r 0) (count + 2) (λ z. omega arith)) (inl i)
-              ∙ ap (indexed bs (rowIn table t r) (evalElse els (rowIn table t r) to)) (sym i)
+          go zero i (no e) b = ap (meaning rule table) (d .others r l₁ e) ∙ started (inl i) (ap (indexKnown bs els) i)
           go (suc j) i (yes e) b =
               let else-trees = s .behind .stand end (branchTrees bs) (optionalTrees els) depth (let q = branches-length bs in let x = s .few in omega arith) trees in
-              let old = started false (ne-eqb (getD values r 0) (count + 2) (λ z. omega arith)) (inr (omega (arith, s .few))) in
               let index-is : getD values r 0 ≡ suc (branchCount bs) = omega arith in
-              d .here r l₁ e .is els else-trees old
-              ∙ sym (result-else bs (rowIn table t r) (evalElse els (rowIn table t r) to))
-              ∙ ap (indexed bs (rowIn table t r) (evalElse els (rowIn table t r) to)) (sym index-is)
+              let els-is = ap (indexed bs (rowIn table t r) (evalElse els (rowIn table t r) to)) index-is ∙ result-else bs (rowIn table t r) (evalElse els (rowIn table t r) to) in
+              let old : elseKnown els ≡ true → meaning rule table (slotAt w₁ r) ≡ evalElse els (rowIn table t r) to = λ known. started (inr (omega (arith, s .few))) (ap (indexKnown bs els) index-is ∙ known-else bs els ∙ known) ∙ els-is in
+              d .here r l₁ e .is els else-trees old ∙ sym els-is
           go (suc j) i (no e) (yes b) = ap (meaning rule table) (d .others r l₁ e) ∙ s .done r l (omega arith) b .is bs els trees c small
           go (suc j) i (no e) (no b) =
               let last : getD values r 0 ≡ suc (suc (branchCount bs)) = let x = s .few in omega arith in
-              ap (meaning rule table) (d .others r l₁ e) ∙ started true (eq-eqb (getD values r 0) (count + 2) (omega arith)) (inr (omega arith))
-              ∙ sym (result-failed bs (rowIn table t r) (evalElse els (rowIn table t r) to))
-              ∙ ap (indexed bs (rowIn table t r) (evalElse els (rowIn table t r) to)) (sym last)
+              ap (meaning rule table) (d .others r l₁ e) ∙ started (inr (omega arith)) (ap (indexKnown bs els) last ∙ known-failed bs els)
 
       pub take-end : Done (TakeRight rule at end table t depth count to values) w n w₂
       take-end = record {

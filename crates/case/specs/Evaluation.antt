@@ -194,11 +194,6 @@ pub record Takes (values : List ℕ) (k : ℕ) (right : ℕ → Value → Value 
   pub others : (r : ℕ) → Listed w 0 n r → (HasIndex values k r → ⊥) → slotAt w′ r ≡ slotAt w r
   pub low : (j : ℕ) → j < 1024 → byte w′ j ≡ byte w j
 
--- the outcome of ELSE; where there is none, a null stays
-pub record ElseRight (rule : List ℕ) (at : ℕ) (end : ℕ) (table : List ℕ) (t : Table) (depth : ℕ) (to : DataType) (r : ℕ) (old : Value) (v : Value) : Type 0 where
-  pub is : (els : Optional) → TreesAt rule at end (optionalTrees els) depth → meaning rule table old ≡ entry null
-      → meaning rule table v ≡ evalElse els (rowIn table t r) to
-
 -- the outcome of a row's index
 pub record TakeRight (rule : List ℕ) (at : ℕ) (end : ℕ) (table : List ℕ) (t : Table) (depth : ℕ) (count : ℕ) (to : DataType) (values : List ℕ) (r : ℕ) (v : Value) : Type 0 where
   pub is : (bs : Branches) (els : Optional) → TreesAt rule at end (branchTrees bs ++ optionalTrees els) depth → branchCount bs ≡ count → getD values r 0 ≤ count + 2

@@ -7,11 +7,13 @@ use lib.ListN.{getD}
 use Rattle.scalar.specs.declared.types.DataType.{DataType}
 use Rattle.scalar.specs.declared.value.Value.{Value}
 use Rattle.scalar.specs.Value.{meaning}
-use Rattle.rule.specs.Tree.{Branches, noMore, branch, Optional, absent, present, branchCount}
-use Rattle.rule.specs.Row.{Row, evalElse}
+use Rattle.rule.specs.Tree.{Expr, Branches, noMore, branch, Optional, absent, present, branchCount}
+use Rattle.rule.specs.Row.{Row, eval, evalElse}
 use Rattle.rule.specs.Strategy.{isLiteral}
+use Rattle.rule.specs.Node.{NodeAt}
 use Rattle.rule.specs.Walks.{branchTrees, optionalTrees, TreesAt}
-use Rattle.case.specs.Evaluation.{indexed}
+use Rattle.table.specs.declared.places.Table.{Table}
+use Rattle.case.specs.Evaluation.{rowIn, indexed}
 
 -- an ELSE that is not there, or a literal
 abbrev pub elseKnown : Optional → Bool
@@ -34,3 +36,14 @@ indexKnown bs els (suc k) = resultKnown bs els k
 pub record StartRight (rule : List ℕ) (at end count : ℕ) (to : DataType) (values : List ℕ) (r : ℕ) (v : Value) : Type 0 where
   pub is : (bs : Branches) (els : Optional) (depth : ℕ) (row : Row) (table : List ℕ) → TreesAt rule at end (branchTrees bs ++ optionalTrees els) depth → branchCount bs ≡ count
       → getD values r 0 ≤ count + 2 → indexKnown bs els (getD values r 0) ≡ true → meaning rule table v ≡ indexed bs row (evalElse els row to) (getD values r 0)
+
+-- ---- the other results
+
+-- the outcome of a THEN; where it is a literal, the slot has it already
+pub record ThenRight (rule : List ℕ) (start end : ℕ) (table : List ℕ) (t : Table) (depth : ℕ) (r : ℕ) (old : Value) (v : Value) : Type 0 where
+  pub is : (e : Expr) → NodeAt rule start end e depth → (isLiteral e ≡ true → meaning rule table old ≡ eval e (rowIn table t r)) → meaning rule table v ≡ eval e (rowIn table t r)
+
+-- the outcome of ELSE; where it is a literal, or there is none, the slot has it already
+pub record ElseRight (rule : List ℕ) (at : ℕ) (end : ℕ) (table : List ℕ) (t : Table) (depth : ℕ) (to : DataType) (r : ℕ) (old : Value) (v : Value) : Type 0 where
+  pub is : (els : Optional) → TreesAt rule at end (optionalTrees els) depth → (elseKnown els ≡ true → meaning rule table old ≡ evalElse els (rowIn table t r) to)
+      → meaning rule table v ≡ evalElse els (rowIn table t r) to
