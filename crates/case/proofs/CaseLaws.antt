@@ -385,8 +385,8 @@ module _ {rule : List ℕ} {start at end : ℕ} {table : List ℕ} {t : Table} {
         is = λ b bs els node s.
             without-base table t r v children types
             (λ bs els trees c.
-                let i = steps .each all r l in
-                g .is bs els trees c (let h = i .few in omega arith) ∙ sym (i .is bs (optionalTrees els) end depth (evalElse els (rowIn table t r) to) trees c))
+            let i = steps .each all r l in
+            g .is bs els trees c (let h = i .few in omega arith) ∙ sym (i .is bs (optionalTrees els) end depth (evalElse els (rowIn table t r) to) trees c))
             b bs els node (shaped b bs els node s);
       })
 

@@ -250,10 +250,10 @@ module _ {rule : List ℕ} {at end : ℕ} {table : List ℕ} {t : Table} {depth 
             let index-is : getD values r 0 ≡ suc (k - 1) = omega arith in
             let known-is = ap (indexKnown bs els) index-is ∙ known-then (k - 1) bs els (at-i .when-is) (at-i .then-is) (at-i .later) (at-i .here) in
             let old : isLiteral (at-i .then-is) ≡ true → meaning rule table (slotAt w₁ r) ≡ eval (at-i .then-is) (rowIn table t r) = λ lit.
-                ap (meaning rule table) (s .open-rows r l (inr (omega arith)))
-                ∙ s .started r l .is bs els depth (rowIn table t r) table trees c small (known-is ∙ lit)
-                ∙ ap (indexed bs (rowIn table t r) (evalElse els (rowIn table t r) to)) index-is
-                ∙ at-i .result (rowIn table t r) (evalElse els (rowIn table t r) to) in
+            ap (meaning rule table) (s .open-rows r l (inr (omega arith)))
+            ∙ s .started r l .is bs els depth (rowIn table t r) table trees c small (known-is ∙ lit)
+            ∙ ap (indexed bs (rowIn table t r) (evalElse els (rowIn table t r) to)) index-is
+            ∙ at-i .result (rowIn table t r) (evalElse els (rowIn table t r) to) in
             x .is (at-i .then-is) (first-two to-then to-next here .1) old
             ∙ sym (at-i .result (rowIn table t r) (evalElse els (rowIn table t r) to))
             ∙ ap (indexed bs (rowIn table t r) (evalElse els (rowIn table t r) to)) (sym index-is);

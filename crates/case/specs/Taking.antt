@@ -3,11 +3,9 @@ use mathlib.Core.Path.{_≡_}
 use mathlib.Core.Bool.{Bool, true, false}
 use mathlib.Core.List.{List}
 use Prim.Native.Nat.{ℕ, _<_, _≤_}
-use lib.Dec.{eqb}
 use lib.ListN.{length, getD}
 use Rattle.layout.specs.Bytes.{byte}
 use Rattle.scalar.specs.declared.value.Value.{Value}
-use Rattle.scalar.specs.declared.value.Value.the-variants.{Null, Failed}
 use Rattle.scalar.specs.Entry.{Outcome, entry, Entry}
 use Rattle.scalar.specs.Value.{meaning, GivesBoth}
 use Rattle.scalar.specs.Compare.{equalEntry, lessEntry}
@@ -29,14 +27,6 @@ pub record Picked (wanted : ℕ → Type 0) (w : List ℕ) (n m : ℕ) (w′ : L
 -- the rows of an index
 abbrev pub HasIndex : List ℕ → ℕ → ℕ → Type 0
 HasIndex values k r = getD values r 0 ≡ k
-
--- what a slot has before the rows are taken: failed, or null
-abbrev pub startOf : Bool → Value
-startOf true = Failed
-startOf false = Null
-
-abbrev pub startAt : List ℕ → ℕ → ℕ → Value
-startAt values failed r = startOf (eqb (getD values r 0) failed)
 
 -- the entry of a column in a slot
 abbrev pub EntryRight : List ℕ → ColumnPlace → ℕ → Value → Type 0

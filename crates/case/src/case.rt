@@ -9,6 +9,7 @@ use crate::literal::fill_literal;
 use crate::literal::scalar_rows;
 use crate::literal_lookup_table::look_up;
 use crate::merge::else_values;
+use crate::results::start_results;
 use crate::rows::Op;
 use crate::rows::apply;
 use crate::rows::copy_list;
@@ -17,9 +18,9 @@ use crate::settle::Leave;
 use crate::settle::Settled;
 use crate::settle::open_builder;
 use crate::settle::settle;
+use crate::steps::step_values;
 use crate::taking::copy_slots;
 use crate::taking::pick;
-use crate::taking::start_slots;
 use layout::number::byte_at;
 use rule::literal::literal_value;
 use rule::strategy::Strategy;
@@ -32,7 +33,8 @@ use table::places::Table;
 ghost use Prim.Native.Nat.{_+_, _≤_, _<_};
 ghost use lib.ListN.{length};
 ghost use Rattle.case.specs.Choosing.{Open};
-ghost use Rattle.case.specs.Evaluation.{Framed, Done, ExprRight, UnaryRight, BinaryRight, AgainstRight, CaseRight, BasedRight, Ahead, anyCase, withoutBaseCase, withBaseCase, columnCase, scalarCase, singleCase, tableCase, Sifts, WhenRight, BranchesIndex, MergedRight, Takes, ElseRight, TakeRight};
+ghost use Rattle.case.specs.Evaluation.{Framed, Done, ExprRight, UnaryRight, BinaryRight, AgainstRight, CaseRight, BasedRight, Ahead, anyCase, withoutBaseCase, withBaseCase, columnCase, scalarCase, singleCase, tableCase, Sifts, WhenRight, BranchesIndex, MergedRight, Takes, TakeRight};
+ghost use Rattle.case.specs.Results.{ThenRight, ElseRight};
 
 // An expression at each listed row, in the row's slot.
 pub(crate) fn evaluate_expr(
@@ -195,6 +197,11 @@ fn case_when_no_expr(
     let count = byte_at(rule, start + 4);
     let at = children_at(rule, start);
     let to = type_of(rule, start);
+    let mut values = [0u16; 512];
+    if step_values(rule, at, count, table, t, work, n, &mut values) {
+        take(rule, at, end, table, t, work, n, &values, count, to, depth);
+        return;
+    }
     copy_list(work, n, 0, 5632);
     let b = open_builder(t.rows);
     branches(
@@ -311,9 +318,16 @@ fn scalar_or_scalar(
     depth: usize,
 )
     requires { ⌜ Framed (now table) t (now work) n (depth + 1) ⌝ }
+    requires { ⌜ 0 < depth ⌝ }
     ensures { λ _. ⌜ Done (CaseRight scalarCase (now (rule .entry)) start end (now (table .entry)) t depth) (now (work .entry)) n (now (work .exit)) ⌝ }
 {
     let at = children_at(rule, start);
+    let to = type_of(rule, start);
+    let mut values = [0u16; 512];
+    if step_values(rule, at, 1, table, t, work, n, &mut values) {
+        take(rule, at, end, table, t, work, n, &values, 1, to, depth);
+        return;
+    }
     let then = field_end(rule, at);
     evaluate_expr(rule, at, then, table, t, work, n, depth);
     scalar_rows(rule, then, end, work, n);
@@ -336,6 +350,11 @@ fn expr_or_expr(
 {
     let at = children_at(rule, start);
     let to = type_of(rule, start);
+    let mut values = [0u16; 512];
+    if step_values(rule, at, 1, table, t, work, n, &mut values) {
+        take(rule, at, end, table, t, work, n, &values, 1, to, depth);
+        return;
+    }
     copy_list(work, n, 0, 5632);
     let b = open_builder(t.rows);
     branches(
@@ -480,7 +499,7 @@ fn turn(
     settle(rule, table, work, left, how, index, failed, b)
 }
 
-// What each row's index stands for, in the row's slot: null, failed, a THEN or ELSE.
+// What each row's index stands for, in the row's slot: null, failed, a THEN or ELSE. Literals are put first.
 fn take(
     rule: &[u8],
     at: usize,
@@ -499,7 +518,7 @@ fn take(
     ensures { λ _. ⌜ Done (TakeRight (now (rule .entry)) at end (now (table .entry)) t depth count to (now (values .entry))) (now (work .entry)) n (now (work .exit)) ⌝ }
 {
     let els = count as u16 + 1;
-    start_slots(work, n, values, els + 1);
+    start_results(rule, at, end, count, to, work, n, values);
     let mut place = at;
     let mut k = 1;
     while k < els {
@@ -512,7 +531,7 @@ fn take(
     take_else(rule, place, end, table, t, work, n, values, els, to, depth);
 }
 
-// A THEN over the rows of its index.
+// A THEN over the rows of its index; a literal is there already.
 fn take_then(
     rule: &[u8],
     start: usize,
@@ -527,14 +546,17 @@ fn take_then(
 )
     requires { ⌜ Framed (now table) t (now work) n (depth + 1) ⌝ }
     requires { ⌜ (0 < depth) × (512 ≤ length (now values)) ⌝ }
-    ensures { λ _. ⌜ Takes (now (values .entry)) k (λ r old v. ExprRight (now (rule .entry)) start end (now (table .entry)) t depth r v) (now (work .entry)) n (now (work .exit)) ⌝ }
+    ensures { λ _. ⌜ Takes (now (values .entry)) k (ThenRight (now (rule .entry)) start end (now (table .entry)) t depth) (now (work .entry)) n (now (work .exit)) ⌝ }
 {
+    if byte_at(rule, start) == 17 {
+        return;
+    }
     let m = pick(work, n, values, k);
     evaluate_expr(rule, start, end, table, t, &mut work[6656..], m, depth);
     copy_slots(work, m);
 }
 
-// ELSE over the rows of its index, try-cast to the result's type.
+// ELSE over the rows of its index, try-cast to the result's type; a literal is there already.
 fn take_else(
     rule: &[u8],
     at: usize,
@@ -553,6 +575,9 @@ fn take_else(
     ensures { λ _. ⌜ Takes (now (values .entry)) k (ElseRight (now (rule .entry)) at end (now (table .entry)) t depth to) (now (work .entry)) n (now (work .exit)) ⌝ }
 {
     if at == end {
+        return;
+    }
+    if byte_at(rule, at) == 17 {
         return;
     }
     let m = pick(work, n, values, k);

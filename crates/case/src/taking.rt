@@ -3,14 +3,11 @@ use crate::rows::put_row;
 use crate::rows::row_at;
 use crate::slot::next_slot;
 use crate::slot::put_slot;
-use scalar::value::Value;
 ghost use mathlib.Core.Path.{_≡_};
 ghost use Prim.Native.Nat.{_≤_};
-ghost use lib.Dec.{eqb};
 ghost use lib.ListN.{length};
-ghost use Rattle.scalar.specs.Value.{Storable};
-ghost use Rattle.case.specs.Frame.{nextSlot, Rows, Fillable, FillableFrom, Filled, FilledFrom};
-ghost use Rattle.case.specs.Taking.{HasIndex, startOf, startAt, Picked};
+ghost use Rattle.case.specs.Frame.{nextSlot, Rows, FillableFrom, FilledFrom};
+ghost use Rattle.case.specs.Taking.{HasIndex, Picked};
 
 // The listed rows of an index, to the next frame's list: how many they are.
 pub(crate) fn pick(work: &mut [u8], n: usize, values: &[u16], k: u16) -> usize
@@ -42,30 +39,6 @@ pub(crate) fn copy_slots(work: &mut [u8], m: usize)
         let r = row_at(work, 6656, i);
         let v = next_slot(work, r);
         put_slot(work, r, v);
-        i += 1;
-    }
-}
-
-// What a row has before the rows are taken: failed, or null.
-fn start_of(index: u16, failed: u16) -> Value
-    ensures { λ v. ⌜ (v ≡ startOf (eqb index failed)) × Storable v ⌝ }
-{
-    if index == failed {
-        return Value::Failed;
-    }
-    Value::Null
-}
-
-// What each listed row has before the rows are taken, in its slot.
-pub(crate) fn start_slots(work: &mut [u8], n: usize, values: &[u16], failed: u16)
-    requires { ⌜ Fillable (now work) n ⌝ }
-    requires { ⌜ 512 ≤ length (now values) ⌝ }
-    ensures { λ _. ⌜ Filled (λ r v. v ≡ startAt (now (values .entry)) failed r) (now (work .entry)) n (now (work .exit)) ⌝ }
-{
-    let mut i = 0;
-    while i < n {
-        let r = row_at(work, 0, i);
-        put_slot(work, r, start_of(values[r], failed));
         i += 1;
     }
 }

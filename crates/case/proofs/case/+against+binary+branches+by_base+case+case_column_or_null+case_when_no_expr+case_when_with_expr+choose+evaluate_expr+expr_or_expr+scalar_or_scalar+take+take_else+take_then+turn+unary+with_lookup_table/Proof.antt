@@ -6,9 +6,9 @@ use borrow.Author.Needs.{needs}
 use denote.Ref.{now}
 use Rattle.case.proofs.FrameLaws.{rows-to, rows-small, framed-fillable, framed-kept, framed-below}
 use Rattle.case.proofs.ExprLaws.{expr-none, expr-behind, expr-column, expr-literal, expr-case, expr-unary, expr-binary, unary-gives, binary-gives, against-none, against-value, against-asks, against-next, against-rows, back-long}
-use Rattle.case.proofs.CaseLaws.{shape-1, shape-2, shape-3, shape-4, shape-5, shape-6, case-none, case-behind, case-by, scalar-gives, column-gives, lookup-gives, no-expr-gives, single-gives, with-expr-gives, by-base-gives}
+use Rattle.case.proofs.CaseLaws.{shape-1, shape-2, shape-3, shape-4, shape-5, shape-6, case-none, case-behind, case-by, scalar-gives, column-gives, lookup-gives, no-expr-gives, single-gives, no-expr-steps, single-steps, scalar-steps, with-expr-gives, by-base-gives}
 use Rattle.case.proofs.ChooseLaws.{open-rows, open-self, turn-room, turn-asks, turn-long, turn-open, turn-gives, Chosen, choose-none, choose-ahead, choose-end, choose-more}
-use Rattle.case.proofs.TakeLaws.{picked-room, picked-asks, picked-next, next-asks, next-fillable, next-room, next-takes, else-none, else-next, else-again, else-takes, Taken, start-framed, start-done, take-none, take-framed, take-more, take-end}
+use Rattle.case.proofs.TakeLaws.{picked-room, picked-asks, picked-next, next-asks, next-fillable, next-room, next-takes, then-known, then-takes, else-none, else-known, else-next, else-again, else-takes, Taken, start-framed, start-done, take-none, take-framed, take-more, take-end}
 use Rattle.case.proofs.MergeLaws.{branches-ahead, branches-open, branches-framed, branches-gives}
 use Prim.Native.Nat.{ℕ, _+_, _-_, _*_, _<_}
 use borrow.Fn.Kinds.{In}
@@ -75,14 +75,15 @@ use Rattle.case.proofs.literal.fill_literal.Reads as fill-literal-reads
 use Rattle.case.proofs.literal.scalar_rows.Reads as scalar-rows-reads
 use Rattle.case.proofs.literal_lookup_table.look_up.Reads as look-up-reads
 use Rattle.case.proofs.merge.else_values.Reads as else-values-reads
+use Rattle.case.proofs.results.start_results.Reads as start-results-reads
 use Rattle.case.proofs.rows.apply.Reads as apply-reads
 use Rattle.case.proofs.rows.copy_list.Reads as copy-list-reads
 use Rattle.case.proofs.rows.operator_at.Reads as operator-at-reads
 use Rattle.case.proofs.settle.open_builder.Reads as open-builder-reads
 use Rattle.case.proofs.settle.settle.Reads as settle-reads
+use Rattle.case.proofs.steps.step_values.Reads as step-values-reads
 use Rattle.case.proofs.taking.copy_slots.Reads as copy-slots-reads
 use Rattle.case.proofs.taking.pick.Reads as pick-reads
-use Rattle.case.proofs.taking.start_slots.Reads as start-slots-reads
 use Rattle.layout.proofs.number.byte_at.Reads as byte-at-reads
 use Rattle.rule.proofs.literal.literal_value.Reads as literal-value-reads
 use Rattle.rule.proofs.strategy.strategy_at.Reads as strategy-at-reads
@@ -130,7 +131,7 @@ abbrev μ-expr-or-expr : Measures 3 expr-or-expr-kinds.ps ℕ
 μ-expr-or-expr κs a = 16 * a .1 .1 .1 .1 .1 .1 .1 .0 + 5
 
 abbrev μ-scalar-or-scalar : Measures 3 scalar-or-scalar-kinds.ps ℕ
-μ-scalar-or-scalar κs a = 16 * a .1 .1 .1 .1 .1 .1 .1 .0 + 1
+μ-scalar-or-scalar κs a = 16 * a .1 .1 .1 .1 .1 .1 .1 .0 + 3
 
 abbrev μ-take : Measures 4 take-kinds.ps ℕ
 μ-take κs a = 16 * a .1 .1 .1 .1 .1 .1 .1 .1 .1 .1 .0 + 2
@@ -471,7 +472,7 @@ pub +against+binary+branches+by-base+case+case-column-or-null+case-when-no-expr+
     (λ c. search needs)
     (λ c κs. let q = c .before .before .before .before .before .before .before .before .pre .0 in (omega arith, c .before .before .before .before .before .before .before .before .pre .1))
     (λ c. search needs)
-    (λ c κs. let q = c .before .before .before .before .before .before .before .before .pre .0 in (omega arith, c .before .before .before .before .before .before .before .before .pre .1))
+    (λ c κs. let q = c .before .before .before .before .before .before .before .before .pre .0 in (omega arith, (c .before .before .before .before .before .before .before .before .pre .1, omega arith)))
     (λ c. search needs)
     (λ c κs. let q = c .before .before .before .before .before .before .before .before .pre .0 in (omega arith, (c .before .before .before .before .before .before .before .before .pre .1, omega arith)))
     (λ c. search needs)
@@ -513,6 +514,10 @@ pub +against+binary+branches+by-base+case+case-column-or-null+case-when-no-expr+
       children-at-reads.Learnt,
       type-of-reads.Asked,
       type-of-reads.Learnt,
+      step-values-reads.Asked,
+      step-values-reads.Learnt,
+      take-below t,
+      take.Post,
       copy-list-reads.Asked,
       copy-list-reads.Learnt,
       open-builder-reads.Asked,
@@ -527,11 +532,17 @@ pub +against+binary+branches+by-base+case+case-column-or-null+case-when-no-expr+
     (λ c κs. tt)
     (λ c κs. tt)
     (λ c κs. tt)
-    (λ c κs. let f = c .before .before .before .before .before .before .before .before .pre .1 .0 .list-ok .few in let r = c .before .before .before .before .before .before .before .before .pre .1 .0 .room in (omega arith, omega arith))
-    (λ c κs. c .before .before .before .before .before .before .before .before .before .before .before .pre .1 .0 .small)
-    (λ c κs. let q = c .before .before .before .before .before .before .before .before .before .before .before .before .before .pre .0 in (omega arith, (framed-kept (c .before .before .before .before .before .before .before .before .before .before .before .before .before .pre .1 .0) (c .before .before .before .before .before .before .before .before .before .before .before .before .before .args .depth + 1) (omega arith) _ (c .before .before .before .before .copy-list .ensures .long) (λ j h. c .before .before .before .before .copy-list .ensures .before j (omega arith)), (c .before .before .before .before .before .before .before .before .before .before .before .before .before .pre .1 .1, c .before .open-builder .ensures .0 _ _ (rows-to _ _ 0 5632 _ _ (c .before .before .before .before .copy-list .ensures .rows-copied) (c .before .before .before .before .before .before .before .before .before .before .before .before .before .pre .1 .0 .list-ok))))))
+    (λ c. search needs)
+    (λ c κs. let f = c .before .before .before .before .before .before .before .before .before .pre .1 .0 in let k = f .list-ok .few in let r = f .room in ((rows-small (f .small) (f .list-ok), omega arith), omega arith))
+    (λ c. search needs)
+    (λ c κs. let q = c .before .before .before .before .before .before .before .before .before .before .before .before .before .before .pre .0 in let l = c .before .before .before .before .step-values .ensures .long in (omega arith, (c .before .before .before .before .before .before .before .before .before .before .before .before .before .before .pre .1 .0, (c .before .before .before .before .before .before .before .before .before .before .before .before .before .before .pre .1 .1, omega arith))))
+    (λ c. c .before .before .take .ensures .long)
+    (λ c. no-expr-steps _ (c .before .before .before .before .before .before .before .before .before .before .before .before .before .before .before .before .before .pre .1 .0 .list-ok .few) (c .before .before .before .before .before .before .before .before .before .before .before .children-at .ensures) (c .before .before .before .before .before .before .before .before .before .before .type-of .ensures) (c .before .before .before .before .before .before .before .step-values .ensures) (c .before .before .before .before .before .if2 .taken) (c .before .before .take .ensures) (c .before .before .before .before .before .before .before .before .before .before .before .before .byte-at .ensures))
+    (λ c κs. let f = c .before .before .before .before .before .before .before .before .before .before .before .before .before .pre .1 .0 .list-ok .few in let r = c .before .before .before .before .before .before .before .before .before .before .before .before .before .pre .1 .0 .room in (omega arith, omega arith))
+    (λ c κs. c .before .before .before .before .before .before .before .before .before .before .before .before .before .before .before .before .pre .1 .0 .small)
+    (λ c κs. let q = c .before .before .before .before .before .before .before .before .before .before .before .before .before .before .before .before .before .before .pre .0 in (omega arith, (framed-kept (c .before .before .before .before .before .before .before .before .before .before .before .before .before .before .before .before .before .before .pre .1 .0) (c .before .before .before .before .before .before .before .before .before .before .before .before .before .before .before .before .before .before .args .depth + 1) (omega arith) _ (c .before .before .before .before .copy-list .ensures .long) (λ j h. c .before .before .before .before .copy-list .ensures .before j (omega arith)), (c .before .before .before .before .before .before .before .before .before .before .before .before .before .before .before .before .before .before .pre .1 .1, c .before .open-builder .ensures .0 _ _ (rows-to _ _ 0 5632 _ _ (c .before .before .before .before .copy-list .ensures .rows-copied) (c .before .before .before .before .before .before .before .before .before .before .before .before .before .before .before .before .before .before .pre .1 .0 .list-ok))))))
     (λ c. c .before .before .branches .ensures .long ∙ c .before .before .before .before .before .before .before .copy-list .ensures .long)
-    (λ c. no-expr-gives (c .before .before .before .before .before .before .before .before .before .before .before .before .before .before .before .before .pre .1 .0 .list-ok .few) (c .before .before .before .before .before .before .before .before .before .before .children-at .ensures) (c .before .before .before .before .before .before .before .before .before .type-of .ensures) (c .before .before .before .before .before .before .before .copy-list .ensures) (c .before .before .branches .ensures) (c .before .before .before .before .before .before .before .before .before .before .before .byte-at .ensures)))
+    (λ c. no-expr-gives (c .before .before .before .before .before .before .before .before .before .before .before .before .before .before .before .before .before .before .before .before .before .pre .1 .0 .list-ok .few) (c .before .before .before .before .before .before .before .before .before .before .before .before .before .before .before .children-at .ensures) (c .before .before .before .before .before .before .before .before .before .before .before .before .before .before .type-of .ensures) (c .before .before .before .before .before .before .before .copy-list .ensures) (c .before .before .branches .ensures) (c .before .before .before .before .before .before .before .before .before .before .before .before .before .before .before .before .byte-at .ensures)))
     (λ t. case-when-with-expr-lts.spec (
       byte-at-reads.Asked,
       byte-at-reads.Learnt,
@@ -620,6 +631,10 @@ pub +against+binary+branches+by-base+case+case-column-or-null+case-when-no-expr+
       children-at-reads.Learnt,
       type-of-reads.Asked,
       type-of-reads.Learnt,
+      step-values-reads.Asked,
+      step-values-reads.Learnt,
+      take-below t,
+      take.Post,
       copy-list-reads.Asked,
       copy-list-reads.Learnt,
       open-builder-reads.Asked,
@@ -631,14 +646,26 @@ pub +against+binary+branches+by-base+case+case-column-or-null+case-when-no-expr+
     expr-or-expr.Post
     (λ c κs. tt)
     (λ c κs. tt)
-    (λ c κs. let f = c .before .before .before .before .before .before .pre .1 .0 .list-ok .few in let r = c .before .before .before .before .before .before .pre .1 .0 .room in (omega arith, omega arith))
-    (λ c κs. c .before .before .before .before .before .before .before .before .before .pre .1 .0 .small)
-    (λ c κs. let q = c .before .before .before .before .before .before .before .before .before .before .before .pre .0 in (omega arith, (framed-kept (c .before .before .before .before .before .before .before .before .before .before .before .pre .1 .0) (c .before .before .before .before .before .before .before .before .before .before .before .args .depth + 1) (omega arith) _ (c .before .before .before .before .copy-list .ensures .long) (λ j h. c .before .before .before .before .copy-list .ensures .before j (omega arith)), (c .before .before .before .before .before .before .before .before .before .before .before .pre .1 .1, c .before .open-builder .ensures .0 _ _ (rows-to _ _ 0 5632 _ _ (c .before .before .before .before .copy-list .ensures .rows-copied) (c .before .before .before .before .before .before .before .before .before .before .before .pre .1 .0 .list-ok))))))
+    (λ c. search needs)
+    (λ c κs. let f = c .before .before .before .before .before .before .before .pre .1 .0 in let k = f .list-ok .few in let r = f .room in ((rows-small (f .small) (f .list-ok), omega arith), omega arith))
+    (λ c. search needs)
+    (λ c κs. let q = c .before .before .before .before .before .before .before .before .before .before .before .before .pre .0 in let l = c .before .before .before .before .step-values .ensures .long in (omega arith, (c .before .before .before .before .before .before .before .before .before .before .before .before .pre .1 .0, (c .before .before .before .before .before .before .before .before .before .before .before .before .pre .1 .1, omega arith))))
+    (λ c. c .before .before .take .ensures .long)
+    (λ c. single-steps _ (c .before .before .before .before .before .before .before .before .before .before .before .before .before .before .before .pre .1 .0 .list-ok .few) (c .before .before .before .before .before .before .before .before .before .before .before .children-at .ensures) (c .before .before .before .before .before .before .before .before .before .before .type-of .ensures) (c .before .before .before .before .before .before .before .step-values .ensures) (c .before .before .before .before .before .if1 .taken) (c .before .before .take .ensures) refl)
+    (λ c κs. let f = c .before .before .before .before .before .before .before .before .before .before .before .pre .1 .0 .list-ok .few in let r = c .before .before .before .before .before .before .before .before .before .before .before .pre .1 .0 .room in (omega arith, omega arith))
+    (λ c κs. c .before .before .before .before .before .before .before .before .before .before .before .before .before .before .pre .1 .0 .small)
+    (λ c κs. let q = c .before .before .before .before .before .before .before .before .before .before .before .before .before .before .before .before .pre .0 in (omega arith, (framed-kept (c .before .before .before .before .before .before .before .before .before .before .before .before .before .before .before .before .pre .1 .0) (c .before .before .before .before .before .before .before .before .before .before .before .before .before .before .before .before .args .depth + 1) (omega arith) _ (c .before .before .before .before .copy-list .ensures .long) (λ j h. c .before .before .before .before .copy-list .ensures .before j (omega arith)), (c .before .before .before .before .before .before .before .before .before .before .before .before .before .before .before .before .pre .1 .1, c .before .open-builder .ensures .0 _ _ (rows-to _ _ 0 5632 _ _ (c .before .before .before .before .copy-list .ensures .rows-copied) (c .before .before .before .before .before .before .before .before .before .before .before .before .before .before .before .before .pre .1 .0 .list-ok))))))
     (λ c. c .before .before .branches .ensures .long ∙ c .before .before .before .before .before .before .before .copy-list .ensures .long)
-    (λ c. single-gives (c .before .before .before .before .before .before .before .before .before .before .before .before .before .before .pre .1 .0 .list-ok .few) (c .before .before .before .before .before .before .before .before .before .before .children-at .ensures) (c .before .before .before .before .before .before .before .before .before .type-of .ensures) (c .before .before .before .before .before .before .before .copy-list .ensures) (c .before .before .branches .ensures) refl))
+    (λ c. single-gives (c .before .before .before .before .before .before .before .before .before .before .before .before .before .before .before .before .before .before .before .pre .1 .0 .list-ok .few) (c .before .before .before .before .before .before .before .before .before .before .before .before .before .before .before .children-at .ensures) (c .before .before .before .before .before .before .before .before .before .before .before .before .before .before .type-of .ensures) (c .before .before .before .before .before .before .before .copy-list .ensures) (c .before .before .branches .ensures) refl))
     (λ t. scalar-or-scalar-lts.spec (
       children-at-reads.Asked,
       children-at-reads.Learnt,
+      type-of-reads.Asked,
+      type-of-reads.Learnt,
+      step-values-reads.Asked,
+      step-values-reads.Learnt,
+      take-below t,
+      take.Post,
       field-end-reads.Asked,
       field-end-reads.Learnt,
       evaluate-expr-below t,
@@ -650,13 +677,20 @@ pub +against+binary+branches+by-base+case+case-column-or-null+case-when-no-expr+
     scalar-or-scalar.Post
     (λ c κs. tt)
     (λ c κs. tt)
-    (λ c κs. let q = c .before .before .before .before .before .before .pre .0 in (omega arith, framed-below (c .before .before .before .before .before .before .pre .1) (c .before .before .before .before .before .before .args .depth) (omega arith)))
-    (λ c κs. framed-fillable (framed-kept (c .before .before .before .before .before .before .before .before .before .before .pre .1) (c .before .before .before .before .before .before .before .before .before .before .args .depth + 1) (omega arith) _ (c .before .before .before .evaluate-expr .ensures .long) (c .before .before .before .evaluate-expr .ensures .low)) (omega arith))
+    (λ c. search needs)
+    (λ c κs. let f = c .before .before .before .before .before .before .before .pre .1 .0 in let k = f .list-ok .few in let r = f .room in ((rows-small (f .small) (f .list-ok), omega arith), omega arith))
+    (λ c. search needs)
+    (λ c κs. let q = c .before .before .before .before .before .before .before .before .before .before .before .before .pre .0 in let l = c .before .before .before .before .step-values .ensures .long in (omega arith, (c .before .before .before .before .before .before .before .before .before .before .before .before .pre .1 .0, (c .before .before .before .before .before .before .before .before .before .before .before .before .pre .1 .1, omega arith))))
+    (λ c. c .before .before .take .ensures .long)
+    (λ c. scalar-steps _ (c .before .before .before .before .before .before .before .before .before .before .before .before .before .before .before .pre .1 .0 .list-ok .few) (c .before .before .before .before .before .before .before .before .before .before .before .children-at .ensures) (c .before .before .before .before .before .before .before .before .before .before .type-of .ensures) (c .before .before .before .before .before .before .before .step-values .ensures) (c .before .before .before .before .before .if1 .taken) (c .before .before .take .ensures) refl)
+    (λ c κs. tt)
+    (λ c κs. let q = c .before .before .before .before .before .before .before .before .before .before .before .before .pre .0 in (omega arith, framed-below (c .before .before .before .before .before .before .before .before .before .before .before .before .pre .1 .0) (c .before .before .before .before .before .before .before .before .before .before .before .before .args .depth) (omega arith)))
+    (λ c κs. framed-fillable (framed-kept (c .before .before .before .before .before .before .before .before .before .before .before .before .before .before .before .before .pre .1 .0) (c .before .before .before .before .before .before .before .before .before .before .before .before .before .before .before .before .args .depth + 1) (omega arith) _ (c .before .before .before .evaluate-expr .ensures .long) (c .before .before .before .evaluate-expr .ensures .low)) (omega arith))
     (λ c. c .before .before .scalar-rows .ensures .long ∙ c .before .before .before .before .before .before .evaluate-expr .ensures .long)
-    (λ c. scalar-gives (c .before .before .before .before .before .before .before .before .before .before .before .before .before .pre .1 .list-ok .few) (c .before .before .before .before .before .before .before .before .before .children-at .ensures) (c .before .before .before .before .before .before .before .before .field-end .ensures) (c .before .before .before .before .before .before .evaluate-expr .ensures) (c .before .before .scalar-rows .ensures)))
+    (λ c. scalar-gives (c .before .before .before .before .before .before .before .before .before .before .before .before .before .before .before .before .before .before .before .pre .1 .0 .list-ok .few) (c .before .before .before .before .before .before .before .before .before .before .before .before .before .before .before .children-at .ensures) (c .before .before .before .before .before .before .before .before .field-end .ensures) (c .before .before .before .before .before .before .evaluate-expr .ensures) (c .before .before .scalar-rows .ensures)))
     (λ t. take-lts.spec (
-      start-slots-reads.Asked,
-      start-slots-reads.Learnt,
+      start-results-reads.Asked,
+      start-results-reads.Learnt,
       field-end-reads.Asked,
       field-end-reads.Learnt,
       take-then-below t,
@@ -669,19 +703,20 @@ pub +against+binary+branches+by-base+case+case-column-or-null+case-when-no-expr+
     take-Inv-loop
     take-μ-loop
     (λ c. omega arith)
-    (λ c. omega arith)
     (λ c κs. (framed-fillable (c .before .before .before .before .before .pre .1 .0) (omega arith), c .before .before .before .before .before .pre .1 .1 .1))
-    (λ c. take-none _ (omega arith) (c .before .before .before .before .before .before .before .before .pre .1 .0) (c .before .before .start-slots .ensures))
+    (λ c. take-none (c .before .before .before .before .before .before .before .before .pre .1 .0) (c .before .before .start-results .ensures))
     (λ c κs. tt)
     (λ c κs. tt)
-    (λ c κs. let q = c .before .before .before .before .before .before .before .before .before .before .before .before .before .pre .0 in (omega arith, (take-framed (start-framed (c .before .before .before .before .before .before .before .before .before .before .before .before .before .pre .1 .0) (c .before .before .before .before .before .before .before .start-slots .ensures)) (c .before .before .before .before .loop .inv), c .before .before .before .before .before .before .before .before .before .before .before .before .before .pre .1 .1)))
+    (λ c κs. let q = c .before .before .before .before .before .before .before .before .before .before .before .before .before .pre .0 in (omega arith, (take-framed (start-framed (c .before .before .before .before .before .before .before .before .before .before .before .before .before .pre .1 .0) (c .before .before .before .before .before .before .before .start-results .ensures)) (c .before .before .before .before .loop .inv), c .before .before .before .before .before .before .before .before .before .before .before .before .before .pre .1 .1)))
     (λ c. omega arith)
     (λ c. omega arith)
-    (λ c. take-more (start-framed (c .before .before .before .before .before .before .before .before .before .before .before .before .before .before .before .before .pre .1 .0) (c .before .before .before .before .before .before .before .before .before .before .start-slots .ensures)) (c .before .before .before .before .before .before .before .loop .inv) (c .before .before .before .before .before .before .loop-test .taken) (c .before .before .before .before .before .field-end .ensures) (c .before .before .before .before .field-end2 .ensures) (c .before .before .take-then .ensures))
-    (λ c κs. let q = c .before .before .before .before .before .before .before .before .before .before .before .pre .0 in (omega arith, (take-framed (start-framed (c .before .before .before .before .before .before .before .before .before .before .before .pre .1 .0) (c .before .before .before .before .before .start-slots .ensures)) (c .before .before .loop .inv), c .before .before .before .before .before .before .before .before .before .before .before .pre .1 .1)))
-    (λ c. c .before .before .take-else .ensures .long ∙ c .before .before .before .before .before .loop .inv .long ∙ c .before .before .before .before .before .before .before .before .start-slots .ensures .long)
-    (λ c. start-done (c .before .before .before .before .before .before .before .before .before .before .before .before .before .before .pre .1 .0) (c .before .before .before .before .before .before .before .before .start-slots .ensures) (take-end (start-framed (c .before .before .before .before .before .before .before .before .before .before .before .before .before .before .pre .1 .0) (c .before .before .before .before .before .before .before .before .start-slots .ensures)) (c .before .before .before .before .before .loop .inv) (c .before .before .before .before .loop-test .left) (c .before .before .take-else .ensures))))
+    (λ c. take-more (start-framed (c .before .before .before .before .before .before .before .before .before .before .before .before .before .before .before .before .pre .1 .0) (c .before .before .before .before .before .before .before .before .before .before .start-results .ensures)) (c .before .before .before .before .before .before .before .loop .inv) (c .before .before .before .before .before .before .loop-test .taken) (c .before .before .before .before .before .field-end .ensures) (c .before .before .before .before .field-end2 .ensures) (c .before .before .take-then .ensures))
+    (λ c κs. let q = c .before .before .before .before .before .before .before .before .before .before .before .pre .0 in (omega arith, (take-framed (start-framed (c .before .before .before .before .before .before .before .before .before .before .before .pre .1 .0) (c .before .before .before .before .before .start-results .ensures)) (c .before .before .loop .inv), c .before .before .before .before .before .before .before .before .before .before .before .pre .1 .1)))
+    (λ c. c .before .before .take-else .ensures .long ∙ c .before .before .before .before .before .loop .inv .long ∙ c .before .before .before .before .before .before .before .before .start-results .ensures .long)
+    (λ c. start-done (c .before .before .before .before .before .before .before .before .before .before .before .before .before .before .pre .1 .0) (c .before .before .before .before .before .before .before .before .start-results .ensures) (take-end (start-framed (c .before .before .before .before .before .before .before .before .before .before .before .before .before .before .pre .1 .0) (c .before .before .before .before .before .before .before .before .start-results .ensures)) (c .before .before .before .before .before .loop .inv) (c .before .before .before .before .loop-test .left) (c .before .before .take-else .ensures))))
     (λ t. take-else-lts.spec (
+      byte-at-reads.Asked,
+      byte-at-reads.Learnt,
       pick-reads.Asked,
       pick-reads.Learnt,
       evaluate-expr-below t,
@@ -694,19 +729,23 @@ pub +against+binary+branches+by-base+case+case-column-or-null+case-when-no-expr+
     (take-else-at t)
     take-else.Post
     (λ c. else-none (c .if1 .taken))
-    (λ c κs. let d = c .before .before .before .before .before .before .pre .1 .1 .0 in let r = c .before .before .before .before .before .before .pre .1 .0 .room in (rows-small (c .before .before .before .before .before .before .pre .1 .0 .small) (c .before .before .before .before .before .before .pre .1 .0 .list-ok), (omega arith, c .before .before .before .before .before .before .pre .1 .1 .1)))
-    (λ c. let r = picked-room (now (c .before .before .before .before .before .before .before .before .before .args .values)) (c .before .before .before .before .before .before .before .before .before .pre .1 .0) (c .before .before .before .before .before .before .before .before .before .pre .1 .1 .0) (c .before .before .pick .ensures) in omega arith)
-    (λ c. let r = picked-room (now (c .before .before .before .before .before .before .before .before .before .args .values)) (c .before .before .before .before .before .before .before .before .before .pre .1 .0) (c .before .before .before .before .before .before .before .before .before .pre .1 .1 .0) (c .before .before .pick .ensures) in omega arith)
-    (λ c. let r = picked-room (now (c .before .before .before .before .before .before .before .before .before .args .values)) (c .before .before .before .before .before .before .before .before .before .pre .1 .0) (c .before .before .before .before .before .before .before .before .before .pre .1 .1 .0) (c .before .before .pick .ensures) in omega arith)
-    (λ c κs. let q = c .before .before .before .before .before .before .before .before .before .before .pre .0 in (omega arith, picked-asks (now (c .before .before .before .before .before .before .before .before .before .before .args .values)) (c .before .before .before .before .before .before .before .before .before .before .pre .1 .0) (c .before .before .before .before .before .before .before .before .before .before .pre .1 .1 .0) (c .before .before .before .pick .ensures)))
-    (λ c. let r = next-room (now (c .before .before .before .before .before .before .before .before .before .before .before .before .before .args .values)) (c .before .before .before .before .before .before .before .before .before .before .before .before .before .pre .1 .0) (c .before .before .before .before .before .before .before .before .before .before .before .before .before .pre .1 .1 .0) (c .before .before .before .before .before .before .pick .ensures) (else-next (now (c .before .before .before .before .before .before .before .before .before .before .before .before .before .args .values)) (c .before .before .before .before .before .before .before .before .before .before .before .before .before .pre .1 .0) (c .before .before .before .before .before .before .before .before .before .before .before .before .before .pre .1 .1 .0) (c .before .before .before .before .before .before .pick .ensures) (c .before .before .before .before .before .before .before .before .if1 .left) (c .before .before .evaluate-expr .ensures)) in omega arith)
-    (λ c. let r = next-room (now (c .before .before .before .before .before .before .before .before .before .before .before .before .before .args .values)) (c .before .before .before .before .before .before .before .before .before .before .before .before .before .pre .1 .0) (c .before .before .before .before .before .before .before .before .before .before .before .before .before .pre .1 .1 .0) (c .before .before .before .before .before .before .pick .ensures) (else-next (now (c .before .before .before .before .before .before .before .before .before .before .before .before .before .args .values)) (c .before .before .before .before .before .before .before .before .before .before .before .before .before .pre .1 .0) (c .before .before .before .before .before .before .before .before .before .before .before .before .before .pre .1 .1 .0) (c .before .before .before .before .before .before .pick .ensures) (c .before .before .before .before .before .before .before .before .if1 .left) (c .before .before .evaluate-expr .ensures)) in omega arith)
-    (λ c. let r = next-room (now (c .before .before .before .before .before .before .before .before .before .before .before .before .before .args .values)) (c .before .before .before .before .before .before .before .before .before .before .before .before .before .pre .1 .0) (c .before .before .before .before .before .before .before .before .before .before .before .before .before .pre .1 .1 .0) (c .before .before .before .before .before .before .pick .ensures) (else-next (now (c .before .before .before .before .before .before .before .before .before .before .before .before .before .args .values)) (c .before .before .before .before .before .before .before .before .before .before .before .before .before .pre .1 .0) (c .before .before .before .before .before .before .before .before .before .before .before .before .before .pre .1 .1 .0) (c .before .before .before .before .before .before .pick .ensures) (c .before .before .before .before .before .before .before .before .if1 .left) (c .before .before .evaluate-expr .ensures)) in omega arith)
-    (λ c κs. next-fillable (now (c .before .before .before .before .before .before .before .before .before .before .before .before .before .before .args .values)) (c .before .before .before .before .before .before .before .before .before .before .before .before .before .before .pre .1 .0) (c .before .before .before .before .before .before .before .before .before .before .before .before .before .before .pre .1 .1 .0) (c .before .before .before .before .before .before .before .pick .ensures) (else-next (now (c .before .before .before .before .before .before .before .before .before .before .before .before .before .before .args .values)) (c .before .before .before .before .before .before .before .before .before .before .before .before .before .before .pre .1 .0) (c .before .before .before .before .before .before .before .before .before .before .before .before .before .before .pre .1 .1 .0) (c .before .before .before .before .before .before .before .pick .ensures) (c .before .before .before .before .before .before .before .before .before .if1 .left) (c .before .before .before .evaluate-expr .ensures)))
-    (λ c κs. next-asks (now (c .before .before .before .before .before .before .before .before .before .before .before .before .before .before .before .before .before .before .args .values)) (c .before .before .before .before .before .before .before .before .before .before .before .before .before .before .before .before .before .before .pre .1 .0) (c .before .before .before .before .before .before .before .before .before .before .before .before .before .before .before .before .before .before .pre .1 .1 .0) (c .before .before .before .before .before .before .before .before .before .before .before .pick .ensures) (else-again (now (c .before .before .before .before .before .before .before .before .before .before .before .before .before .before .before .before .before .before .args .values)) (c .before .before .before .before .before .before .before .before .before .before .before .before .before .before .before .before .before .before .pre .1 .0) (c .before .before .before .before .before .before .before .before .before .before .before .before .before .before .before .before .before .before .pre .1 .1 .0) (c .before .before .before .before .before .before .before .before .before .before .before .pick .ensures) (c .before .before .before .before .before .before .before .before .before .before .before .before .before .if1 .left) (c .before .before .before .before .before .before .before .evaluate-expr .ensures) (c .before .before .before .before .before .before .before .before .before .before .before .before .before .before .before .before .before .before .args .to) (c .before .before .before .apply .ensures)))
-    (λ c. else-takes (now (c .before .before .before .before .before .before .before .before .before .before .before .before .before .before .before .before .before .before .before .before .before .args .values)) (c .before .before .before .before .before .before .before .before .before .before .before .before .before .before .before .before .before .before .before .before .before .pre .1 .0) (c .before .before .before .before .before .before .before .before .before .before .before .before .before .before .before .before .before .before .before .before .before .pre .1 .1 .0) (c .before .before .before .before .before .before .before .before .before .before .before .before .before .before .pick .ensures) (c .before .before .before .before .before .before .before .before .before .before .before .before .before .before .before .before .if1 .left) (c .before .before .before .before .before .before .before .before .before .before .evaluate-expr .ensures) (c .before .before .before .before .before .before .before .before .before .before .before .before .before .before .before .before .before .before .before .before .before .args .to) (c .before .before .before .before .before .before .apply .ensures) (c .before .before .copy-slots .ensures) .long)
-    (λ c. else-takes (now (c .before .before .before .before .before .before .before .before .before .before .before .before .before .before .before .before .before .before .before .before .before .args .values)) (c .before .before .before .before .before .before .before .before .before .before .before .before .before .before .before .before .before .before .before .before .before .pre .1 .0) (c .before .before .before .before .before .before .before .before .before .before .before .before .before .before .before .before .before .before .before .before .before .pre .1 .1 .0) (c .before .before .before .before .before .before .before .before .before .before .before .before .before .before .pick .ensures) (c .before .before .before .before .before .before .before .before .before .before .before .before .before .before .before .before .if1 .left) (c .before .before .before .before .before .before .before .before .before .before .evaluate-expr .ensures) (c .before .before .before .before .before .before .before .before .before .before .before .before .before .before .before .before .before .before .before .before .before .args .to) (c .before .before .before .before .before .before .apply .ensures) (c .before .before .copy-slots .ensures)))
+    (λ c κs. tt)
+    (λ c. else-known (sym (c .before .byte-at .ensures) ∙ c .if2 .taken))
+    (λ c κs. let d = c .before .before .before .before .before .before .before .before .pre .1 .1 .0 in let r = c .before .before .before .before .before .before .before .before .pre .1 .0 .room in (rows-small (c .before .before .before .before .before .before .before .before .pre .1 .0 .small) (c .before .before .before .before .before .before .before .before .pre .1 .0 .list-ok), (omega arith, c .before .before .before .before .before .before .before .before .pre .1 .1 .1)))
+    (λ c. let r = picked-room (now (c .before .before .before .before .before .before .before .before .before .before .before .args .values)) (c .before .before .before .before .before .before .before .before .before .before .before .pre .1 .0) (c .before .before .before .before .before .before .before .before .before .before .before .pre .1 .1 .0) (c .before .before .pick .ensures) in omega arith)
+    (λ c. let r = picked-room (now (c .before .before .before .before .before .before .before .before .before .before .before .args .values)) (c .before .before .before .before .before .before .before .before .before .before .before .pre .1 .0) (c .before .before .before .before .before .before .before .before .before .before .before .pre .1 .1 .0) (c .before .before .pick .ensures) in omega arith)
+    (λ c. let r = picked-room (now (c .before .before .before .before .before .before .before .before .before .before .before .args .values)) (c .before .before .before .before .before .before .before .before .before .before .before .pre .1 .0) (c .before .before .before .before .before .before .before .before .before .before .before .pre .1 .1 .0) (c .before .before .pick .ensures) in omega arith)
+    (λ c κs. let q = c .before .before .before .before .before .before .before .before .before .before .before .before .pre .0 in (omega arith, picked-asks (now (c .before .before .before .before .before .before .before .before .before .before .before .before .args .values)) (c .before .before .before .before .before .before .before .before .before .before .before .before .pre .1 .0) (c .before .before .before .before .before .before .before .before .before .before .before .before .pre .1 .1 .0) (c .before .before .before .pick .ensures)))
+    (λ c. let r = next-room (now (c .before .before .before .before .before .before .before .before .before .before .before .before .before .before .before .args .values)) (c .before .before .before .before .before .before .before .before .before .before .before .before .before .before .before .pre .1 .0) (c .before .before .before .before .before .before .before .before .before .before .before .before .before .before .before .pre .1 .1 .0) (c .before .before .before .before .before .before .pick .ensures) (else-next (now (c .before .before .before .before .before .before .before .before .before .before .before .before .before .before .before .args .values)) (c .before .before .before .before .before .before .before .before .before .before .before .before .before .before .before .pre .1 .0) (c .before .before .before .before .before .before .before .before .before .before .before .before .before .before .before .pre .1 .1 .0) (c .before .before .before .before .before .before .pick .ensures) (c .before .before .before .before .before .before .before .before .before .before .if1 .left) (c .before .before .evaluate-expr .ensures)) in omega arith)
+    (λ c. let r = next-room (now (c .before .before .before .before .before .before .before .before .before .before .before .before .before .before .before .args .values)) (c .before .before .before .before .before .before .before .before .before .before .before .before .before .before .before .pre .1 .0) (c .before .before .before .before .before .before .before .before .before .before .before .before .before .before .before .pre .1 .1 .0) (c .before .before .before .before .before .before .pick .ensures) (else-next (now (c .before .before .before .before .before .before .before .before .before .before .before .before .before .before .before .args .values)) (c .before .before .before .before .before .before .before .before .before .before .before .before .before .before .before .pre .1 .0) (c .before .before .before .before .before .before .before .before .before .before .before .before .before .before .before .pre .1 .1 .0) (c .before .before .before .before .before .before .pick .ensures) (c .before .before .before .before .before .before .before .before .before .before .if1 .left) (c .before .before .evaluate-expr .ensures)) in omega arith)
+    (λ c. let r = next-room (now (c .before .before .before .before .before .before .before .before .before .before .before .before .before .before .before .args .values)) (c .before .before .before .before .before .before .before .before .before .before .before .before .before .before .before .pre .1 .0) (c .before .before .before .before .before .before .before .before .before .before .before .before .before .before .before .pre .1 .1 .0) (c .before .before .before .before .before .before .pick .ensures) (else-next (now (c .before .before .before .before .before .before .before .before .before .before .before .before .before .before .before .args .values)) (c .before .before .before .before .before .before .before .before .before .before .before .before .before .before .before .pre .1 .0) (c .before .before .before .before .before .before .before .before .before .before .before .before .before .before .before .pre .1 .1 .0) (c .before .before .before .before .before .before .pick .ensures) (c .before .before .before .before .before .before .before .before .before .before .if1 .left) (c .before .before .evaluate-expr .ensures)) in omega arith)
+    (λ c κs. next-fillable (now (c .before .before .before .before .before .before .before .before .before .before .before .before .before .before .before .before .args .values)) (c .before .before .before .before .before .before .before .before .before .before .before .before .before .before .before .before .pre .1 .0) (c .before .before .before .before .before .before .before .before .before .before .before .before .before .before .before .before .pre .1 .1 .0) (c .before .before .before .before .before .before .before .pick .ensures) (else-next (now (c .before .before .before .before .before .before .before .before .before .before .before .before .before .before .before .before .args .values)) (c .before .before .before .before .before .before .before .before .before .before .before .before .before .before .before .before .pre .1 .0) (c .before .before .before .before .before .before .before .before .before .before .before .before .before .before .before .before .pre .1 .1 .0) (c .before .before .before .before .before .before .before .pick .ensures) (c .before .before .before .before .before .before .before .before .before .before .before .if1 .left) (c .before .before .before .evaluate-expr .ensures)))
+    (λ c κs. next-asks (now (c .before .before .before .before .before .before .before .before .before .before .before .before .before .before .before .before .before .before .before .before .args .values)) (c .before .before .before .before .before .before .before .before .before .before .before .before .before .before .before .before .before .before .before .before .pre .1 .0) (c .before .before .before .before .before .before .before .before .before .before .before .before .before .before .before .before .before .before .before .before .pre .1 .1 .0) (c .before .before .before .before .before .before .before .before .before .before .before .pick .ensures) (else-again (now (c .before .before .before .before .before .before .before .before .before .before .before .before .before .before .before .before .before .before .before .before .args .values)) (c .before .before .before .before .before .before .before .before .before .before .before .before .before .before .before .before .before .before .before .before .pre .1 .0) (c .before .before .before .before .before .before .before .before .before .before .before .before .before .before .before .before .before .before .before .before .pre .1 .1 .0) (c .before .before .before .before .before .before .before .before .before .before .before .pick .ensures) (c .before .before .before .before .before .before .before .before .before .before .before .before .before .before .before .if1 .left) (c .before .before .before .before .before .before .before .evaluate-expr .ensures) (c .before .before .before .before .before .before .before .before .before .before .before .before .before .before .before .before .before .before .before .before .args .to) (c .before .before .before .apply .ensures)))
+    (λ c. else-takes (now (c .before .before .before .before .before .before .before .before .before .before .before .before .before .before .before .before .before .before .before .before .before .before .before .args .values)) (c .before .before .before .before .before .before .before .before .before .before .before .before .before .before .before .before .before .before .before .before .before .before .before .pre .1 .0) (c .before .before .before .before .before .before .before .before .before .before .before .before .before .before .before .before .before .before .before .before .before .before .before .pre .1 .1 .0) (c .before .before .before .before .before .before .before .before .before .before .before .before .before .before .pick .ensures) (c .before .before .before .before .before .before .before .before .before .before .before .before .before .before .before .before .before .before .if1 .left) (c .before .before .before .before .before .before .before .before .before .before .evaluate-expr .ensures) (c .before .before .before .before .before .before .before .before .before .before .before .before .before .before .before .before .before .before .before .before .before .before .before .args .to) (c .before .before .before .before .before .before .apply .ensures) (c .before .before .copy-slots .ensures) .long)
+    (λ c. else-takes (now (c .before .before .before .before .before .before .before .before .before .before .before .before .before .before .before .before .before .before .before .before .before .before .before .args .values)) (c .before .before .before .before .before .before .before .before .before .before .before .before .before .before .before .before .before .before .before .before .before .before .before .pre .1 .0) (c .before .before .before .before .before .before .before .before .before .before .before .before .before .before .before .before .before .before .before .before .before .before .before .pre .1 .1 .0) (c .before .before .before .before .before .before .before .before .before .before .before .before .before .before .pick .ensures) (c .before .before .before .before .before .before .before .before .before .before .before .before .before .before .before .before .before .before .if1 .left) (c .before .before .before .before .before .before .before .before .before .before .evaluate-expr .ensures) (c .before .before .before .before .before .before .before .before .before .before .before .before .before .before .before .before .before .before .before .before .before .before .before .args .to) (c .before .before .before .before .before .before .apply .ensures) (c .before .before .copy-slots .ensures)))
     (λ t. take-then-lts.spec (
+      byte-at-reads.Asked,
+      byte-at-reads.Learnt,
       pick-reads.Asked,
       pick-reads.Learnt,
       evaluate-expr-below t,
@@ -716,14 +755,16 @@ pub +against+binary+branches+by-base+case+case-column-or-null+case-when-no-expr+
     )
     (take-then-at t)
     take-then.Post
-    (λ c κs. let d = c .before .before .before .before .before .pre .1 .1 .0 in let r = c .before .before .before .before .before .pre .1 .0 .room in (rows-small (c .before .before .before .before .before .pre .1 .0 .small) (c .before .before .before .before .before .pre .1 .0 .list-ok), (omega arith, c .before .before .before .before .before .pre .1 .1 .1)))
-    (λ c. let r = picked-room (now (c .before .before .before .before .before .before .before .before .args .values)) (c .before .before .before .before .before .before .before .before .pre .1 .0) (c .before .before .before .before .before .before .before .before .pre .1 .1 .0) (c .before .before .pick .ensures) in omega arith)
-    (λ c. let r = picked-room (now (c .before .before .before .before .before .before .before .before .args .values)) (c .before .before .before .before .before .before .before .before .pre .1 .0) (c .before .before .before .before .before .before .before .before .pre .1 .1 .0) (c .before .before .pick .ensures) in omega arith)
-    (λ c. let r = picked-room (now (c .before .before .before .before .before .before .before .before .args .values)) (c .before .before .before .before .before .before .before .before .pre .1 .0) (c .before .before .before .before .before .before .before .before .pre .1 .1 .0) (c .before .before .pick .ensures) in omega arith)
-    (λ c κs. let q = c .before .before .before .before .before .before .before .before .before .pre .0 in (omega arith, picked-asks (now (c .before .before .before .before .before .before .before .before .before .args .values)) (c .before .before .before .before .before .before .before .before .before .pre .1 .0) (c .before .before .before .before .before .before .before .before .before .pre .1 .1 .0) (c .before .before .before .pick .ensures)))
-    (λ c κs. next-asks (now (c .before .before .before .before .before .before .before .before .before .before .before .before .before .args .values)) (c .before .before .before .before .before .before .before .before .before .before .before .before .before .pre .1 .0) (c .before .before .before .before .before .before .before .before .before .before .before .before .before .pre .1 .1 .0) (c .before .before .before .before .before .before .before .pick .ensures) (picked-next (now (c .before .before .before .before .before .before .before .before .before .before .before .before .before .args .values)) (c .before .before .before .before .before .before .before .before .before .before .before .before .before .pre .1 .0) (c .before .before .before .before .before .before .before .before .before .before .before .before .before .pre .1 .1 .0) (c .before .before .before .before .before .before .before .pick .ensures) (c .before .before .before .evaluate-expr .ensures)))
-    (λ c. next-takes (now (c .before .before .before .before .before .before .before .before .before .before .before .before .before .before .before .before .args .values)) (c .before .before .before .before .before .before .before .before .before .before .before .before .before .before .before .before .pre .1 .0) (c .before .before .before .before .before .before .before .before .before .before .before .before .before .before .before .before .pre .1 .1 .0) (c .before .before .before .before .before .before .before .before .before .before .pick .ensures) (picked-next (now (c .before .before .before .before .before .before .before .before .before .before .before .before .before .before .before .before .args .values)) (c .before .before .before .before .before .before .before .before .before .before .before .before .before .before .before .before .pre .1 .0) (c .before .before .before .before .before .before .before .before .before .before .before .before .before .before .before .before .pre .1 .1 .0) (c .before .before .before .before .before .before .before .before .before .before .pick .ensures) (c .before .before .before .before .before .before .evaluate-expr .ensures)) (c .before .before .copy-slots .ensures) .long)
-    (λ c. next-takes (now (c .before .before .before .before .before .before .before .before .before .before .before .before .before .before .before .before .args .values)) (c .before .before .before .before .before .before .before .before .before .before .before .before .before .before .before .before .pre .1 .0) (c .before .before .before .before .before .before .before .before .before .before .before .before .before .before .before .before .pre .1 .1 .0) (c .before .before .before .before .before .before .before .before .before .before .pick .ensures) (picked-next (now (c .before .before .before .before .before .before .before .before .before .before .before .before .before .before .before .before .args .values)) (c .before .before .before .before .before .before .before .before .before .before .before .before .before .before .before .before .pre .1 .0) (c .before .before .before .before .before .before .before .before .before .before .before .before .before .before .before .before .pre .1 .1 .0) (c .before .before .before .before .before .before .before .before .before .before .pick .ensures) (c .before .before .before .before .before .before .evaluate-expr .ensures)) (c .before .before .copy-slots .ensures)))
+    (λ c κs. tt)
+    (λ c. then-known (sym (c .before .byte-at .ensures) ∙ c .if1 .taken))
+    (λ c κs. let d = c .before .before .before .before .before .before .before .pre .1 .1 .0 in let r = c .before .before .before .before .before .before .before .pre .1 .0 .room in (rows-small (c .before .before .before .before .before .before .before .pre .1 .0 .small) (c .before .before .before .before .before .before .before .pre .1 .0 .list-ok), (omega arith, c .before .before .before .before .before .before .before .pre .1 .1 .1)))
+    (λ c. let r = picked-room (now (c .before .before .before .before .before .before .before .before .before .before .args .values)) (c .before .before .before .before .before .before .before .before .before .before .pre .1 .0) (c .before .before .before .before .before .before .before .before .before .before .pre .1 .1 .0) (c .before .before .pick .ensures) in omega arith)
+    (λ c. let r = picked-room (now (c .before .before .before .before .before .before .before .before .before .before .args .values)) (c .before .before .before .before .before .before .before .before .before .before .pre .1 .0) (c .before .before .before .before .before .before .before .before .before .before .pre .1 .1 .0) (c .before .before .pick .ensures) in omega arith)
+    (λ c. let r = picked-room (now (c .before .before .before .before .before .before .before .before .before .before .args .values)) (c .before .before .before .before .before .before .before .before .before .before .pre .1 .0) (c .before .before .before .before .before .before .before .before .before .before .pre .1 .1 .0) (c .before .before .pick .ensures) in omega arith)
+    (λ c κs. let q = c .before .before .before .before .before .before .before .before .before .before .before .pre .0 in (omega arith, picked-asks (now (c .before .before .before .before .before .before .before .before .before .before .before .args .values)) (c .before .before .before .before .before .before .before .before .before .before .before .pre .1 .0) (c .before .before .before .before .before .before .before .before .before .before .before .pre .1 .1 .0) (c .before .before .before .pick .ensures)))
+    (λ c κs. next-asks (now (c .before .before .before .before .before .before .before .before .before .before .before .before .before .before .before .args .values)) (c .before .before .before .before .before .before .before .before .before .before .before .before .before .before .before .pre .1 .0) (c .before .before .before .before .before .before .before .before .before .before .before .before .before .before .before .pre .1 .1 .0) (c .before .before .before .before .before .before .before .pick .ensures) (picked-next (now (c .before .before .before .before .before .before .before .before .before .before .before .before .before .before .before .args .values)) (c .before .before .before .before .before .before .before .before .before .before .before .before .before .before .before .pre .1 .0) (c .before .before .before .before .before .before .before .before .before .before .before .before .before .before .before .pre .1 .1 .0) (c .before .before .before .before .before .before .before .pick .ensures) (c .before .before .before .evaluate-expr .ensures)))
+    (λ c. next-takes (now (c .before .before .before .before .before .before .before .before .before .before .before .before .before .before .before .before .before .before .args .values)) (c .before .before .before .before .before .before .before .before .before .before .before .before .before .before .before .before .before .before .pre .1 .0) (c .before .before .before .before .before .before .before .before .before .before .before .before .before .before .before .before .before .before .pre .1 .1 .0) (c .before .before .before .before .before .before .before .before .before .before .pick .ensures) (picked-next (now (c .before .before .before .before .before .before .before .before .before .before .before .before .before .before .before .before .before .before .args .values)) (c .before .before .before .before .before .before .before .before .before .before .before .before .before .before .before .before .before .before .pre .1 .0) (c .before .before .before .before .before .before .before .before .before .before .before .before .before .before .before .before .before .before .pre .1 .1 .0) (c .before .before .before .before .before .before .before .before .before .before .pick .ensures) (c .before .before .before .before .before .before .evaluate-expr .ensures)) (c .before .before .copy-slots .ensures) .long)
+    (λ c. then-takes (next-takes (now (c .before .before .before .before .before .before .before .before .before .before .before .before .before .before .before .before .before .before .args .values)) (c .before .before .before .before .before .before .before .before .before .before .before .before .before .before .before .before .before .before .pre .1 .0) (c .before .before .before .before .before .before .before .before .before .before .before .before .before .before .before .before .before .before .pre .1 .1 .0) (c .before .before .before .before .before .before .before .before .before .before .pick .ensures) (picked-next (now (c .before .before .before .before .before .before .before .before .before .before .before .before .before .before .before .before .before .before .args .values)) (c .before .before .before .before .before .before .before .before .before .before .before .before .before .before .before .before .before .before .pre .1 .0) (c .before .before .before .before .before .before .before .before .before .before .before .before .before .before .before .before .before .before .pre .1 .1 .0) (c .before .before .before .before .before .before .before .before .before .before .pick .ensures) (c .before .before .before .before .before .before .evaluate-expr .ensures)) (c .before .before .copy-slots .ensures))))
     (λ t. turn-lts.spec (
       copy-list-reads.Asked,
       copy-list-reads.Learnt,
