@@ -1,6 +1,6 @@
 -- The literals among a CASE's THENs and its ELSE: how they are read, and that a row's literal is what its index stands for. Assumes nothing.
 use mathlib.Core.Path.{_≡_, refl, sym, ap, ap₂, subst, subst₂, _∙_}
-use mathlib.Core.Bool.{Bool, true}
+use mathlib.Core.Bool.{true}
 use mathlib.Core.List.{List, [], _∷_, _++_, append-assoc}
 use Prim.Native.Nat.{ℕ, zero, suc, _+_, _-_, _*_, _<_, _≤_}
 use native.Mathlib.Decide.{ℕ-discrete, decLt}
@@ -18,15 +18,16 @@ use Rattle.rule.specs.Tree.{Expr, Branches, noMore, branch, Optional, absent, p
 use Rattle.rule.specs.Row.{Row, eval, evalElse}
 use Rattle.rule.specs.Strategy.{isLiteral}
 use Rattle.rule.specs.Node.{NodeAt}
-use Rattle.rule.specs.Walks.{nodeTag, branchTrees, optionalTrees, TreesAt, EndGives, BehindGives, LiteralGives}
+use Rattle.rule.specs.Walks.{nodeTag, branchTrees, optionalTrees, TreesAt, EndGives, LiteralGives}
 use Rattle.rule.proofs.NodeLaws.{Tagged, ofLiteral, node-tag, trees-one, trees-none, trees-some}
 use Rattle.rule.proofs.WalkLaws.{node-of-tag, first-two, branches-length}
-use Rattle.case.specs.Frame.{Filled}
+use Rattle.case.specs.Frame.{rowAt, Filled, Fillable, SlotPut}
 use Rattle.case.specs.LookUpTables.{valueAt}
 use Rattle.case.specs.Evaluation.{resultAt, indexed}
 use Rattle.case.specs.Results.{elseKnown, resultKnown, indexKnown, StartRight, EmptyArrays, ThensRead, ResultsRead, PutBy}
 use Rattle.case.proofs.CaseLaws.{is-literal, result-else, result-failed}
 use Rattle.case.proofs.CellLaws.{filled-as}
+use Rattle.case.proofs.RowsLaws.{FilledSoFar, next}
 use Rattle.case.proofs.ChooseLaws.{dropBranches, BranchAt, branch-at, last-two}
 
 -- ---- what is known without the row
@@ -161,19 +162,21 @@ module _ {rule : List ℕ} {at count : ℕ} {kinds payloads : List ℕ} {place k
               ∙ s .read .held bs els rest end depth row o table trees n j (omega arith) known
 
       -- a literal
-      then-literal : {kind payload : ℕ} (v : Value) → byte rule then ≡ 17 → LiteralGives rule then next v → kind ≡ kindOf v → payload ≡ payloadOf v
-          → ThensSoFar rule at count (set kinds k kind) (set payloads k payload) next (k + 1)
-      then-literal {kind} {payload} v tag gives a b =
-          then-by (length-set kinds k kind ∙ s .read .kinds-long) (length-set payloads k payload ∙ s .read .payloads-long) (λ j n. getD-set-other kinds k j kind 0 n)
+      pub then-literal : {kind payload : ℕ} (v : Value) {ks ps : List ℕ} → byte rule then ≡ 17 → LiteralGives rule then next v → kind ≡ kindOf v → payload ≡ payloadOf v
+          → ks ≡ set kinds k kind → ps ≡ set payloads k payload → ThensSoFar rule at count ks ps next (k + 1)
+      then-literal {kind} {payload} v tag gives a b c d =
+          subst₂ (λ (x y : List ℕ). ThensSoFar rule at count x y next (k + 1)) (sym c) (sym d)
+          (then-by (length-set kinds k kind ∙ s .read .kinds-long) (length-set payloads k payload ∙ s .read .payloads-long) (λ j n. getD-set-other kinds k j kind 0 n)
           (λ j n. getD-set-other payloads k j payload 0 n)
           (λ e depth row table node is.
-              let (means, stores) = read-literal v tag gives e depth node in
-              ap (meaning rule table) (stored-at kinds payloads k v (s .read .kinds-long) (s .read .payloads-long) then-in a b stores) ∙ means row table)
+          let (means, stores) = read-literal v tag gives e depth node in
+          ap (meaning rule table) (stored-at kinds payloads k v (s .read .kinds-long) (s .read .payloads-long) then-in a b stores) ∙ means row table))
 
       -- anything else
-      then-other : (byte rule then ≡ 17 → ⊥) → ThensSoFar rule at count kinds payloads next (k + 1)
-      then-other other =
-          then-by (s .read .kinds-long) (s .read .payloads-long) (λ j n. refl) (λ j n. refl) (λ e depth row table node is. absurd (no-literal other e node is))
+      pub then-other : {ks ps : List ℕ} → (byte rule then ≡ 17 → ⊥) → ks ≡ kinds → ps ≡ payloads → ThensSoFar rule at count ks ps next (k + 1)
+      then-other other c d =
+          subst₂ (λ (x y : List ℕ). ThensSoFar rule at count x y next (k + 1)) (sym c) (sym d)
+          (then-by (s .read .kinds-long) (s .read .payloads-long) (λ j n. refl) (λ j n. refl) (λ e depth row table node is. absurd (no-literal other e node is)))
 
 -- ---- ELSE
 
@@ -188,7 +191,7 @@ module _ {rule : List ℕ} {at count : ℕ} {kinds payloads : List ℕ} {place :
   failed-at : getD (set kinds (count + 2) 7) (count + 2) 0 ≡ 7
   failed-at = getD-set-same kinds (count + 2) 7 0 failed-in
 
-  failed-long : length (set kinds (count + 2) 7) ≡ 258
+  pub failed-long : length (set kinds (count + 2) 7) ≡ 258
   failed-long = length-set kinds (count + 2) 7 ∙ s .kinds-long
 
 module _ {rule : List ℕ} {at end count : ℕ} (to : DataType) {kinds payloads : List ℕ} {place : ℕ} (small : count ≤ 255) (s : ThensRead rule at count count kinds payloads place) where
@@ -232,7 +235,7 @@ module _ {rule : List ℕ} {at end count : ℕ} (to : DataType) {kinds payloads 
 
   module _ (there : place ≡ end → ⊥) where
     -- a literal, cast
-    else-literal : {kind payload : ℕ} {u : Value} (v : Value) → byte rule place ≡ 17 → LiteralGives rule place end u → Gives (λ e. entry (tryCastEntry to e)) u v → kind ≡ kindOf v
+    pub else-literal : {kind payload : ℕ} {u : Value} (v : Value) → byte rule place ≡ 17 → LiteralGives rule place end u → Gives (λ e. entry (tryCastEntry to e)) u v → kind ≡ kindOf v
         → payload ≡ payloadOf v → ResultsRead rule at end count to (set (set kinds (count + 2) 7) (count + 1) kind) (set payloads (count + 1) payload)
     unfolding evalElse
     else-literal {kind} {payload} {u} v tag gives cast a b =
@@ -250,7 +253,7 @@ module _ {rule : List ℕ} {at end count : ℕ} (to : DataType) {kinds payloads 
             ∙ cast .means rule table ∙ ap (onEntry (λ x. entry (tryCastEntry to x))) (means row table)
 
     -- anything else
-    else-other : (byte rule place ≡ 17 → ⊥) → ResultsRead rule at end count to (set kinds (count + 2) 7) payloads
+    pub else-other : (byte rule place ≡ 17 → ⊥) → ResultsRead rule at end count to (set kinds (count + 2) 7) payloads
     else-other other = else-by (failed-long small s) (s .payloads-long) (λ j h. failed-other small s j (omega arith)) (λ j h. refl) (failed-at small s) (λ els depth row table trees known. go els row table trees known)
       where
         go : (els : Optional) {depth : ℕ} (row : Row) (table : List ℕ) → TreesAt rule place end (optionalTrees els) depth → elseKnown els ≡ true
@@ -261,8 +264,17 @@ module _ {rule : List ℕ} {at end count : ℕ} (to : DataType) {kinds payloads 
 -- ---- rows
 
 -- an index behind the arrays has null
-pub put-null : (kinds payloads : List ℕ) {j : ℕ} → length kinds ≡ 258 → length payloads ≡ 258 → 258 ≤ j → valueOf 0 0 ≡ valueAt kinds payloads j
+put-null : (kinds payloads : List ℕ) {j : ℕ} → length kinds ≡ 258 → length payloads ≡ 258 → 258 ≤ j → valueOf 0 0 ≡ valueAt kinds payloads j
 put-null kinds payloads {j} a b h = ap₂ valueOf (sym (List·getD-eq-default kinds 0 (omega arith))) (sym (List·getD-eq-default payloads 0 (omega arith)))
+
+-- one turn, at the row that is read
+module _ (kinds payloads values : List ℕ) {w : List ℕ} {n i : ℕ} {m : List ℕ} (s : FilledSoFar (PutBy kinds payloads values) w n i m) (ok : Fillable w n) (more : i < n) {r : ℕ} (e : r ≡ rowAt m 0 i)
+    {m′ x : List ℕ} where
+  pub put-known : SlotPut m r (valueAt kinds payloads (getD values r 0)) m′ → x ≡ m′ → FilledSoFar (PutBy kinds payloads values) w n (i + 1) x
+  put-known put same = subst (FilledSoFar (PutBy kinds payloads values) w n (i + 1)) (sym same) (next s ok more e put refl)
+
+  pub put-behind : length kinds ≡ 258 → length payloads ≡ 258 → 258 ≤ getD values r 0 → SlotPut m r (valueOf 0 0) m′ → x ≡ m′ → FilledSoFar (PutBy kinds payloads values) w n (i + 1) x
+  put-behind a b h put same = subst (FilledSoFar (PutBy kinds payloads values) w n (i + 1)) (sym same) (next s ok more e put (put-null kinds payloads a b h))
 
 -- a row's literal is what its index stands for
 pub start-right : {rule : List ℕ} {at end count : ℕ} {to : DataType} {kinds payloads values w w′ : List ℕ} {n : ℕ} → ResultsRead rule at end count to kinds payloads

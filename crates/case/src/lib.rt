@@ -17,6 +17,7 @@ pub(crate) mod merge;
 pub(crate) mod numbers;
 pub(crate) mod primitive_lookup_table;
 pub(crate) mod put;
+pub(crate) mod results;
 pub mod rows;
 pub(crate) mod settle;
 pub mod slot;
