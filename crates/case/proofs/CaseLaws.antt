@@ -183,7 +183,7 @@ module _ {rule : List ℕ} {start end : ℕ} {table : List ℕ} {t : Table} {dep
 
 -- ---- strategies 3, 4 and 6: the slots have the WHEN or the base
 
-is-literal : (e : Expr) → isLiteral e ≡ true → (d : DataType) × (x : Entry) × (e ≡ literal d x)
+pub is-literal : (e : Expr) → isLiteral e ≡ true → (d : DataType) × (x : Entry) × (e ≡ literal d x)
 is-literal (column c) p = absurd (false≢true p)
 is-literal (literal d x) p = (d, x, refl)
 is-literal (negation e) p = absurd (false≢true p)
