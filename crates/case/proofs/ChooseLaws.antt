@@ -1,7 +1,7 @@
 -- Choosing: the open list through the branches in turn. Assumes nothing.
 use mathlib.Core.Path.{_≡_, refl, sym, ap, ap₂, subst, _∙_}
 use mathlib.Core.Bool.{Bool, true, false, cond}
-use mathlib.Core.List.{List, [], _∷_, _++_, append-assoc}
+use mathlib.Core.List.{List, [], _∷_, _++_}
 use mathlib.Core.Option.{Option, some, none}
 use mathlib.Core.Logic.{_⊎_, inl, inr, ⊎-elim}
 use Prim.Native.Nat.{ℕ, zero, suc, _+_, _-_, _*_, _^_, _<_, _≤_}
@@ -16,7 +16,7 @@ use Rattle.rule.specs.Tree.{Expr, Branches, noMore, branch, branchCount}
 use Rattle.rule.specs.Row.{Row, Test, isTrueTest, equalsTest, passes, chosen, eval, evalBranches}
 use Rattle.rule.specs.Node.{NodeAt}
 use Rattle.rule.specs.Walks.{branchTrees, TreesAt, EndGives, BehindGives}
-use Rattle.rule.proofs.WalkLaws.{first-tree, first-two}
+use Rattle.rule.proofs.WalkLaws.{first-tree}
 use Rattle.table.specs.declared.places.Table.{Table}
 use Rattle.case.specs.declared.builder.ResultBuilder.{ResultBuilder}
 use Rattle.case.specs.declared.settle.Leave.{Leave}
@@ -25,8 +25,9 @@ use Rattle.case.specs.declared.settle.Settled.{Settled}
 use Rattle.case.specs.Frame.{rowAt, slotAt, nextSlot, Rows, Listed, Copied}
 use Rattle.case.specs.Choosing.{leaving, trueOutcome, classAt, heldBy, Open, Settles}
 use Rattle.case.specs.Evaluation.{Framed, Done, Ahead, rowIn, ExprRight, resultAt, indexedOr, TestFor, passesTest, WhenRight, Sifts, BranchesIndex}
-use Rattle.case.proofs.FrameLaws.{Kept, SameRows, kept-rows, kept-slot, listed-to, listed-from, rows-to, rows-small, listed-below, lent, back, lent-framed, NextDone, next-done}
+use Rattle.case.proofs.FrameLaws.{none-some, Kept, SameRows, kept-rows, kept-slot, listed-to, listed-from, rows-to, rows-small, listed-below, lent, back, lent-framed, NextDone, next-done}
 use Rattle.case.proofs.CaseLaws.{result-failed}
+use Rattle.case.proofs.BranchLaws.{dropBranches, drop-all, BranchAt, branch-at, branch-stands, behind-none, behind-two}
 
 -- the open list where it stands unchanged
 pub open-kept : {b : ResultBuilder} {w : List ℕ} {left rows : ℕ} (w′ : List ℕ) → SameRows w 5632 w′ 5632 left → Open b w left rows → Open b w′ left rows
@@ -139,9 +140,6 @@ sifts-none o zero-right = record {
   others = λ q n. refl;
 }
 
-none-some : {A : Type 0} {x : A} → _≡_ {A = Option A} none (some x) → ⊥
-none-some p = let z : _≡_ {A = ℕ} 0 1 = cc in omega arith
-
 pub sifts-more : {first second both : ℕ → ℕ → Type 0} {w w₁ w₂ : List ℕ} {left left₁ left₂ rows : ℕ} {b b₁ b₂ : ResultBuilder}
     → Sifts first w left rows b left₁ b₁ w₁ → Sifts second w₁ left₁ rows b₁ left₂ b₂ w₂
     → ((q c : ℕ) → Listed w 5632 left q → first q 0 → second q c → both q c) → ((q k : ℕ) → Listed w 5632 left q → first q (suc k) → both q (suc k))
@@ -165,71 +163,6 @@ sifts-more {first} {second} {both} {w} {w₁} {w₂} {left} {left₁} {left₂} 
 
 -- ---- branches one after the other
 
--- the branches behind the first so many
-unfoldable pub dropBranches : ℕ → Branches → Branches
-dropBranches zero bs = bs
-dropBranches (suc i) noMore = noMore
-dropBranches (suc i) (branch w t bs) = dropBranches i bs
-
-drop-all : (bs : Branches) → dropBranches (branchCount bs) bs ≡ noMore
-unfolding dropBranches branchCount
-drop-all noMore = refl
-drop-all (branch w t bs) = drop-all bs
-
--- the branch behind the first i
-pub record BranchAt (i : ℕ) (bs : Branches) : Type 0 where
-  pub when-is : Expr
-  pub then-is : Expr
-  pub later : Branches
-  pub before : List Expr
-  pub here : dropBranches i bs ≡ branch when-is then-is later
-  pub behind : dropBranches (suc i) bs ≡ later
-  pub result : (row : Row) (els : Outcome) → resultAt bs row els i ≡ eval then-is row
-  pub many : length before ≡ 2 * i
-  pub trees : branchTrees bs ≡ before ++ (when-is ∷ then-is ∷ branchTrees later)
-
-pub branch-at : (i : ℕ) (bs : Branches) → i < branchCount bs → BranchAt i bs
-unfolding dropBranches branchCount resultAt
-branch-at i noMore h = absurd (omega arith)
-branch-at zero (branch w t bs) h = record {
-  when-is = w;
-  then-is = t;
-  later = bs;
-  before = [];
-  here = refl;
-  behind = drop-none bs;
-  result = λ row els. refl;
-  many = refl;
-  trees = refl;
-}
-  where
-    drop-none : (bs : Branches) → dropBranches zero bs ≡ bs
-    drop-none bs = refl
-branch-at (suc i) (branch w t bs) h =
-    let a = branch-at i bs (omega arith) in
-    record {
-      when-is = a .when-is;
-      then-is = a .then-is;
-      later = a .later;
-      before = w ∷ t ∷ a .before;
-      here = a .here;
-      behind = a .behind;
-      result = a .result;
-      many = (let m = a .many in omega arith);
-      trees = ap (λ (l : List Expr). w ∷ t ∷ l) (a .trees);
-    }
-
--- the last two of a list
-pub last-two : (es : List Expr) (n : ℕ) → length es ≡ n + 2 → (first : List Expr) × (x : Expr) × (y : Expr) × (length first ≡ n) × (es ≡ first ++ (x ∷ y ∷ []))
-last-two [] n h = absurd (omega arith)
-last-two (x ∷ []) n h = absurd (omega arith)
-last-two (x ∷ y ∷ []) zero h = ([], x, y, refl, refl)
-last-two (x ∷ y ∷ []) (suc n) h = absurd (omega arith)
-last-two (x ∷ y ∷ z ∷ es) zero h = absurd (omega arith)
-last-two (x ∷ y ∷ z ∷ es) (suc n) h =
-    let (first, u, v, f, g) = last-two (y ∷ z ∷ es) n (omega arith) in
-    (x ∷ first, u, v, ap suc f, ap (λ (l : List Expr). x ∷ l) g)
-
 -- what an index says where i branches have been tried
 unfoldable pub soFar : ℕ → Branches → Row → Test → Outcome → ℕ → Outcome
 soFar i bs row test els zero = evalBranches (dropBranches i bs) row test els
@@ -252,13 +185,9 @@ module _ {rule : List ℕ} {at : ℕ} {table : List ℕ} {t : Table} {depth : �
   unfolding soFar dropBranches
   choose-none = record {
     few = omega arith;
-    behind = record { stand = none-behind; onward = omega arith };
+    behind = behind-none (2 * 0) refl;
     sifts = sifts-none (a .is-open) (λ q. record { is = λ bs rest end test els trees c for. (omega arith, refl) });
   }
-    where
-      none-behind : (end : ℕ) (es rest : List Expr) (depth : ℕ) → length es ≡ 2 * 0 → TreesAt rule at end (es ++ rest) depth → TreesAt rule at end rest depth
-      none-behind end [] rest depth p trees = trees
-      none-behind end (e ∷ es) rest depth p trees = absurd (omega arith)
 
   module _ {i place left₁ : ℕ} {b₁ : ResultBuilder} {w₁ : List ℕ} (s : Chosen rule at table t depth how count w left b i place left₁ b₁ w₁) where
     pub choose-ahead : Ahead table t w₁ left₁ b₁ depth
@@ -290,13 +219,6 @@ module _ {rule : List ℕ} {at : ℕ} {table : List ℕ} {t : Table} {depth : �
 
     module _ (more : i < count) {then next left₂ : ℕ} {b₂ : ResultBuilder} {w₂ : List ℕ} (to-then : EndGives rule place then) (to-next : EndGives rule then next)
         (turned : Sifts (WhenRight rule place then table t depth how (i + 1) (count + 2) w₁) w₁ left₁ (t .rows) b₁ left₂ b₂ w₂) where
-      -- the branch that was tried
-      tried : (bs : Branches) (rest : List Expr) (end : ℕ) (at-i : BranchAt i bs) → TreesAt rule at end (branchTrees bs ++ rest) depth
-          → TreesAt rule place end (at-i .when-is ∷ at-i .then-is ∷ (branchTrees (at-i .later) ++ rest)) depth
-      tried bs rest end x trees =
-          s .behind .stand end (x .before) (x .when-is ∷ x .then-is ∷ (branchTrees (x .later) ++ rest)) depth (x .many)
-          (subst (λ (l : List Expr). TreesAt rule at end l depth) (ap (λ (l : List Expr). l ++ rest) (x .trees) ∙ append-assoc (x .before) (x .when-is ∷ x .then-is ∷ branchTrees (x .later)) rest) trees)
-
       choose-index : (q c : ℕ) → Listed w 5632 left q → IndexSoFar rule at table t depth how count i w q 0 → WhenRight rule place then table t depth how (i + 1) (count + 2) w₁ q c
           → IndexSoFar rule at table t depth how count (i + 1) w q c
       unfolding soFar evalBranches
@@ -306,7 +228,7 @@ module _ {rule : List ℕ} {at : ℕ} {table : List ℕ} {t : Table} {depth : �
             let small : q < 512 = listed-below (rows-small (a .is-open .small) (a .is-open .list-ok)) q l in
             let same = ap (meaning rule table) (kept-slot w w₁ (s .sifts .low) q small) in
             let for′ = subst (λ (o : Outcome). TestFor how o test) (sym same) for in
-            let (when-node, others) = first-tree to-then (tried bs rest end at-i trees) in
+            let (when-node, others) = first-tree to-then (branch-stands rest (s .behind) at-i trees) in
             let before = x .is bs rest end test els trees n for .1 ∙ ap (λ (y : Branches). evalBranches y (rowIn table t q) test els) (at-i .here) in
             by bs test els at-i n c (eval (at-i .when-is) (rowIn table t q)) refl (right .is (at-i .when-is) test when-node for′) before;
       }
@@ -352,12 +274,6 @@ module _ {rule : List ℕ} {at : ℕ} {table : List ℕ} {t : Table} {depth : �
       pub choose-more : Chosen rule at table t depth how count w left b (i + 1) next left₂ b₂ w₂
       choose-more = record {
         few = omega arith;
-        behind = record { stand = next-behind; onward = (let h = s .behind .onward in let m = to-then .onward in let k = to-next .onward in omega arith) };
+        behind = behind-two (2 * i) (2 * (i + 1)) (omega arith) (s .behind) to-then to-next;
         sifts = sifts-more (s .sifts) turned choose-index held-index;
       }
-        where
-          next-behind : (end : ℕ) (es rest : List Expr) (depth : ℕ) → length es ≡ 2 * (i + 1) → TreesAt rule at end (es ++ rest) depth → TreesAt rule next end rest depth
-          next-behind end es rest depth p trees =
-              let (first, x, y, f, g) = last-two es (2 * i) (omega arith) in
-              let moved = subst (λ (l : List Expr). TreesAt rule at end l depth) (ap (λ (l : List Expr). l ++ rest) g ∙ append-assoc first (x ∷ y ∷ []) rest) trees in
-              first-two to-then to-next (s .behind .stand end first (x ∷ y ∷ rest) depth f moved) .2

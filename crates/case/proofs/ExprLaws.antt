@@ -26,7 +26,7 @@ use Rattle.case.specs.declared.rows.Op.the-variants.{Not, Negative, IsNo
 use Rattle.case.specs.Frame.{rowAt, slotAt, nextSlot, Rows, Listed, Filled, Fillable, Copied, operationOf}
 use Rattle.case.specs.Taking.{comparison}
 use Rattle.case.specs.Evaluation.{Framed, Done, rowIn, ExprRight, LiteralRight, CellRight, operatorOf, OperatorGives, UnaryRight, compares, BinaryRight, AgainstRight, CaseRight, anyCase}
-use Rattle.case.proofs.FrameLaws.{Kept, SameRows, kept-rows, kept-slot, listed-to, rows-to, rows-small, listed-below, framed-fillable, framed-few, framed-kept, framed-below, done-filled, done-done, done-none, lent, back, lent-framed, NextDone, next-done}
+use Rattle.case.proofs.FrameLaws.{none-some, Kept, SameRows, kept-rows, kept-slot, listed-to, rows-to, rows-small, listed-below, framed-fillable, framed-few, framed-kept, framed-below, done-filled, done-done, done-none, lent, back, lent-framed, NextDone, next-done}
 
 -- ---- an expression, by its tag
 
@@ -101,9 +101,6 @@ children-below {depth = depth} {e} c node = trees-deeper depth (omega arith) (c 
 -- the operation of a node, by its tag
 pub operator-behind : {rule : List ℕ} {start : ℕ} {r : Op} → length rule ≤ start → OperatorGives rule start r
 operator-behind h = record { is = λ end e depth o node p. absurd (let k = nothing-behind node in omega arith) }
-
-none-some : {A : Type 0} {x : A} → _≡_ {A = Option A} none (some x) → ⊥
-none-some p = let z : _≡_ {A = ℕ} 0 1 = cc in omega arith
 
 some-same : {o p : Op} → some o ≡ some p → o ≡ p
 some-same q = cc

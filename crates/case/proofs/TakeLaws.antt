@@ -1,7 +1,7 @@
 -- Taking what the rows' indexes stand for: the rows of an index in the next frame, and their slots back. Assumes nothing.
 use mathlib.Core.Path.{_≡_, refl, sym, ap, ap₂, subst, _∙_}
 use mathlib.Core.Bool.{Bool, true, false}
-use mathlib.Core.List.{List, [], _∷_, _++_, append-assoc}
+use mathlib.Core.List.{List, [], _∷_, _++_}
 use mathlib.Core.Logic.{_⊎_, inl, inr}
 use Prim.Native.Nat.{ℕ, zero, suc, _+_, _-_, _*_, _^_, _<_, _≤_}
 use native.Mathlib.Omega.{arith}
@@ -28,7 +28,7 @@ use Rattle.case.specs.Evaluation.{Framed, Done, rowIn, ExprRight, result
 use Rattle.case.specs.Results.{elseKnown, resultKnown, indexKnown, StartRight, ThenRight, ElseRight}
 use Rattle.case.proofs.FrameLaws.{Kept, SameRows, kept-rows, kept-slot, listed-to, listed-from, rows-to, rows-small, listed-below, framed-few, framed-fillable, framed-kept, done-filled, done-done, lent, back, lent-rows, lent-slot, lent-framed, NextDone, next-done}
 use Rattle.case.proofs.CaseLaws.{result-else, result-failed}
-use Rattle.case.proofs.ChooseLaws.{dropBranches, BranchAt, branch-at, last-two}
+use Rattle.case.proofs.BranchLaws.{BranchAt, branch-at, branch-stands, behind-none, behind-two, known-then, known-else, known-failed}
 
 -- ---- the rows of an index
 
@@ -174,23 +174,6 @@ module _ {rule : List ℕ} {at end : ℕ} {table : List ℕ} {t : Table} {depth 
 
 -- ---- one index after the other
 
--- whether a result is known: of a THEN whether it is a literal, of ELSE whether it is one or is not there; a failure always is
-known-then : (i : ℕ) (bs : Branches) (els : Optional) (w t : Expr) (later : Branches) → dropBranches i bs ≡ branch w t later → resultKnown bs els i ≡ isLiteral t
-unfolding dropBranches resultKnown
-known-then zero bs els w t later e = ap (λ (b : Branches). resultKnown b els 0) e
-known-then (suc i) noMore els w t later e = absurd (let z : _≡_ {A = ℕ} 0 1 = cc in omega arith)
-known-then (suc i) (branch v u bs) els w t later e = known-then i bs els w t later e
-
-known-else : (bs : Branches) (els : Optional) → resultKnown bs els (branchCount bs) ≡ elseKnown els
-unfolding resultKnown branchCount
-known-else noMore els = refl
-known-else (branch w t bs) els = known-else bs els
-
-known-failed : (bs : Branches) (els : Optional) → resultKnown bs els (suc (branchCount bs)) ≡ true
-unfolding resultKnown branchCount
-known-failed noMore els = refl
-known-failed (branch w t bs) els = known-failed bs els
-
 -- where the loop stands: the indexes from 1 to below k have been taken
 pub record Taken (rule : List ℕ) (at end : ℕ) (table : List ℕ) (t : Table) (depth count : ℕ) (to : DataType) (values w : List ℕ) (n k place : ℕ) (w′ : List ℕ) : Type 0 where
   pub first : 1 ≤ k
@@ -218,17 +201,13 @@ pub take-none : {rule : List ℕ} {at end : ℕ} {table : List ℕ} {t : Table} 
 take-none {rule} {at} {w = w} {w₁} {n} f d = record {
   first = omega arith;
   few = omega arith;
-  behind = record { stand = none-behind; onward = omega arith };
+  behind = behind-none (2 * (1 - 1)) refl;
   long = refl;
   low = λ j h. refl;
   done = λ r l a b. absurd (omega arith);
   started = λ r l. d .here r (listed-from w w₁ 0 0 n (start-list f d) r l);
   open-rows = λ r l o. refl;
 }
-  where
-    none-behind : (end : ℕ) (es rest : List Expr) (depth : ℕ) → length es ≡ 2 * (1 - 1) → TreesAt rule at end (es ++ rest) depth → TreesAt rule at end rest depth
-    none-behind end [] rest depth p trees = trees
-    none-behind end (e ∷ es) rest depth p trees = absurd (omega arith)
 
 module _ {rule : List ℕ} {at end : ℕ} {table : List ℕ} {t : Table} {depth count : ℕ} {to : DataType} {values w : List ℕ} {n : ℕ} (f : Framed table t w n (depth + 1)) where
   module _ {k place : ℕ} {w₁ : List ℕ} (s : Taken rule at end table t depth count to values w n k place w₁) where
@@ -245,10 +224,9 @@ module _ {rule : List ℕ} {at end : ℕ} {table : List ℕ} {t : Table} {depth 
         is = λ bs els trees c small.
             let q = s .first in
             let at-i = branch-at (k - 1) bs (omega arith) in
-            let here = s .behind .stand end (at-i .before) (at-i .when-is ∷ at-i .then-is ∷ (branchTrees (at-i .later) ++ optionalTrees els)) depth (at-i .many)
-            (subst (λ (l : List Expr). TreesAt rule at end l depth) (ap (λ (l : List Expr). l ++ optionalTrees els) (at-i .trees) ∙ append-assoc (at-i .before) (at-i .when-is ∷ at-i .then-is ∷ branchTrees (at-i .later)) (optionalTrees els)) trees) in
+            let here = branch-stands (optionalTrees els) (s .behind) at-i trees in
             let index-is : getD values r 0 ≡ suc (k - 1) = omega arith in
-            let known-is = ap (indexKnown bs els) index-is ∙ known-then (k - 1) bs els (at-i .when-is) (at-i .then-is) (at-i .later) (at-i .here) in
+            let known-is = ap (indexKnown bs els) index-is ∙ known-then (k - 1) bs els (at-i .here) in
             let old : isLiteral (at-i .then-is) ≡ true → meaning rule table (slotAt w₁ r) ≡ eval (at-i .then-is) (rowIn table t r) = λ lit.
             ap (meaning rule table) (s .open-rows r l (inr (omega arith)))
             ∙ s .started r l .is bs els depth (rowIn table t r) table trees c small (known-is ∙ lit)
@@ -276,20 +254,13 @@ module _ {rule : List ℕ} {at end : ℕ} {table : List ℕ} {t : Table} {depth 
       take-more = record {
         first = omega arith;
         few = omega arith;
-        behind = record { stand = next-behind; onward = (let h = s .behind .onward in let a = to-then .onward in let b = to-next .onward in omega arith) };
+        behind = behind-two (2 * (k - 1)) (2 * (k + 1 - 1)) (omega (arith, s .first)) (s .behind) to-then to-next;
         long = d .long ∙ s .long;
         low = λ j h. d .low j h ∙ s .low j h;
         done = λ r l a b. take-done r l a b (ℕ-discrete (getD values r 0) k);
         started = s .started;
         open-rows = λ r l o. d .others r (listed-to w w₁ 0 0 n same-list r l) (not-now r o) ∙ s .open-rows r l (still r o);
       }
-        where
-          next-behind : (end : ℕ) (es rest : List Expr) (depth : ℕ) → length es ≡ 2 * (k + 1 - 1) → TreesAt rule at end (es ++ rest) depth → TreesAt rule next end rest depth
-          next-behind end es rest depth p trees =
-              let q = s .first in
-              let (first, x, y, f, g) = last-two es (2 * (k - 1)) (omega arith) in
-              let moved = subst (λ (l : List Expr). TreesAt rule at end l depth) (ap (λ (l : List Expr). l ++ rest) g ∙ append-assoc first (x ∷ y ∷ []) rest) trees in
-              first-two to-then to-next (s .behind .stand end first (x ∷ y ∷ rest) depth f moved) .2
 
     -- behind the THENs comes ELSE
     module _ (all : count + 1 ≤ k) {w₂ : List ℕ} (d : Takes values (count + 1) (ElseRight rule place end table t depth to) w₁ n w₂) where

@@ -2,6 +2,7 @@
 use layout::number::write_u16;
 use layout::number::write_u32;
 use layout::number::write_u64;
+use rule::types::type_number;
 use scalar::types::DataType;
 ghost use mathlib.Core.Path.{_≡_};
 ghost use mathlib.Core.List.{[], _∷_};
@@ -56,19 +57,6 @@ pub(crate) fn put_header(output: &mut [u8], at: usize, tag: u8, size: usize) -> 
     let p = put_byte(output, at, tag);
     let _done = write_u16(output, p, size as u16);
     p + 2
-}
-
-// The number of a type.
-fn type_number(t: DataType) -> u8
-    ensures { λ r. ⌜ r ≡ typeNumber t ⌝ }
-{
-    match t {
-        DataType::Boolean => 1,
-        DataType::Int32 => 2,
-        DataType::Int64 => 3,
-        DataType::Float64 => 4,
-        DataType::Utf8 => 5,
-    }
 }
 
 // The number of a mark.
