@@ -48,6 +48,27 @@ open-self {b} {w} {left} o = subst (Open b w left) (sym (o .sized)) o
 
 -- ---- one branch
 
+-- rows that leave with an index that is right for them, from the open list where it stands unchanged
+pub settles-sift : {class : ℕ → ℕ} (right : ℕ → ℕ → Type 0) {w w₁ w₂ : List ℕ} {left rows : ℕ} {b : ResultBuilder} {s : Settled} → length w₁ ≡ length w → Kept 5632 w w₁
+    → SameRows w 5632 w₁ 5632 left → b .rows ≡ rows → Settles class w₁ left (b .rows) b s w₂ → ((q c : ℕ) → Listed w 5632 left q → class q ≡ c → right q c)
+    → Sifts right w left rows b (s .left) (s .builder) w₂
+settles-sift {class} right {w} {w₁} {w₂} {left} {rows} {s = s} long kept same sized settles fits = record {
+  long = settles .long ∙ long;
+  low = λ j h. settles .low j h ∙ kept j h;
+  still-open = open-rows rows sized (settles .still-open);
+  stays = λ q l.
+      let (m, z) = settles .stays q l in
+      let m′ = listed-from w w₁ 5632 5632 left same q m in
+      (m′, fits q 0 m′ z);
+  each = λ q l. each-row q l (class q) refl;
+  others = λ q n. settles .others q (λ m. n (listed-from w w₁ 5632 5632 left same q m));
+}
+  where
+    each-row : (q : ℕ) → Listed w 5632 left q → (c : ℕ) → class q ≡ c → Listed w₂ 5632 (s .left) q ⊎ ((k : ℕ) × (heldBy (s .builder) q ≡ some (suc k)) × right q (suc k))
+    each-row q l zero e = inl (settles .kept q (listed-to w w₁ 5632 5632 left same q l) e)
+    each-row q l (suc k) e =
+        inr (k, settles .gone q (listed-to w w₁ 5632 5632 left same q l) (λ z. let y : suc k ≡ 0 = sym e ∙ z in omega arith) ∙ ap some e, fits q (suc k) l e)
+
 -- the index with which a row leaves, by what its WHEN is
 class-when : (how : Leave) (rule table w : List ℕ) (index failed q : ℕ) (base when : Outcome) (test : Test) → meaning rule table (slotAt w q) ≡ base → meaning rule table (nextSlot w q) ≡ when
     → TestFor how base test → classAt how rule table w index failed q ≡ leaving (passesTest test) index failed when
@@ -109,23 +130,7 @@ module _ {table : List ℕ} {t : Table} {depth : ℕ} {w w₁ : List ℕ} {left 
       }
 
       pub turn-gives : Sifts (WhenRight rule start end table t depth how index failed w) w left (t .rows) b (s .left) (s .builder) w₂
-      turn-gives = record {
-        long = settles .long ∙ turn-long;
-        low = λ j h. settles .low j h ∙ turn-kept j (omega arith);
-        still-open = open-rows (t .rows) (a .is-open .sized) (settles .still-open);
-        stays = λ q l.
-            let (m, z) = settles .stays q l in
-            let m′ = listed-from w (back w₁ ys) 5632 5632 left turn-list q m in
-            (m′, right-class q 0 m′ z);
-        each = λ q l. each-row q l (classAt how rule table (back w₁ ys) index failed q) refl;
-        others = λ q n. settles .others q (λ m. n (listed-from w (back w₁ ys) 5632 5632 left turn-list q m));
-      }
-        where
-          each-row : (q : ℕ) → Listed w 5632 left q → (c : ℕ) → classAt how rule table (back w₁ ys) index failed q ≡ c
-              → Listed w₂ 5632 (s .left) q ⊎ ((k : ℕ) × (heldBy (s .builder) q ≡ some (suc k)) × WhenRight rule start end table t depth how index failed w q (suc k))
-          each-row q l zero e = inl (settles .kept q (listed-to w (back w₁ ys) 5632 5632 left turn-list q l) e)
-          each-row q l (suc k) e =
-              inr (k, settles .gone q (listed-to w (back w₁ ys) 5632 5632 left turn-list q l) (λ z. let y : suc k ≡ 0 = sym e ∙ z in omega arith) ∙ ap some e, right-class q (suc k) l e)
+      turn-gives = settles-sift (WhenRight rule start end table t depth how index failed w) turn-long (λ j h. turn-kept j (omega arith)) turn-list (a .is-open .sized) settles right-class
 
 -- ---- two steps as one
 
