@@ -29,6 +29,7 @@ pub mod MergeLaws
 pub mod CellLaws
 pub mod LookUpLaws
 pub mod LookUpTrees
+pub mod StepLaws
 pub mod EvaluateLaws
 pub mod AnswerLaws
 pub mod RowsTyped

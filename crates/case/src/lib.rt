@@ -20,6 +20,7 @@ pub(crate) mod put;
 pub mod rows;
 pub(crate) mod settle;
 pub mod slot;
+pub(crate) mod steps;
 pub(crate) mod taking;
 pub(crate) mod texts;
 pub(crate) mod truth;
