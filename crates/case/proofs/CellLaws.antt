@@ -43,14 +43,14 @@ module _ {A : Type 0} (f : ColumnPlace → A) (table : List ℕ) (t : Table) (lo
   missing : min (t .count) 16 ≤ c → (r : ℕ) → rowIn table t r c ≡ entry null
   missing h r = ap (λ (o : Option TableColumn). entry (entryIn o r)) (column-missing f table t long c r h)
 
-  found : c < min (t .count) 16 → (r : ℕ) → rowIn table t r c ≡ entry (entryAt (columnIn table (getD (t .columns) c noPlace)) r)
-  found a r = ap (λ (o : Option TableColumn). entry (entryIn o r)) (column-there f table t long c r a)
+  pub cell-found : c < min (t .count) 16 → (r : ℕ) → rowIn table t r c ≡ entry (entryAt (columnIn table (getD (t .columns) c noPlace)) r)
+  cell-found a r = ap (λ (o : Option TableColumn). entry (entryIn o r)) (column-there f table t long c r a)
 
   pub cells-none : {w w′ : List ℕ} {n : ℕ} → min (t .count) 16 ≤ c → Filled (λ r v. v ≡ Null) w n w′ → Filled (CellRight table t c) w n w′
   cells-none h d = filled-as d (λ r v e. record { is = λ rule. ap (meaning rule table) e ∙ sym (missing h r) })
 
   pub cells-some : {w w′ : List ℕ} {n : ℕ} → c < min (t .count) 16 → Filled (EntryRight table (getD (t .columns) c noPlace)) w n w′ → Filled (CellRight table t c) w n w′
-  cells-some a d = filled-as d (λ r v e. record { is = λ rule. e rule ∙ sym (found a r) })
+  cells-some a d = filled-as d (λ r v e. record { is = λ rule. e rule ∙ sym (cell-found a r) })
 
   -- the column of the node at a place
   module _ {rule : List ℕ} {at : ℕ} {w w′ : List ℕ} {n : ℕ} where
@@ -68,7 +68,7 @@ module _ {A : Type 0} (f : ColumnPlace → A) (table : List ℕ) (t : Table) (lo
     or-null-some i a d = filled-as d (λ r v e. record {
       is = λ end depth x node.
           e rule
-          ∙ ap (λ (o : Outcome). chosen isTrueTest (meaning rule table (slotAt w r)) o (entry null)) (sym (ap (rowIn table t r) (index-is i end depth x node) ∙ found a r));
+          ∙ ap (λ (o : Outcome). chosen isTrueTest (meaning rule table (slotAt w r)) o (entry null)) (sym (ap (rowIn table t r) (index-is i end depth x node) ∙ cell-found a r));
     })
 
 -- ---- literals

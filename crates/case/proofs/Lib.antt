@@ -31,6 +31,7 @@ pub mod CellLaws
 pub mod LookUpLaws
 pub mod LookUpTrees
 pub mod ResultLaws
+pub mod StepLaws
 pub mod EvaluateLaws
 pub mod AnswerLaws
 pub mod RowsTyped

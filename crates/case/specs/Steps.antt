@@ -1,15 +1,30 @@
 -- WHENs that each compare the numbers of one column with a literal: a row's branch is found from one number of the row (01, What changes shape).
 use mathlib.Core.Path.{_≡_}
-use mathlib.Core.Bool.{Bool, true}
+use mathlib.Core.Bool.{Bool, true, cond}
 use mathlib.Core.List.{List, _++_}
-use Prim.Native.Nat.{ℕ, _+_, _<_, _≤_}
+use mathlib.Core.Logic.{_⊎_}
+use Prim.Native.Nat.{ℕ, zero, suc, _+_, _<_, _≤_}
+use lib.Dec.{eqb, ltb}
 use lib.ListN.{length, getD}
-use Rattle.scalar.specs.Entry.{Outcome}
-use Rattle.rule.specs.Tree.{Expr, Branches, branchCount}
-use Rattle.rule.specs.Row.{isTrueTest, evalBranches}
+use Rattle.scalar.specs.declared.types.DataType.{DataType}
+use Rattle.scalar.specs.declared.types.DataType.the-variants.{Boolean}
+use Rattle.scalar.specs.declared.order.Key.{Key}
+use Rattle.scalar.specs.declared.order.Key.the-variants as Keys
+use Rattle.scalar.specs.Types.{typeNumber}
+use Rattle.scalar.specs.Entry.{Entry, null, Outcome, entry, onEntries}
+use Rattle.scalar.specs.Order.{Numbered}
+use Rattle.rule.specs.Tree.{Expr, literal, Branches, noMore, branch, branchCount}
+use Rattle.rule.specs.Row.{Row, isTrueTest, eval, evalBranches}
+use Rattle.rule.specs.Node.{NodeAt}
 use Rattle.rule.specs.Walks.{branchTrees, TreesAt}
+use Rattle.table.specs.declared.places.ColumnPlace.{ColumnPlace}
 use Rattle.table.specs.declared.places.Table.{Table}
+use Rattle.table.specs.Column.{validIn, valueAt, entryAt}
+use Rattle.table.specs.Places.{columnIn}
+use Rattle.case.specs.declared.steps.Step.{Step}
 use Rattle.case.specs.Frame.{Listed}
+use Rattle.case.specs.LookUpTables.{found}
+use Rattle.case.specs.Taking.{comparison}
 use Rattle.case.specs.Evaluation.{rowIn, indexed}
 
 -- the index that whatever branches stand at a place give a row: from 1, ELSE's behind them
@@ -22,3 +37,83 @@ pub record StepIndex (rule : List ℕ) (at : ℕ) (table : List ℕ) (t : Table)
 pub record StepsGive (rule : List ℕ) (at : ℕ) (table : List ℕ) (t : Table) (count : ℕ) (w : List ℕ) (n : ℕ) (served : Bool) (values : List ℕ) : Type 0 where
   pub long : length values ≡ 512
   pub each : served ≡ true → (q : ℕ) → Listed w 0 n q → StepIndex rule at table t count q (getD values q 0)
+
+-- ---- one step
+
+-- no step
+abbrev pub noStep : Step
+noStep = record { tag = 0; column = 0; kind = 0; key = 0 }
+
+-- a step by how its literal is compared; none where that is not by a number
+abbrev pub stepOf : ℕ → ℕ → Key → Step
+stepOf tag column Keys.Null = noStep
+stepOf tag column Keys.Failed = noStep
+stepOf tag column (Keys.Number kind key) = record { tag = tag; column = column; kind = kind; key = key }
+stepOf tag column Keys.Text = noStep
+
+-- a WHEN that compares what a column has with an entry that goes by a number
+pub record StepWhen (tag column kind key : ℕ) (e : Expr) : Type 0 where
+  pub value : Entry
+  pub numbered : Numbered kind key value
+  pub is : (row : Row) → eval e row ≡ onEntries (comparison (eqb tag 24)) (row column) (entry value)
+
+-- whatever node stands from a place to a place is such a one, unless the tag is 0
+pub record StepGives (rule : List ℕ) (start end : ℕ) (s : Step) : Type 0 where
+  pub is : (s .tag ≡ 0 → ⊥) → (e : Expr) (depth : ℕ) → NodeAt rule start end e depth → StepWhen (s .tag) (s .column) (s .kind) (s .key) e
+
+-- ---- the steps of a CASE
+
+-- the WHEN of a branch; null where there is none
+unfoldable pub whenAt : Branches → ℕ → Expr
+whenAt noMore k = literal Boolean null
+whenAt (branch w t bs) zero = w
+whenAt (branch w t bs) (suc k) = whenAt bs k
+
+-- each WHEN of whatever branches stand at a place is a step on the column
+pub record StepsAt (rule : List ℕ) (at count column kind : ℕ) (tags keys : List ℕ) : Type 0 where
+  pub each : (bs : Branches) (rest : List Expr) (end depth : ℕ) → TreesAt rule at end (branchTrees bs ++ rest) depth → branchCount bs ≡ count
+      → (k : ℕ) → k < count → StepWhen (getD tags k 0) column kind (getD keys k 0) (whenAt bs k)
+
+-- where they were read
+pub record StepsRead (rule : List ℕ) (at count column kind : ℕ) (read : Bool) (tags keys : List ℕ) : Type 0 where
+  pub tags-long : length tags ≡ 32
+  pub keys-long : length keys ≡ 32
+  pub steps : read ≡ true → StepsAt rule at count column kind tags keys
+
+-- ---- the index of a row
+
+-- a number passes a step: it is less than the key, or equals it
+abbrev pub stepPasses : ℕ → ℕ → ℕ → Bool
+stepPasses tag key x = cond (eqb tag 24) (ltb x key) (eqb x key)
+
+-- the index of the first of so many steps that a number passes, from 1, or the ELSE index
+abbrev pub stepIndex : List ℕ → List ℕ → ℕ → ℕ → ℕ
+stepIndex tags keys count x = found (λ k. stepPasses (getD tags k 0) (getD keys k 0) x) (λ k. k + 1) 0 count (count + 1)
+
+-- the index of an entry: ELSE's of null, any other's by the number that it goes by
+abbrev pub EntryIndex : List ℕ → List ℕ → ℕ → ℕ → Entry → ℕ → Type 0
+EntryIndex tags keys count kind e c = ((e ≡ null) × (c ≡ count + 1)) ⊎ ((x : ℕ) × Numbered kind x e × (c ≡ stepIndex tags keys count x))
+
+-- the number of a row's value, of any type but text
+pub record KeyAt (kind : DataType) (values : List ℕ) (row x : ℕ) : Type 0 where
+  pub is : typeNumber kind ≤ 4 → (offsets : List ℕ) → Numbered (typeNumber kind) x (valueAt kind offsets values row)
+
+-- the index of a row's entry
+pub record RowIndex (kind : DataType) (values validity tags keys : List ℕ) (count row c : ℕ) : Type 0 where
+  pub is : typeNumber kind ≤ 4 → (offsets : List ℕ) → EntryIndex tags keys count (typeNumber kind) (cond (validIn validity row) (valueAt kind offsets values row) null) c
+
+-- the index of each listed row is right
+pub record RowsIndexed (right : ℕ → ℕ → Type 0) (w : List ℕ) (n : ℕ) (indices : List ℕ) : Type 0 where
+  pub long : length indices ≡ 512
+  pub each : (q : ℕ) → Listed w 0 n q → right q (getD indices q 0)
+
+-- the index that whatever branches stand at a place give a row that has in a column what the table has there
+pub record ColumnIndex (rule : List ℕ) (at : ℕ) (table : List ℕ) (column : ℕ) (place : ColumnPlace) (count q c : ℕ) : Type 0 where
+  pub few : c ≤ count + 1
+  pub is : (bs : Branches) (rest : List Expr) (end depth : ℕ) (row : Row) (els : Outcome) → TreesAt rule at end (branchTrees bs ++ rest) depth → branchCount bs ≡ count
+      → row column ≡ entry (entryAt (columnIn table place) q) → evalBranches bs row isTrueTest els ≡ indexed bs row els c
+
+-- the index of each listed row, where every WHEN is a step on the column
+pub record ColumnGives (rule : List ℕ) (at : ℕ) (table : List ℕ) (column : ℕ) (place : ColumnPlace) (count : ℕ) (w : List ℕ) (n : ℕ) (served : Bool) (values : List ℕ) : Type 0 where
+  pub long : length values ≡ 512
+  pub each : served ≡ true → (q : ℕ) → Listed w 0 n q → ColumnIndex rule at table column place count q (getD values q 0)

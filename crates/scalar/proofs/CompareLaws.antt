@@ -18,8 +18,9 @@ use Rattle.scalar.specs.Text.{sameBytes, textLess}
 use Rattle.scalar.specs.Entry.{Entry, boolean, Outcome, entry, unfit, onEntries}
 use Rattle.scalar.specs.Pair.{Pair, bothNull, oneNull, unlike, booleans, int32s, int64s, float64s, texts, pairOf}
 use Rattle.scalar.specs.Compare.{equalPair, equalEntry, lessPair, lessEntry}
-use Rattle.scalar.specs.Order.{orderOfPair, orderOf}
+use Rattle.scalar.specs.Order.{orderOfPair, orderOf, Numbered}
 use Rattle.scalar.specs.Value.{meaning, Storable, GivesBoth}
+use Rattle.scalar.proofs.OrderLaws.{numbers-order}
 
 -- the value of a comparison, by what it says of a less, an equal and a greater first side
 abbrev pub compared : Bool → Bool → Bool → Order → Value
@@ -120,3 +121,15 @@ equal-gives rule table = gives rule table false true false equalPair (equal-pair
 
 pub less-gives : (rule table : List ℕ) (a b : Value) (o : Order) → o ≡ orderOf (meaning rule table a) (meaning rule table b) → GivesBoth lessEntry rule table a b (compared true false false o)
 less-gives rule table = gives rule table true false false lessPair (less-pair rule table)
+
+-- equal and less of two entries that go by numbers of one kind
+number-once : (x y : ℕ) → eqb x y ≡ true → ltb x y ≡ false
+number-once x y e = rw (eqb-true x y e) (le-ltb y y (le-refl y))
+
+pub numbers-equal : (a b : Entry) {kind x y : ℕ} → Numbered kind x a → Numbered kind y b → entry (equalEntry a b) ≡ entry (boolean (eqb x y))
+numbers-equal a b {kind} {x} {y} p q =
+    sym (equal-pair [] [] (pairOf a b)) ∙ ap (λ (o : Order). meaning [] [] (compared false true false o)) (numbers-order a b p q) ∙ equal-by [] [] (eqb x y) (ltb x y)
+
+pub numbers-less : (a b : Entry) {kind x y : ℕ} → Numbered kind x a → Numbered kind y b → entry (lessEntry a b) ≡ entry (boolean (ltb x y))
+numbers-less a b {kind} {x} {y} p q =
+    sym (less-pair [] [] (pairOf a b)) ∙ ap (λ (o : Order). meaning [] [] (compared true false false o)) (numbers-order a b p q) ∙ less-by [] [] (eqb x y) (ltb x y) (number-once x y)

@@ -27,8 +27,8 @@ use Rattle.scalar.specs.Float.{signTurned, totalKey, totalLess}
 use Rattle.scalar.specs.Types.{markNumber}
 use Rattle.scalar.specs.Entry.{Entry, null, boolean, int32, int64, float64, utf8, Outcome, entry, unfit}
 use Rattle.scalar.specs.Pair.{pairOf, booleans}
-use Rattle.scalar.specs.Value.{meaning}
-use Rattle.scalar.specs.Order.{orderOfPair, orderOf, keyOf, textIn, textOrder, numberOrder, keyOrder}
+use Rattle.scalar.specs.Value.{meaning, Storable}
+use Rattle.scalar.specs.Order.{orderOfPair, orderOf, keyOf, entryKey, Within, Numbered, textIn, textOrder, numberOrder, keyOrder}
 use Rattle.scalar.proofs.value.Value.{the-type}
 use Rattle.scalar.proofs.IntegerLaws.{signed-low, signed-high}
 
@@ -100,15 +100,7 @@ total-keys h a b p q ba bb (inr u) (inr v) =
 pub total-order : (h a b : ℕ) → a < 2 ^ suc h → b < 2 ^ suc h → numberOrder (totalKey h a) (totalKey h b) ≡ cond (eqb a b) Equal (cond (totalLess h a b) Less Greater)
 total-order h a b ba bb = total-keys h a b _ _ ba bb (keyed h a (2 ^ suc h - suc a)) (keyed h b (2 ^ suc h - suc b))
 
--- the key and the text of an entry
-abbrev entryKey : Entry → Key
-entryKey null = Keys.Null
-entryKey (boolean b) = Keys.Number 1 (markNumber b)
-entryKey (int32 n) = Keys.Number 2 (signTurned 31 n)
-entryKey (int64 n) = Keys.Number 3 (signTurned 63 n)
-entryKey (float64 n) = Keys.Number 4 (totalKey 63 n)
-entryKey (utf8 t) = Keys.Text
-
+-- the text of an entry
 abbrev entryText : Entry → List ℕ
 entryText null = []
 entryText (boolean b) = []
@@ -116,15 +108,6 @@ entryText (int32 n) = []
 entryText (int64 n) = []
 entryText (float64 n) = []
 entryText (utf8 t) = t
-
--- an entry within its bits
-abbrev Within : Entry → Type 0
-Within null = Unit {0}
-Within (boolean b) = Unit {0}
-Within (int32 n) = n < 2 ^ 32
-Within (int64 n) = n < 2 ^ 64
-Within (float64 n) = n < 2 ^ 64
-Within (utf8 t) = Unit {0}
 
 -- Booleans go by 0 and 1
 flags-order : (x y : Bool) → orderOfPair (booleans x y) ≡ numberOrder (markNumber x) (markNumber y)
@@ -148,6 +131,14 @@ entries-order (float64 x) b wa =
     elim b [ null ↦ λ wb. refl | boolean y ↦ λ wb. refl | int32 y ↦ λ wb. refl | int64 y ↦ λ wb. refl | float64 y ↦ λ wb. sym (total-order 63 x y wa wb) | utf8 y ↦ λ wb. refl ]
 entries-order (utf8 x) b wa =
     elim b [ null ↦ λ wb. refl | boolean y ↦ λ wb. refl | int32 y ↦ λ wb. refl | int64 y ↦ λ wb. refl | float64 y ↦ λ wb. refl | utf8 y ↦ λ wb. refl ]
+
+-- two that go by numbers of one kind go as the numbers do
+pub numbers-order : (a b : Entry) {kind x y : ℕ} → Numbered kind x a → Numbered kind y b → orderOfPair (pairOf a b) ≡ numberOrder x y
+numbers-order a b {kind} {x} {y} p q =
+    let between = textOrder (entryText a) (entryText b) in
+    entries-order a b (p .within) (q .within)
+    ∙ ap₂ (λ (k l : Key). keyOrder k l between) (p .key) (q .key)
+    ∙ ap (λ (t : Bool). cond t (numberOrder x y) Unlike) (eq-eqb kind kind refl)
 
 -- the key and the text of an outcome
 abbrev outcomeKey : Outcome → Key
@@ -189,6 +180,24 @@ known rule table (Nan n) o = record { key = refl; text = refl; within = omega ar
 known rule table (RuleText start size) o = record { key = refl; text = refl; within = tt }
 known rule table (TableText start size) o = record { key = refl; text = refl; within = tt }
 known rule table Failed o = record { key = refl; text = refl; within = tt }
+
+-- and a value that can be stored
+stored : (rule table : List ℕ) (v : Value) → Storable v → Known rule table v
+stored rule table Null o = record { key = refl; text = refl; within = tt }
+stored rule table (Boolean b) o = record { key = refl; text = refl; within = tt }
+stored rule table (Int32 n) o = record { key = refl; text = refl; within = o }
+stored rule table (Int64 n) o = record { key = refl; text = refl; within = o }
+stored rule table (Float64 f) o = record { key = refl; text = refl; within = toBits-lt binary64 f (o .0) }
+stored rule table (Nan n) o = record { key = refl; text = refl; within = o .0 }
+stored rule table (RuleText start size) o = record { key = refl; text = refl; within = tt }
+stored rule table (TableText start size) o = record { key = refl; text = refl; within = tt }
+stored rule table Failed o = record { key = refl; text = refl; within = tt }
+
+-- the entry that a value means goes by the value's number
+pub value-numbered : (rule table : List ℕ) (v : Value) (e : Entry) {kind x : ℕ} → Storable v → meaning rule table v ≡ entry e → keyOf v ≡ Keys.Number kind x → Numbered kind x e
+value-numbered rule table v e s m k =
+    let h = stored rule table v s in
+    record { key = sym (ap outcomeKey m) ∙ h .key ∙ k; within = subst WithinOut m (h .within) }
 
 -- the order of two values is that of their keys and their texts
 values-order : (rule table : List ℕ) (a b : Value) → Owned a → Owned b

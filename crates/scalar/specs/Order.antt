@@ -1,8 +1,9 @@
 -- The order of two values, from which equal and less are read.
+use mathlib.Core.Path.{_≡_}
 use mathlib.Core.Bool.{Bool, true, false, cond, not}
 use mathlib.Core.List.{List}
 use mathlib.Core.List.{[]}
-use Prim.Native.Nat.{ℕ}
+use Prim.Native.Nat.{ℕ, _^_, _<_}
 use lib.Dec.{eqb, ltb}
 use lib.Ieee.{binary64, toBits}
 use Rattle.scalar.specs.declared.order.Order.{Order}
@@ -15,7 +16,7 @@ use Rattle.scalar.specs.Types.{markNumber}
 use Rattle.scalar.specs.Float.{signTurned, totalKey}
 use Rattle.scalar.specs.Text.{sameBytes, textLess}
 use Rattle.scalar.specs.Value.{placeText}
-use Rattle.scalar.specs.Entry.{Entry, null, boolean, isTrue, Outcome, entry, unfit}
+use Rattle.scalar.specs.Entry.{Entry, null, boolean, int32, int64, float64, utf8, isTrue, Outcome, entry, unfit}
 use Rattle.scalar.specs.Pair.{Pair, bothNull, oneNull, unlike, booleans, int32s, int64s, float64s, texts, pairOf}
 use Rattle.scalar.specs.Compare.{equalPair, lessPair}
 
@@ -51,6 +52,29 @@ keyOf (Nan n) = Keys.Number 4 (totalKey 63 n)
 keyOf (RuleText start size) = Keys.Text
 keyOf (TableText start size) = Keys.Text
 keyOf Failed = Keys.Failed
+
+-- how an entry is compared
+abbrev pub entryKey : Entry → Key
+entryKey null = Keys.Null
+entryKey (boolean b) = Keys.Number 1 (markNumber b)
+entryKey (int32 n) = Keys.Number 2 (signTurned 31 n)
+entryKey (int64 n) = Keys.Number 3 (signTurned 63 n)
+entryKey (float64 n) = Keys.Number 4 (totalKey 63 n)
+entryKey (utf8 t) = Keys.Text
+
+-- an entry within its bits
+abbrev pub Within : Entry → Type 0
+Within null = Unit {0}
+Within (boolean b) = Unit {0}
+Within (int32 n) = n < 2 ^ 32
+Within (int64 n) = n < 2 ^ 64
+Within (float64 n) = n < 2 ^ 64
+Within (utf8 t) = Unit {0}
+
+-- an entry goes by a number among those of its kind
+pub record Numbered (kind x : ℕ) (e : Entry) : Type 0 where
+  pub key : entryKey e ≡ Keys.Number kind x
+  pub within : Within e
 
 -- the bytes of a text value; none of any other
 abbrev pub textIn : List ℕ → List ℕ → Value → List ℕ

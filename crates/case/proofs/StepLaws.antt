@@ -1,0 +1,438 @@
+-- WHENs that compare one column with literals: how they are read, and that a row's index by its number is that of its branch. Assumes nothing.
+use mathlib.Core.Path.{_≡_, refl, sym, ap, ap₂, subst, _∙_}
+use mathlib.Core.Bool.{Bool, true, false, cond, false≢true}
+use mathlib.Core.List.{List, [], _∷_, _++_, append-assoc, map}
+use mathlib.Core.Logic.{_⊎_, inl, inr}
+use Prim.Native.Nat.{ℕ, zero, suc, _+_, _-_, _*_, _^_, _<_, _≤_, min}
+use native.Mathlib.Decide.{ℕ-discrete}
+use native.Mathlib.Omega.{arith}
+use lib.Dec.{eqb, ltb}
+use lib.ListN.{length, getD, set, length-set}
+use lib.Seq.{getD-set-same, getD-set-other}
+use borrow.Author.Tests.{eq-eqb, ne-eqb}
+use Rattle.layout.specs.Bytes.{byte, bitAt, numberAt}
+use Rattle.scalar.specs.declared.types.DataType.{DataType}
+use Rattle.scalar.specs.declared.types.DataType.the-variants as Of
+use Rattle.scalar.specs.declared.value.Value.{Value}
+use Rattle.scalar.specs.declared.order.Key.{Key}
+use Rattle.scalar.specs.declared.order.Key.the-variants as Keys
+use Rattle.scalar.specs.Types.{typeNumber, markNumber}
+use Rattle.scalar.specs.Float.{signTurned, totalKey}
+use Rattle.scalar.specs.Entry.{Entry, null, boolean, int32, int64, float64, utf8, isTrue, Outcome, entry, onEntries}
+use Rattle.scalar.specs.Pair.{pairOf}
+use Rattle.scalar.specs.Order.{keyOf, Numbered}
+use Rattle.scalar.proofs.OrderLaws.{value-numbered}
+use Rattle.scalar.proofs.CompareLaws.{numbers-equal, numbers-less}
+use Rattle.rule.specs.Tree.{Expr, column, Branches, noMore, branch, branchCount}
+use Rattle.rule.specs.Row.{Row, isTrueTest, chosen, eval, evalBranches}
+use Rattle.rule.specs.Node.{NodeAt}
+use Rattle.rule.specs.Walks.{branchTrees, childrenOf, TreesAt, EndGives, ChildrenGives, BehindGives, LiteralGives}
+use Rattle.rule.proofs.NodeLaws.{Tagged, ofColumn, ofLiteral, ofNegation, ofNegative, ofIsNotNull, ofCast, ofTryCast, ofEqual, ofLess, ofCase, node-byte, trees-one}
+use Rattle.rule.proofs.WalkLaws.{node-of-tag, first-tree, first-two}
+use Rattle.table.specs.declared.places.ColumnPlace.{ColumnPlace}
+use Rattle.table.specs.declared.places.Table.{Table}
+use Rattle.table.specs.Column.{validIn, valueAt, entryAt}
+use Rattle.table.specs.Places.{columnIn, noPlace}
+use Rattle.case.specs.declared.steps.Step.{Step}
+use Rattle.case.specs.Frame.{rowAt, Rows, Listed}
+use Rattle.case.specs.LookUpTables.{found}
+use Rattle.case.specs.Taking.{comparison}
+use Rattle.case.specs.Evaluation.{rowIn, resultAt, indexed}
+use Rattle.case.specs.Steps.{StepsGive, noStep, stepOf, StepWhen, StepGives, whenAt, StepsAt, StepsRead, stepPasses, stepIndex, EntryIndex, KeyAt, RowIndex, RowsIndexed, ColumnGives}
+use Rattle.case.proofs.LookUpLaws.{found-none, found-below}
+use Rattle.case.proofs.ChooseLaws.{last-two}
+use Rattle.case.proofs.CellLaws.{cell-found}
+
+-- ---- one step
+
+-- a node that is none
+pub step-none : {rule : List ℕ} {start end : ℕ} {s : Step} → s ≡ noStep → StepGives rule start end s
+step-none e = record { is = λ h. absurd (h (ap (λ (s : Step). s .tag) e)) }
+
+-- a node's tag stands before the end
+pub tag-inside : (l : List ℕ) (i b : ℕ) → b ≡ byte l i → b ≡ 16 → i < length l
+tag-inside [] i b e h = absurd (omega arith)
+tag-inside (x ∷ l) zero b e h = omega arith
+tag-inside (x ∷ l) (suc i) b e h = let k = tag-inside l i b e h in omega arith
+
+-- a step is compared by a number
+record ByNumber (tag c : ℕ) (k : Key) (s : Step) : Type 0 where
+  kind : ℕ
+  key : ℕ
+  key-is : k ≡ Keys.Number kind key
+  step-is : s ≡ record { tag = tag; column = c; kind = kind; key = key }
+
+by-number : (tag c : ℕ) (k : Key) (s : Step) → s ≡ stepOf tag c k → (s .tag ≡ 0 → ⊥) → ByNumber tag c k s
+by-number tag c Keys.Null s e h = absurd (h (ap (λ (s : Step). s .tag) e))
+by-number tag c Keys.Failed s e h = absurd (h (ap (λ (s : Step). s .tag) e))
+by-number tag c (Keys.Number kind key) s e h = record { kind = kind; key = key; key-is = refl; step-is = e }
+by-number tag c Keys.Text s e h = absurd (h (ap (λ (s : Step). s .tag) e))
+
+-- what a column has, beside an entry
+record Sides (c kind key : ℕ) (a b : Expr) : Type 0 where
+  value : Entry
+  numbered : Numbered kind key value
+  left : (row : Row) → eval a row ≡ row c
+  right : (row : Row) → eval b row ≡ entry value
+
+-- a column beside a literal
+module _ {rule : List ℕ} {at middle end c : ℕ} (v : Value) {k : Key} (ends : EndGives rule at middle) (column-tag : byte rule at ≡ 16) (literal-tag : byte rule middle ≡ 17)
+    (index : c ≡ byte rule (at + 3)) (gives : LiteralGives rule middle end v) (key-is : k ≡ keyOf v) where
+  sides : (a b : Expr) (depth : ℕ) {kind key : ℕ} → k ≡ Keys.Number kind key → TreesAt rule at end (a ∷ b ∷ []) depth → Sides c kind key a b
+  unfolding eval
+  sides a b depth {kind} {key} number trees =
+      let (first, rest) = first-tree ends trees in
+      let second = trees-one rest in
+      go a b first second (node-of-tag first column-tag) (node-of-tag second literal-tag)
+    where
+      go : (a b : Expr) → NodeAt rule at middle a depth → NodeAt rule middle end b depth → Tagged 16 a → Tagged 17 b → Sides c kind key a b
+      go a b first second (ofColumn x) (ofLiteral t y) =
+          let (means, stores) = gives t y depth second in
+          record {
+            value = y;
+            numbered = value-numbered rule [] v y stores (means []) (sym key-is ∙ number);
+            left = λ row. ap row (sym (index ∙ node-byte 0 (at + 3) first (omega arith) (omega arith)));
+            right = λ row. refl;
+          }
+
+  pub step-some : {start tag : ℕ} {s : Step} → tag ≡ byte rule start → (tag ≡ 23) ⊎ (tag ≡ 24) → ChildrenGives rule start at → s ≡ stepOf tag c k → StepGives rule start end s
+  unfolding eval
+  step-some {start} {tag} {s} read either children s-is = record {
+    is = λ h e depth node.
+        let n = by-number tag c k s s-is h in
+        subst (λ (x : Step). StepWhen (x .tag) (x .column) (x .kind) (x .key) e) (sym (n .step-is))
+        (told e either (node-of-tag node (sym read)) (children .stand end e depth node) (n .key-is));
+  }
+    where
+      told : {tag kind key depth : ℕ} (e : Expr) → (tag ≡ 23) ⊎ (tag ≡ 24) → Tagged tag e → TreesAt rule at end (childrenOf e) depth → k ≡ Keys.Number kind key → StepWhen tag c kind key e
+      told e (inl p) (ofColumn x) trees number = absurd (omega arith)
+      told e (inr p) (ofColumn x) trees number = absurd (omega arith)
+      told e (inl p) (ofLiteral x y) trees number = absurd (omega arith)
+      told e (inr p) (ofLiteral x y) trees number = absurd (omega arith)
+      told e (inl p) (ofNegation a) trees number = absurd (omega arith)
+      told e (inr p) (ofNegation a) trees number = absurd (omega arith)
+      told e (inl p) (ofNegative a) trees number = absurd (omega arith)
+      told e (inr p) (ofNegative a) trees number = absurd (omega arith)
+      told e (inl p) (ofIsNotNull a) trees number = absurd (omega arith)
+      told e (inr p) (ofIsNotNull a) trees number = absurd (omega arith)
+      told e (inl p) (ofCast x a) trees number = absurd (omega arith)
+      told e (inr p) (ofCast x a) trees number = absurd (omega arith)
+      told e (inl p) (ofTryCast x a) trees number = absurd (omega arith)
+      told e (inr p) (ofTryCast x a) trees number = absurd (omega arith)
+      told {depth = depth} e p (ofEqual a b) trees number =
+          let x = sides a b depth number trees in
+          record { value = x .value; numbered = x .numbered; is = λ row. ap₂ (onEntries (comparison false)) (x .left row) (x .right row) }
+      told {depth = depth} e p (ofLess a b) trees number =
+          let x = sides a b depth number trees in
+          record { value = x .value; numbered = x .numbered; is = λ row. ap₂ (onEntries (comparison true)) (x .left row) (x .right row) }
+      told e (inl p) (ofCase a b d) trees number = absurd (omega arith)
+      told e (inr p) (ofCase a b d) trees number = absurd (omega arith)
+
+-- ---- the steps of a CASE
+
+-- the WHEN of a branch among the trees
+when-tree : (i : ℕ) (bs : Branches) → i < branchCount bs → (before : List Expr) × (later : List Expr) × (length before ≡ 2 * i) × (branchTrees bs ≡ before ++ (whenAt bs i ∷ later))
+unfolding whenAt branchCount
+when-tree i noMore h = absurd (omega arith)
+when-tree zero (branch w t bs) h = ([], t ∷ branchTrees bs, refl, refl)
+when-tree (suc i) (branch w t bs) h =
+    let (before, later, many, is) = when-tree i bs (omega arith) in
+    (w ∷ t ∷ before, later, omega arith, ap (λ (l : List Expr). w ∷ t ∷ l) is)
+
+-- where the loop stands: i steps are read
+pub record StepsSoFar (rule : List ℕ) (at count column kind place i : ℕ) (tags keys : List ℕ) : Type 0 where
+  pub few : i ≤ count
+  pub small : count ≤ 32
+  pub tags-long : length tags ≡ 32
+  pub keys-long : length keys ≡ 32
+  pub behind : BehindGives rule at (2 * i) place
+  pub each : (bs : Branches) (rest : List Expr) (end depth : ℕ) → TreesAt rule at end (branchTrees bs ++ rest) depth → branchCount bs ≡ count
+      → (k : ℕ) → k < i → StepWhen (getD tags k 0) column kind (getD keys k 0) (whenAt bs k)
+
+pub steps-none : {rule : List ℕ} {at count column kind : ℕ} {tags keys : List ℕ} → length tags ≡ 32 → length keys ≡ 32 → count ≤ 32
+    → StepsSoFar rule at count column kind at 0 tags keys
+steps-none {rule} {at} t k small = record {
+  few = omega arith;
+  small = small;
+  tags-long = t;
+  keys-long = k;
+  behind = record { stand = none-behind; onward = omega arith };
+  each = λ bs rest end depth trees n k h. absurd (omega arith);
+}
+  where
+    none-behind : (end : ℕ) (es rest : List Expr) (depth : ℕ) → length es ≡ 2 * 0 → TreesAt rule at end (es ++ rest) depth → TreesAt rule at end rest depth
+    none-behind end [] rest depth p trees = trees
+    none-behind end (e ∷ es) rest depth p trees = absurd (omega arith)
+
+module _ {rule : List ℕ} {at count column kind place i : ℕ} {tags keys : List ℕ} (s : StepsSoFar rule at count column kind place i tags keys) where
+  -- one more
+  pub steps-more : {then next : ℕ} {x : Step} → i < count → EndGives rule place then → StepGives rule place then x → (x .tag ≡ 0 → ⊥) → x .column ≡ column → x .kind ≡ kind
+      → EndGives rule then next → StepsSoFar rule at count column kind next (i + 1) (set tags i (x .tag)) (set keys i (x .key))
+  steps-more {then} {next} {x} more to-then step some column-is kind-is to-next = record {
+    few = omega arith;
+    small = s .small;
+    tags-long = length-set tags i (x .tag) ∙ s .tags-long;
+    keys-long = length-set keys i (x .key) ∙ s .keys-long;
+    behind = record { stand = next-behind; onward = (let h = s .behind .onward in let m = to-then .onward in let k = to-next .onward in omega arith) };
+    each = λ bs rest end depth trees n k h. go bs rest end depth trees n k h (ℕ-discrete k i);
+  }
+    where
+      next-behind : (end : ℕ) (es rest : List Expr) (depth : ℕ) → length es ≡ 2 * (i + 1) → TreesAt rule at end (es ++ rest) depth → TreesAt rule next end rest depth
+      next-behind end es rest depth p trees =
+          let (first, a, b, f, g) = last-two es (2 * i) (omega arith) in
+          let moved = subst (λ (l : List Expr). TreesAt rule at end l depth) (ap (λ (l : List Expr). l ++ rest) g ∙ append-assoc first (a ∷ b ∷ []) rest) trees in
+          first-two to-then to-next (s .behind .stand end first (a ∷ b ∷ rest) depth f moved) .2
+
+      here : (bs : Branches) (rest : List Expr) (end depth : ℕ) → TreesAt rule at end (branchTrees bs ++ rest) depth → branchCount bs ≡ count → StepWhen (x .tag) column kind (x .key) (whenAt bs i)
+      here bs rest end depth trees n =
+          let (before, later, many, is) = when-tree i bs (omega arith) in
+          let moved = subst (λ (l : List Expr). TreesAt rule at end l depth) (ap (λ (l : List Expr). l ++ rest) is ∙ append-assoc before (whenAt bs i ∷ later) rest) trees in
+          let (node, others) = first-tree to-then (s .behind .stand end before (whenAt bs i ∷ (later ++ rest)) depth many moved) in
+          subst (λ (y : ℕ). StepWhen (x .tag) y kind (x .key) (whenAt bs i)) column-is
+          (subst (λ (y : ℕ). StepWhen (x .tag) (x .column) y (x .key) (whenAt bs i)) kind-is (step .is some (whenAt bs i) depth node))
+
+      stays : {a b c d : ℕ} {e : Expr} → a ≡ b → c ≡ d → StepWhen a column kind c e → StepWhen b column kind d e
+      stays {a} {b} {c} {d} {e} p q h = subst (λ (y : ℕ). StepWhen b column kind y e) q (subst (λ (y : ℕ). StepWhen y column kind c e) p h)
+
+      go : (bs : Branches) (rest : List Expr) (end depth : ℕ) → TreesAt rule at end (branchTrees bs ++ rest) depth → branchCount bs ≡ count
+          → (k : ℕ) → k < i + 1 → Dec (k ≡ i) → StepWhen (getD (set tags i (x .tag)) k 0) column kind (getD (set keys i (x .key)) k 0) (whenAt bs k)
+      go bs rest end depth trees n k h (yes e) =
+          subst (λ (y : ℕ). StepWhen (getD (set tags i (x .tag)) y 0) column kind (getD (set keys i (x .key)) y 0) (whenAt bs y)) (sym e)
+          (stays (sym (getD-set-same tags i (x .tag) 0 (let l = s .tags-long in let m = s .small in omega arith)))
+          (sym (getD-set-same keys i (x .key) 0 (let l = s .keys-long in let m = s .small in omega arith))) (here bs rest end depth trees n))
+      go bs rest end depth trees n k h (no d) =
+          stays (sym (getD-set-other tags i k (x .tag) 0 d)) (sym (getD-set-other keys i k (x .key) 0 d)) (s .each bs rest end depth trees n k (omega arith))
+
+  -- one that is no such step
+  pub steps-refused : StepsRead rule at count column kind false tags keys
+  steps-refused = record { tags-long = s .tags-long; keys-long = s .keys-long; steps = λ e. absurd (false≢true e) }
+
+  pub steps-all : count ≤ i → StepsRead rule at count column kind true tags keys
+  steps-all h = record {
+    tags-long = s .tags-long;
+    keys-long = s .keys-long;
+    steps = λ e. record { each = λ bs rest end depth trees n k l. s .each bs rest end depth trees n k (let f = s .few in omega arith) };
+  }
+
+-- ---- the index of a row
+
+-- whether a number passes
+pub passes-less : (tag key x : ℕ) → tag ≡ 24 → ltb x key ≡ stepPasses tag key x
+passes-less tag key x e = sym (ap (λ (b : Bool). cond b (ltb x key) (eqb x key)) (eq-eqb tag 24 e))
+
+pub passes-equal : (tag key x : ℕ) → (tag ≡ 24 → ⊥) → eqb x key ≡ stepPasses tag key x
+passes-equal tag key x e = sym (ap (λ (b : Bool). cond b (ltb x key) (eqb x key)) (ne-eqb tag 24 e))
+
+-- an index is at most ELSE's
+index-small : (tags keys : List ℕ) (count x : ℕ) → stepIndex tags keys count x ≤ count + 1
+index-small tags keys count x = found-below (λ k. stepPasses (getD tags k 0) (getD keys k 0) x) (λ k. k + 1) (count + 1) count 0 (λ i h. omega arith)
+
+-- the number of a value, by its type
+module _ {kind : DataType} {values : List ℕ} {row : ℕ} where
+  key-of : {d : DataType} {x : ℕ} → kind ≡ d → KeyAt d values row x → KeyAt kind values row x
+  key-of {d} {x} e = subst (λ (y : DataType). KeyAt y values row x) (sym e)
+
+  pub key-boolean : {b : Bool} {x : ℕ} → kind ≡ Of.Boolean → b ≡ bitAt values row → x ≡ markNumber b → KeyAt kind values row x
+  unfolding valueAt
+  key-boolean {b} {x} e p q =
+      key-of e (record { is = λ h offsets. record { key = ap (Keys.Number 1) (sym (q ∙ ap markNumber p)); within = tt } })
+
+  pub key-int32 : {n x : ℕ} → kind ≡ Of.Int32 → n ≡ numberAt 4 values (4 * row) → n < 2 ^ 32 → x ≡ signTurned 31 n → KeyAt kind values row x
+  unfolding valueAt
+  key-int32 {n} {x} e p b q =
+      key-of e (record { is = λ h offsets. record { key = ap (Keys.Number 2) (sym (q ∙ ap (signTurned 31) p)); within = subst (λ (y : ℕ). y < 2 ^ 32) p b } })
+
+  pub key-int64 : {n x : ℕ} → kind ≡ Of.Int64 → n ≡ numberAt 8 values (8 * row) → n < 2 ^ 64 → x ≡ signTurned 63 n → KeyAt kind values row x
+  unfolding valueAt
+  key-int64 {n} {x} e p b q =
+      key-of e (record { is = λ h offsets. record { key = ap (Keys.Number 3) (sym (q ∙ ap (signTurned 63) p)); within = subst (λ (y : ℕ). y < 2 ^ 64) p b } })
+
+  pub key-float64 : {n x : ℕ} → kind ≡ Of.Float64 → n ≡ numberAt 8 values (8 * row) → n < 2 ^ 64 → x ≡ totalKey 63 n → KeyAt kind values row x
+  unfolding valueAt
+  key-float64 {n} {x} e p b q =
+      key-of e (record { is = λ h offsets. record { key = ap (Keys.Number 4) (sym (q ∙ ap (totalKey 63) p)); within = subst (λ (y : ℕ). y < 2 ^ 64) p b } })
+
+  pub key-utf8 : {x : ℕ} → kind ≡ Of.Utf8 → KeyAt kind values row x
+  key-utf8 e = key-of e (record { is = λ h. absurd (omega arith) })
+
+  -- the index of a null, and of a value
+  module _ {validity tags keys : List ℕ} {count : ℕ} {b : Bool} (valid : b ≡ validIn validity row) where
+    pub row-null : {c : ℕ} → b ≡ false → c ≡ count + 1 → RowIndex kind values validity tags keys count row c
+    row-null e p = record {
+      is = λ h offsets. inl (ap (λ (y : Bool). cond y (valueAt kind offsets values row) null) (sym valid ∙ e), p);
+    }
+
+    pub row-value : {x c : ℕ} → b ≡ true → KeyAt kind values row x → c ≡ stepIndex tags keys count x → RowIndex kind values validity tags keys count row c
+    row-value {x} e key p = record {
+      is = λ h offsets. inr (
+        x,
+        subst (λ (y : Entry). Numbered (typeNumber kind) x y) (sym (ap (λ (y : Bool). cond y (valueAt kind offsets values row) null) (sym valid ∙ e))) (key .is h offsets),
+        p,
+      );
+    }
+
+-- the index of each listed row
+module _ {right : ℕ → ℕ → Type 0} {w : List ℕ} {indices : List ℕ} where
+  pub indices-none : length indices ≡ 512 → RowsIndexed right w 0 indices
+  indices-none e = record { long = e; each = λ q l. absurd (let h = l .1 in omega arith) }
+
+  pub indices-more : {i n r c : ℕ} → RowsIndexed right w i indices → Rows w 0 n 512 → i < n → r ≡ rowAt w 0 i → right r c → RowsIndexed right w (i + 1) (set indices r c)
+  indices-more {i} {n} {r} {c} s rows more is here = record { long = length-set indices r c ∙ s .long; each = λ q l. go q l (ℕ-discrete q r) }
+    where
+      room : r < length indices
+      room = omega (arith, rows .below i more, s .long)
+
+      go : (q : ℕ) → Listed w 0 (i + 1) q → Dec (q ≡ r) → right q (getD (set indices r c) q 0)
+      go q l (yes e) = subst (λ (y : ℕ). right y (getD (set indices r c) y 0)) (sym e) (subst (right r) (sym (getD-set-same indices r c 0 room)) here)
+      go q (j, h, p) (no d) = subst (right q) (sym (getD-set-other indices r q c 0 d)) (s .each q (j, earlier (ℕ-discrete j i), p))
+        where
+          earlier : Dec (j ≡ i) → j < i
+          earlier (yes e) = absurd (d (sym p ∙ ap (rowAt w 0) e ∙ sym is))
+          earlier (no f) = omega arith
+
+  pub indices-room : {i n r : ℕ} → RowsIndexed right w i indices → Rows w 0 n 512 → i < n → r ≡ rowAt w 0 i → r < length indices
+  indices-room {i} s rows more is = omega (arith, rows .below i more, s .long)
+
+  pub indices-all : {i n : ℕ} → RowsIndexed right w i indices → n ≤ i → RowsIndexed right w n indices
+  indices-all s h = record { long = s .long; each = λ q l. s .each q (l .0, (let k = l .1 in omega arith), l .2) }
+
+-- ---- the branch of an index
+
+-- an outcome is an entry that is true, or one that is not
+record Says (o : Outcome) (b : Bool) : Type 0 where
+  value : Entry
+  is : o ≡ entry value
+  truth : isTrue value ≡ b
+
+-- the first branch whose WHEN is true, from k on
+record FirstTrue (test : ℕ → Bool) (row : Row) (els : Outcome) (bs : Branches) (k otherwise : ℕ) : Type 0 where
+  first : ℕ
+  index-is : found test (λ i. i + 1) k (branchCount bs) otherwise ≡ suc (k + first)
+  result-is : evalBranches bs row isTrueTest els ≡ resultAt bs row els first
+
+module _ (test : ℕ → Bool) (row : Row) (els : Outcome) (otherwise : ℕ) where
+  first-true : (bs : Branches) (k : ℕ) → otherwise ≡ k + branchCount bs + 1 → ((j : ℕ) → j < branchCount bs → Says (eval (whenAt bs j) row) (test (k + j))) → FirstTrue test row els bs k otherwise
+  unfolding branchCount evalBranches resultAt whenAt found
+  first-true noMore k e says = record { first = 0; index-is = (let z : otherwise ≡ suc (k + 0) = omega arith in z); result-is = refl }
+  first-true (branch w t bs) k e says =
+      go (first-true bs (suc k) (omega arith) (λ j h. let z : k + suc j ≡ suc k + j = omega arith in subst (λ (i : ℕ). Says (eval (whenAt bs j) row) (test i)) z (says (suc j) (omega arith)))) (test k) refl
+    where
+      here : Says (eval w row) (test k)
+      here = let z : k + 0 ≡ k = omega arith in subst (λ (i : ℕ). Says (eval w row) (test i)) z (says 0 (omega arith))
+
+      chosen-is : (b : Bool) → test k ≡ b → evalBranches (branch w t bs) row isTrueTest els ≡ cond b (eval t row) (evalBranches bs row isTrueTest els)
+      chosen-is b p =
+          ap (λ (o : Outcome). chosen isTrueTest o (eval t row) (evalBranches bs row isTrueTest els)) (here .is)
+          ∙ ap (λ (x : Bool). cond x (eval t row) (evalBranches bs row isTrueTest els)) (here .truth ∙ p)
+
+      go : FirstTrue test row els bs (suc k) otherwise → (b : Bool) → test k ≡ b → FirstTrue test row els (branch w t bs) k otherwise
+      go later true p = record {
+        first = 0;
+        index-is = ap (λ (x : Bool). cond x (k + 1) (found test (λ i. i + 1) (suc k) (branchCount bs) otherwise)) p ∙ (let z : k + 1 ≡ suc (k + 0) = omega arith in z);
+        result-is = chosen-is true p;
+      }
+      go later false p = record {
+        first = suc (later .first);
+        index-is =
+            ap (λ (x : Bool). cond x (k + 1) (found test (λ i. i + 1) (suc k) (branchCount bs) otherwise)) p
+            ∙ later .index-is ∙ (let z : suc (suc k + later .first) ≡ suc (k + suc (later .first)) = omega arith in z);
+        result-is = chosen-is false p ∙ later .result-is;
+      }
+
+-- null is compared to null
+null-not : (b : Bool) (e : Entry) → isTrue (comparison b null e) ≡ false
+unfolding pairOf
+null-not true null = refl
+null-not true (boolean x) = refl
+null-not true (int32 x) = refl
+null-not true (int64 x) = refl
+null-not true (float64 x) = refl
+null-not true (utf8 x) = refl
+null-not false null = refl
+null-not false (boolean x) = refl
+null-not false (int32 x) = refl
+null-not false (int64 x) = refl
+null-not false (float64 x) = refl
+null-not false (utf8 x) = refl
+
+module _ {tag column kind key : ℕ} {w : Expr} (s : StepWhen tag column kind key w) (row : Row) where
+  says-null : row column ≡ entry null → Says (eval w row) false
+  says-null e = record {
+    value = comparison (eqb tag 24) null (s .value);
+    is = s .is row ∙ ap (λ (o : Outcome). onEntries (comparison (eqb tag 24)) o (entry (s .value))) e;
+    truth = null-not (eqb tag 24) (s .value);
+  }
+
+  says-number : {x : ℕ} (e : Entry) → row column ≡ entry e → Numbered kind x e → Says (eval w row) (stepPasses tag key x)
+  says-number {x} e p n = record {
+    value = boolean (stepPasses tag key x);
+    is = s .is row ∙ ap (λ (o : Outcome). onEntries (comparison (eqb tag 24)) o (entry (s .value))) p ∙ by (eqb tag 24);
+    truth = refl;
+  }
+    where
+      by : (b : Bool) → entry (comparison b e (s .value)) ≡ entry (boolean (cond b (ltb x key) (eqb x key)))
+      by true = numbers-less e (s .value) n (s .numbered)
+      by false = numbers-equal e (s .value) n (s .numbered)
+
+-- the branches of a CASE whose WHENs are steps
+module _ {rule : List ℕ} {at count column kind : ℕ} {tags keys : List ℕ} (steps : StepsAt rule at count column kind tags keys) where
+  module _ (bs : Branches) (rest : List Expr) (end depth : ℕ) (row : Row) (els : Outcome) (trees : TreesAt rule at end (branchTrees bs ++ rest) depth) (counted : branchCount bs ≡ count) where
+    -- by a test of the WHENs
+    tested : (test : ℕ → Bool) → ((j : ℕ) → j < count → Says (eval (whenAt bs j) row) (test j))
+        → evalBranches bs row isTrueTest els ≡ indexed bs row els (found test (λ i. i + 1) 0 count (count + 1))
+    tested test says =
+        let f = first-true test row els (count + 1) bs 0 (omega arith) (λ j h. let z : j ≡ 0 + j = omega arith in subst (λ (i : ℕ). Says (eval (whenAt bs j) row) (test i)) z (says j (omega arith))) in
+        let z : suc (0 + f .first) ≡ suc (f .first) = omega arith in
+        let is : found test (λ i. i + 1) 0 count (count + 1) ≡ suc (f .first) = ap (λ (n : ℕ). found test (λ i. i + 1) 0 n (count + 1)) (sym counted) ∙ f .index-is ∙ z in
+        f .result-is ∙ sym (ap (indexed bs row els) is)
+
+    branch-found : (e : Entry) (c : ℕ) → row column ≡ entry e → EntryIndex tags keys count kind e c → evalBranches bs row isTrueTest els ≡ indexed bs row els c
+    branch-found e c p (inl (null-is, c-is)) =
+        tested (λ i. false) (λ j h. says-null (steps .each bs rest end depth trees counted j h) row (p ∙ ap entry null-is))
+        ∙ ap (indexed bs row els) (found-none (λ i. false) (λ i. i + 1) (count + 1) count 0 (λ i. refl) ∙ sym c-is)
+    branch-found e c p (inr (x, n, c-is)) =
+        tested (λ k. stepPasses (getD tags k 0) (getD keys k 0) x) (λ j h. says-number (steps .each bs rest end depth trees counted j h) row e p n)
+        ∙ ap (indexed bs row els) (sym c-is)
+
+  index-few : (e : Entry) (c : ℕ) → EntryIndex tags keys count kind e c → c ≤ count + 1
+  index-few e c (inl (null-is, c-is)) = omega arith
+  index-few e c (inr (x, n, c-is)) = omega (arith, index-small tags keys count x)
+
+-- ---- a column
+
+module _ {rule : List ℕ} {at : ℕ} {table : List ℕ} {column : ℕ} {place : ColumnPlace} {count : ℕ} {w : List ℕ} {n : ℕ} where
+  pub column-refused : {values : List ℕ} → length values ≡ 512 → ColumnGives rule at table column place count w n false values
+  column-refused e = record { long = e; each = λ h. absurd (false≢true h) }
+
+  pub column-gives : {code : ℕ} {read : Bool} {values validity tags keys indices : List ℕ} → code ≡ typeNumber (place .«data_type») → code ≤ 4
+      → StepsRead rule at count column code read tags keys → read ≡ true → values ≡ columnIn table place .values → validity ≡ columnIn table place .validity
+      → RowsIndexed (RowIndex (place .«data_type») values validity tags keys count) w n indices → ColumnGives rule at table column place count w n true indices
+  unfolding entryAt
+  column-gives {code} {read} {values} {validity} {tags} {keys} {indices} code-is small steps all values-is validity-is rows = record {
+    long = rows .long;
+    each = λ h q l.
+        let right = subst (λ (y : List ℕ). RowIndex (place .«data_type») (columnIn table place .values) y tags keys count q (getD indices q 0)) validity-is
+        (subst (λ (y : List ℕ). RowIndex (place .«data_type») y validity tags keys count q (getD indices q 0)) values-is (rows .each q l)) in
+        let index : EntryIndex tags keys count (typeNumber (place .«data_type»)) (entryAt (columnIn table place) q) (getD indices q 0) =
+        right .is (omega arith) (columnIn table place .offsets) in
+        let read-steps = subst (λ (y : ℕ). StepsAt rule at count column y tags keys) code-is (steps .steps all) in
+        record {
+          few = index-few read-steps (entryAt (columnIn table place) q) (getD indices q 0) index;
+          is = λ bs rest end depth row els trees counted p. branch-found read-steps bs rest end depth row els trees counted (entryAt (columnIn table place) q) (getD indices q 0) p index;
+        };
+  }
+
+-- ---- in a table
+
+module _ {rule : List ℕ} {at : ℕ} {table : List ℕ} {t : Table} {count : ℕ} {w : List ℕ} {n : ℕ} where
+  pub table-refused : {values : List ℕ} → length values ≡ 512 → StepsGive rule at table t count w n false values
+  table-refused e = record { long = e; each = λ h. absurd (false≢true h) }
+
+  pub table-gives : {A : Type 0} (f : ColumnPlace → A) {c : ℕ} {served : Bool} {values : List ℕ} → length (map f (t .columns)) ≡ 16 → c < min (t .count) 16
+      → ColumnGives rule at table c (getD (t .columns) c noPlace) count w n served values → StepsGive rule at table t count w n served values
+  table-gives f {c} long there g = record {
+    long = g .long;
+    each = λ h q l.
+        let x = g .each h q l in
+        record { few = x .few; is = λ bs rest end depth els trees counted. x .is bs rest end depth (rowIn table t q) els trees counted (cell-found f table t long c there q) };
+  }
