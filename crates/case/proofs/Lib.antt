@@ -28,6 +28,7 @@ pub mod ClearLaws
 pub mod TakeLaws
 pub mod MergeLaws
 pub mod CellLaws
+pub mod ColumnSlotLaws
 pub mod LookUpLaws
 pub mod LookUpTrees
 pub mod ResultLaws

@@ -9,7 +9,7 @@ use native.Mathlib.Omega.{arith}
 use lib.ListN.{length, take, drop, set, length-set}
 use lib.Seq.{sets, getD-set-same, getD-set-other, getD-drop, length-sets, drop-drop, take-all, take-nil}
 use Rattle.layout.specs.Bytes.{byte, number, numberAt, numberBytes}
-use Rattle.layout.proofs.NumberLaws.{number-split, number-two}
+use Rattle.layout.proofs.NumberLaws.{number-split}
 use Rattle.layout.proofs.BytesLaws.{length-numberBytes, number-numberBytes}
 use Rattle.scalar.specs.declared.value.Value.{Value}
 use Rattle.scalar.specs.Value.{kindOf, payloadOf, valueOf, Storable}
@@ -136,17 +136,6 @@ parts-put w r k p small room bits w′ e = subst (SlotPut w r (valueOf k p)) (sy
 -- a value's kind and payload keep it
 pub slot-put : {w : List ℕ} {r : ℕ} {v : Value} {w′ : List ℕ} {k p : ℕ} → Storable v → k ≡ kindOf v → p ≡ payloadOf v → SlotPut w r (valueOf k p) w′ → SlotPut w r v w′
 slot-put {w} {r} {v} {w′} stores a b s = subst (λ (x : Value). SlotPut w r x w′) (ap₂ valueOf a b ∙ payload-back v stores) s
-
--- four bytes at a place
-pub number-four : (w : List ℕ) (at : ℕ) → byte w at + 256 * (byte w (at + 1) + 256 * (byte w (at + 2) + 256 * byte w (at + 3))) ≡ numberAt 4 w at
-number-four w at =
-    let two : at + 1 + 1 ≡ at + 2 = omega arith in
-    let three : at + 2 + 1 ≡ at + 3 = omega arith in
-    let later : numberAt 2 w (at + 2) ≡ byte w (at + 2) + 256 * byte w (at + 3) =
-    sym (number-two w (at + 2)) ∙ ap (λ (k : ℕ). byte w (at + 2) + 256 * byte w k) three in
-    let second : numberAt 3 w (at + 1) ≡ byte w (at + 1) + 256 * numberAt 2 w (at + 2) =
-    number-step 2 w (at + 1) ∙ ap (λ (k : ℕ). byte w (at + 1) + 256 * numberAt 2 w k) two in
-    omega (arith, number-step 3 w at)
 
 -- the value of a slot's kind and the halves of its payload, and that it can be stored
 pub slot-got : (w : List ℕ) (at low high : ℕ) (v : Value) → (low ≡ numberAt 4 w (at + 1)) × (low < 2 ^ 32) → (high ≡ numberAt 4 w (at + 5)) × (high < 2 ^ 32)

@@ -10,6 +10,7 @@ pub mod Frame
 pub mod Choosing
 pub mod Parting
 pub mod Taking
+pub mod ColumnSlots
 pub mod LookUp
 pub mod LookUpTables
 pub mod LookUpBooleans

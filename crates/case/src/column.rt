@@ -1,26 +1,100 @@
 // The entries of a column in the slots of the listed rows.
 use crate::rows::row_at;
 use crate::slot::get_slot;
+use crate::slot::put_parts;
 use crate::slot::put_slot;
 use crate::truth::Truth;
 use crate::truth::truth_of;
+use layout::bits::bit_at;
+use layout::part::part_of;
+use rule::types::type_number;
+use scalar::types::DataType;
 use scalar::value::Value;
 use table::entry::entry_in;
+use table::entry::row_u32;
+use table::entry::row_u64;
+use table::entry::valid_at;
 use table::places::ColumnPlace;
 ghost use mathlib.Core.Path.{_≡_};
+ghost use mathlib.Core.Bool.{cond};
 ghost use mathlib.Core.List.{List};
 ghost use Prim.Native.Nat.{ℕ, _^_, _<_};
 ghost use lib.ListN.{length};
 ghost use Rattle.scalar.specs.Entry.{Entry, entry};
+ghost use Rattle.scalar.specs.Types.{typeNumber, markNumber};
 ghost use Rattle.scalar.specs.Value.{meaning, Storable};
 ghost use Rattle.rule.specs.Row.{isTrueTest, chosen};
-ghost use Rattle.table.specs.Column.{entryAt};
+ghost use Rattle.table.specs.Column.{validIn, entryAt};
 ghost use Rattle.table.specs.Places.{columnIn};
 ghost use Rattle.case.specs.Frame.{Fillable, Filled};
 ghost use Rattle.case.specs.Taking.{EntryRight, ColumnRight};
+ghost use Rattle.case.specs.ColumnSlots.{PayloadRight, NumberRight};
 
 // A column's entry in the slot of each listed row.
 pub(crate) fn fill_column(table: &[u8], place: ColumnPlace, work: &mut [u8], n: usize)
+    requires { ⌜ Fillable (now work) n ⌝ }
+    requires { ⌜ length (now table) < 2 ^ 32 ⌝ }
+    ensures { λ _. ⌜ Filled (EntryRight (now (table .entry)) place) (now (work .entry)) n (now (work .exit)) ⌝ }
+{
+    let kind = place.data_type;
+    match kind {
+        DataType::Utf8 => fill_texts(table, place, work, n),
+        _ => {
+            let validity = part_of(table, place.validity_start, place.validity_end);
+            let values = part_of(table, place.values_start, place.values_end);
+            fill_numbers(validity, values, kind, work, n);
+        }
+    }
+}
+
+// A mark as a payload.
+fn mark(b: bool) -> u64
+    ensures { λ r. ⌜ r ≡ markNumber b ⌝ }
+{
+    if b { 1 } else { 0 }
+}
+
+// The kind of a row's entry: its type's number, or that of null.
+fn kind_at(validity: &[u8], kind: DataType, row: usize) -> u8
+    ensures { λ r. ⌜ r ≡ cond (validIn (now (validity .entry)) row) (typeNumber kind) 0 ⌝ }
+{
+    if valid_at(validity, row) {
+        type_number(kind)
+    } else {
+        0
+    }
+}
+
+// The payload of a row's value, of any type but text.
+fn payload_at(values: &[u8], kind: DataType, row: usize) -> u64
+    ensures { λ r. ⌜ PayloadRight kind (now (values .entry)) row r ⌝ }
+{
+    match kind {
+        DataType::Boolean => mark(bit_at(values, row)),
+        DataType::Int32 => row_u32(values, row) as u64,
+        DataType::Int64 => row_u64(values, row),
+        DataType::Float64 => row_u64(values, row),
+        DataType::Utf8 => 0,
+    }
+}
+
+// The entry of a column, of any type but text, in the slot of each listed row. A null's payload is of no account.
+fn fill_numbers(validity: &[u8], values: &[u8], kind: DataType, work: &mut [u8], n: usize)
+    requires { ⌜ Fillable (now work) n ⌝ }
+    ensures { λ _. ⌜ Filled (NumberRight kind (now (validity .entry)) (now (values .entry))) (now (work .entry)) n (now (work .exit)) ⌝ }
+{
+    let mut i = 0;
+    while i < n {
+        let r = row_at(work, 0, i);
+        let k = kind_at(validity, kind, r);
+        let p = payload_at(values, kind, r);
+        put_parts(work, r, k, p);
+        i += 1;
+    }
+}
+
+// A column's text in the slot of each listed row.
+fn fill_texts(table: &[u8], place: ColumnPlace, work: &mut [u8], n: usize)
     requires { ⌜ Fillable (now work) n ⌝ }
     requires { ⌜ length (now table) < 2 ^ 32 ⌝ }
     ensures { λ _. ⌜ Filled (EntryRight (now (table .entry)) place) (now (work .entry)) n (now (work .exit)) ⌝ }

@@ -3,10 +3,10 @@ use mathlib.Core.Path.{_≡_, refl, sym, ap, _∙_}
 use mathlib.Core.Bool.{true, false}
 use mathlib.Core.List.{List, [], _∷_}
 use Prim.Native.Nat.{ℕ, zero, suc, _+_, _-_, _*_, _^_, _<_, _≤_}
-use native.Mathlib.Nat.{add-zero, zero-add, suc-add, pow-suc}
+use native.Mathlib.Nat.{add-zero, zero-add, suc-add, add-assoc, pow-suc}
 use native.Mathlib.Omega.{arith}
 use lib.ListN.{length, take, drop, length-drop, drop-of-length-le}
-use lib.Seq.{sets, take-all, take-nil, getD-drop}
+use lib.Seq.{sets, take-all, take-nil, getD-drop, drop-drop}
 use borrow.Author.Tests.{le-leb, lt-leb}
 use Rattle.layout.specs.Bytes.{byte, number, numberAt, numberBytes, Written}
 
@@ -37,6 +37,22 @@ number-two l at =
     let low : number (take 1 m) ≡ byte l at = number-byte m ∙ getD-drop at l 0 0 ∙ ap (byte l) (add-zero at) in
     let high : number (take 1 (drop 1 m)) ≡ byte l (at + 1) = number-byte (drop 1 m) ∙ getD-drop 1 m 0 0 ∙ getD-drop at l 1 0 in
     omega (arith, number-split 1 1 m)
+
+-- the number at a place is that of its lower bytes and, times 256 for each of them, that of the bytes behind them
+pub number-beside : (a b : ℕ) (l : List ℕ) (at : ℕ) → numberAt (a + b) l at ≡ numberAt a l at + 256 ^ a * numberAt b l (at + a)
+number-beside a b l at =
+    number-split a b (drop at l)
+    ∙ ap (λ (m : List ℕ). numberAt a l at + 256 ^ a * number (take b m)) (drop-drop a at l)
+
+-- four bytes at a place
+pub number-four : (l : List ℕ) (at : ℕ) → byte l at + 256 * (byte l (at + 1) + 256 * (byte l (at + 2) + 256 * byte l (at + 3))) ≡ numberAt 4 l at
+number-four l at =
+    let last : byte l (at + 2 + 1) ≡ byte l (at + 3) = ap (byte l) (add-assoc at 2 1) in
+    omega (arith, last, number-two l at, number-two l (at + 2), number-beside 2 2 l at)
+
+-- the number at a place, from the numbers of its halves
+pub number-whole : (k : ℕ) (l : List ℕ) (at low high : ℕ) → low ≡ numberAt k l at → high ≡ numberAt k l (at + k) → low + 256 ^ k * high ≡ numberAt (k + k) l at
+number-whole k l at low high p q = rw (p, q) (sym (number-beside k k l at))
 
 -- the number at a place, from the numbers of its halves: the upper one is read in what is left of the slice
 pub number-halves : (k : ℕ) (l : List ℕ) (at low high : ℕ) → low ≡ numberAt k l at → high ≡ numberAt k (take (length l - at) (drop at l)) k

@@ -12,19 +12,19 @@ pub fn place_text(bytes: &[u8], start: usize, size: usize) -> &[u8]
     part_of(rest, 0, size)
 }
 
-// Whether two texts are the same bytes.
+// Whether two texts are the same bytes. From the back: names often begin alike.
 pub fn same_bytes(a: &[u8], b: &[u8]) -> bool
     ensures { λ r. ⌜ r ≡ sameBytes (now (a .entry)) (now (b .entry)) ⌝ }
 {
     if a.len() != b.len() {
         return false;
     }
-    let mut i = 0;
-    while i < a.len() {
-        if a[i] != b[i] {
+    let mut left = a.len();
+    while 0 < left {
+        left -= 1;
+        if a[left] != b[left] {
             return false;
         }
-        i += 1;
     }
     true
 }

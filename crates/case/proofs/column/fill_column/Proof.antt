@@ -1,29 +1,20 @@
--- `fill_column` puts a column's entries in the slots of the listed rows. The loop's invariant: so far it is there.
-use Prim.Native.Nat.{_-_}
-use native.Mathlib.Omega.{arith}
-use Rattle.case.proofs.RowsLaws.{FilledSoFar, none-yet, ends, row-in, row-fits, next}
-use Rattle.case.specs.Taking.{EntryRight}
+-- `fill_column` goes by the column's type.
+use denote.Ref.{now}
+use borrow.Author.Needs.{needs}
+use Rattle.case.proofs.ColumnSlotLaws.{column-filled}
 use Rattle.case.proofs.column.fill_column.Statement.{statement}
 use Rattle.case.proofs.column.fill_column.Tie as tie
-
-abbrev Inv-loop : tie.InvT-loop
-Inv-loop table place work₀ n i₀ work i = FilledSoFar (EntryRight table place) work₀ n i work
-
-abbrev μ-loop : tie.MeasureT-loop
-μ-loop table place work₀ n i₀ work i = n - i
 
 pub fill-column-spec : {M : Type 1} → statement M
 fill-column-spec =
     tie.close
     (tie.spec
-    Inv-loop
-    μ-loop
-    (λ c. none-yet)
-    (λ c κs. row-in (c .before .before .loop .inv) (c .before .before .before .before .before .pre .0) (c .before .loop-test .taken))
-    (λ c κs. tt)
-    (λ c κs. (row-fits (c .before .before .before .before .before .loop .inv) (c .before .before .before .before .before .before .before .before .pre .0) (c .before .before .before .before .loop-test .taken) (c .before .before .row-at .ensures), c .before .entry-in .ensures .stores (c .before .before .before .before .before .before .before .before .pre .1)))
-    (λ c. omega arith)
-    (λ c. omega arith)
-    (λ c. next (c .before .before .before .before .before .before .before .before .loop .inv) (c .before .before .before .before .before .before .before .before .before .before .before .pre .0) (c .before .before .before .before .before .before .before .loop-test .taken) (c .before .before .before .before .before .row-at .ensures) (c .before .before .put-slot .ensures) (c .before .before .before .before .entry-in .ensures .says))
-    (λ c. c .before .loop .inv .done .long)
-    (λ c. ends (c .before .loop .inv) (omega arith)))
+    (λ c. search needs)
+    (λ c κs. search needs)
+    (λ c κs. search needs)
+    (λ c κs. search needs)
+    (λ c κs. search needs)
+    (λ c. search needs)
+    (λ c. search needs)
+    (λ c. search needs)
+    (λ c. column-filled (now (c .before .before .before .before .before .before .before .before .before .args .table)) (c .before .before .before .before .before .before .before .before .before .args .place) (now (c .before .before .before .before .before .part-of .result)) (now (c .before .before .before .before .part-of2 .result)) (c .before .before .before .before .before .part-of .ensures) (c .before .before .before .before .part-of2 .ensures) (c .before .before .before .before .before .before .match .keys2) (c .before .before .fill-numbers .ensures)))

@@ -1,7 +1,7 @@
 -- `word` adds up the bytes of a number.
 use native.Mathlib.Omega.{arith}
 use denote.Ref.{now}
-use Rattle.case.proofs.SlotLaws.{number-four}
+use Rattle.layout.proofs.NumberLaws.{number-four}
 use borrow.Author.Needs.{needs}
 use Rattle.case.proofs.slot.word.Statement.{statement}
 use Rattle.case.proofs.slot.word.Tie as tie

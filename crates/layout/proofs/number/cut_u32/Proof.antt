@@ -1,13 +1,13 @@
--- `read_u32` gives the number of the four bytes at a place, from the numbers of its halves. Assumes nothing.
+-- `cut_u32` gives the number of the four bytes at a place, from the numbers of its halves. Assumes nothing.
 use mathlib.Core.Path.{sym, _∙_}
 use denote.Ref.{now}
 use borrow.Author.Needs.{needs}
 use Rattle.layout.proofs.NumberLaws.{number-halves, number-behind}
-use Rattle.layout.proofs.number.read_u32.Statement.{statement}
-use Rattle.layout.proofs.number.read_u32.Tie as tie
+use Rattle.layout.proofs.number.cut_u32.Statement.{statement}
+use Rattle.layout.proofs.number.cut_u32.Tie as tie
 
-pub read-u32-spec : {M : Type 1} → statement M
-read-u32-spec =
+pub cut-u32-spec : {M : Type 1} → statement M
+cut-u32-spec =
     tie.close
     (tie.spec
     (λ c κs. search needs)

@@ -1,13 +1,13 @@
--- `read_u64` gives the number of the eight bytes at a place, from the numbers of its halves. Assumes nothing.
+-- `cut_u64` gives the number of the eight bytes at a place, from the numbers of its halves. Assumes nothing.
 use mathlib.Core.Path.{sym, _∙_}
 use denote.Ref.{now}
 use borrow.Author.Needs.{needs}
 use Rattle.layout.proofs.NumberLaws.{number-halves, number-behind}
-use Rattle.layout.proofs.number.read_u64.Statement.{statement}
-use Rattle.layout.proofs.number.read_u64.Tie as tie
+use Rattle.layout.proofs.number.cut_u64.Statement.{statement}
+use Rattle.layout.proofs.number.cut_u64.Tie as tie
 
-pub read-u64-spec : {M : Type 1} → statement M
-read-u64-spec =
+pub cut-u64-spec : {M : Type 1} → statement M
+cut-u64-spec =
     tie.close
     (tie.spec
     (λ c κs. search needs)
