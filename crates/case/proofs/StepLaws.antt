@@ -28,7 +28,7 @@ use Rattle.rule.specs.Row.{Row, isTrueTest, chosen, eval, evalBranches}
 use Rattle.rule.specs.Node.{NodeAt}
 use Rattle.rule.specs.Walks.{branchTrees, childrenOf, TreesAt, EndGives, ChildrenGives, BehindGives, LiteralGives}
 use Rattle.rule.proofs.NodeLaws.{Tagged, ofColumn, ofLiteral, ofNegation, ofNegative, ofIsNotNull, ofCast, ofTryCast, ofEqual, ofLess, ofCase, node-byte, trees-one}
-use Rattle.rule.proofs.WalkLaws.{node-of-tag, first-tree, first-two}
+use Rattle.rule.proofs.WalkLaws.{node-of-tag, first-tree}
 use Rattle.table.specs.declared.places.ColumnPlace.{ColumnPlace}
 use Rattle.table.specs.declared.places.Table.{Table}
 use Rattle.table.specs.Column.{validIn, valueAt, entryAt}
@@ -40,7 +40,7 @@ use Rattle.case.specs.Taking.{comparison}
 use Rattle.case.specs.Evaluation.{rowIn, resultAt, indexed}
 use Rattle.case.specs.Steps.{StepsGive, noStep, stepOf, StepWhen, StepGives, whenAt, StepsAt, StepsRead, stepPasses, stepIndex, EntryIndex, KeyAt, RowIndex, RowsIndexed, ColumnGives}
 use Rattle.case.proofs.LookUpLaws.{found-none, found-below}
-use Rattle.case.proofs.ChooseLaws.{last-two}
+use Rattle.case.proofs.BranchLaws.{behind-none, behind-two}
 use Rattle.case.proofs.CellLaws.{cell-found}
 
 -- ---- one step
@@ -156,13 +156,9 @@ steps-none {rule} {at} t k small = record {
   small = small;
   tags-long = t;
   keys-long = k;
-  behind = record { stand = none-behind; onward = omega arith };
+  behind = behind-none (2 * 0) refl;
   each = λ bs rest end depth trees n k h. absurd (omega arith);
 }
-  where
-    none-behind : (end : ℕ) (es rest : List Expr) (depth : ℕ) → length es ≡ 2 * 0 → TreesAt rule at end (es ++ rest) depth → TreesAt rule at end rest depth
-    none-behind end [] rest depth p trees = trees
-    none-behind end (e ∷ es) rest depth p trees = absurd (omega arith)
 
 module _ {rule : List ℕ} {at count column kind place i : ℕ} {tags keys : List ℕ} (s : StepsSoFar rule at count column kind place i tags keys) where
   -- one more
@@ -173,16 +169,10 @@ module _ {rule : List ℕ} {at count column kind place i : ℕ} {tags keys : Lis
     small = s .small;
     tags-long = length-set tags i (x .tag) ∙ s .tags-long;
     keys-long = length-set keys i (x .key) ∙ s .keys-long;
-    behind = record { stand = next-behind; onward = (let h = s .behind .onward in let m = to-then .onward in let k = to-next .onward in omega arith) };
+    behind = behind-two (2 * i) (2 * (i + 1)) (omega arith) (s .behind) to-then to-next;
     each = λ bs rest end depth trees n k h. go bs rest end depth trees n k h (ℕ-discrete k i);
   }
     where
-      next-behind : (end : ℕ) (es rest : List Expr) (depth : ℕ) → length es ≡ 2 * (i + 1) → TreesAt rule at end (es ++ rest) depth → TreesAt rule next end rest depth
-      next-behind end es rest depth p trees =
-          let (first, a, b, f, g) = last-two es (2 * i) (omega arith) in
-          let moved = subst (λ (l : List Expr). TreesAt rule at end l depth) (ap (λ (l : List Expr). l ++ rest) g ∙ append-assoc first (a ∷ b ∷ []) rest) trees in
-          first-two to-then to-next (s .behind .stand end first (a ∷ b ∷ rest) depth f moved) .2
-
       here : (bs : Branches) (rest : List Expr) (end depth : ℕ) → TreesAt rule at end (branchTrees bs ++ rest) depth → branchCount bs ≡ count → StepWhen (x .tag) column kind (x .key) (whenAt bs i)
       here bs rest end depth trees n =
           let (before, later, many, is) = when-tree i bs (omega arith) in
