@@ -38,7 +38,7 @@ use Rattle.case.specs.Frame.{rowAt, Rows, Listed}
 use Rattle.case.specs.LookUpTables.{found}
 use Rattle.case.specs.Taking.{comparison}
 use Rattle.case.specs.Evaluation.{rowIn, resultAt, indexed}
-use Rattle.case.specs.Steps.{StepsGive, noStep, stepOf, StepWhen, StepGives, whenAt, StepsAt, StepsRead, stepPasses, stepIndex, EntryIndex, KeyAt, RowIndex, RowsIndexed, ColumnGives}
+use Rattle.case.specs.Steps.{StepsGive, noStep, stepOf, StepWhen, StepGives, whenAt, StepsAt, StepsRead, stepPasses, stepIndex, EntryIndex, KeyAt, RowIndex, RowsIndexed, ColumnGives, WhenIndex, StepRow, StepRows, WhenGives}
 use Rattle.case.proofs.LookUpLaws.{found-none, found-below}
 use Rattle.case.proofs.BranchLaws.{behind-none, behind-two}
 use Rattle.case.proofs.CellLaws.{cell-found}
@@ -261,29 +261,29 @@ module _ {kind : DataType} {values : List ℕ} {row : ℕ} where
       );
     }
 
--- the index of each listed row
-module _ {right : ℕ → ℕ → Type 0} {w : List ℕ} {indices : List ℕ} where
-  pub indices-none : length indices ≡ 512 → RowsIndexed right w 0 indices
+-- the index of each row of a list
+module _ {right : ℕ → ℕ → Type 0} {w : List ℕ} {at : ℕ} {indices : List ℕ} where
+  pub indices-none : length indices ≡ 512 → RowsIndexed right w at 0 indices
   indices-none e = record { long = e; each = λ q l. absurd (let h = l .1 in omega arith) }
 
-  pub indices-more : {i n r c : ℕ} → RowsIndexed right w i indices → Rows w 0 n 512 → i < n → r ≡ rowAt w 0 i → right r c → RowsIndexed right w (i + 1) (set indices r c)
+  pub indices-more : {i n r c : ℕ} → RowsIndexed right w at i indices → Rows w at n 512 → i < n → r ≡ rowAt w at i → right r c → RowsIndexed right w at (i + 1) (set indices r c)
   indices-more {i} {n} {r} {c} s rows more is here = record { long = length-set indices r c ∙ s .long; each = λ q l. go q l (ℕ-discrete q r) }
     where
       room : r < length indices
       room = omega (arith, rows .below i more, s .long)
 
-      go : (q : ℕ) → Listed w 0 (i + 1) q → Dec (q ≡ r) → right q (getD (set indices r c) q 0)
+      go : (q : ℕ) → Listed w at (i + 1) q → Dec (q ≡ r) → right q (getD (set indices r c) q 0)
       go q l (yes e) = subst (λ (y : ℕ). right y (getD (set indices r c) y 0)) (sym e) (subst (right r) (sym (getD-set-same indices r c 0 room)) here)
       go q (j, h, p) (no d) = subst (right q) (sym (getD-set-other indices r q c 0 d)) (s .each q (j, earlier (ℕ-discrete j i), p))
         where
           earlier : Dec (j ≡ i) → j < i
-          earlier (yes e) = absurd (d (sym p ∙ ap (rowAt w 0) e ∙ sym is))
+          earlier (yes e) = absurd (d (sym p ∙ ap (rowAt w at) e ∙ sym is))
           earlier (no f) = omega arith
 
-  pub indices-room : {i n r : ℕ} → RowsIndexed right w i indices → Rows w 0 n 512 → i < n → r ≡ rowAt w 0 i → r < length indices
+  pub indices-room : {i n r : ℕ} → RowsIndexed right w at i indices → Rows w at n 512 → i < n → r ≡ rowAt w at i → r < length indices
   indices-room {i} s rows more is = omega (arith, rows .below i more, s .long)
 
-  pub indices-all : {i n : ℕ} → RowsIndexed right w i indices → n ≤ i → RowsIndexed right w n indices
+  pub indices-all : {i n : ℕ} → RowsIndexed right w at i indices → n ≤ i → RowsIndexed right w at n indices
   indices-all s h = record { long = s .long; each = λ q l. s .each q (l .0, (let k = l .1 in omega arith), l .2) }
 
 -- ---- the branch of an index
@@ -396,7 +396,7 @@ module _ {rule : List ℕ} {at : ℕ} {table : List ℕ} {column : ℕ} {place :
 
   pub column-gives : {code : ℕ} {read : Bool} {values validity tags keys indices : List ℕ} → code ≡ typeNumber (place .«data_type») → code ≤ 4
       → StepsRead rule at count column code read tags keys → read ≡ true → values ≡ columnIn table place .values → validity ≡ columnIn table place .validity
-      → RowsIndexed (RowIndex (place .«data_type») values validity tags keys count) w n indices → ColumnGives rule at table column place count w n true indices
+      → RowsIndexed (RowIndex (place .«data_type») values validity tags keys count) w 0 n indices → ColumnGives rule at table column place count w n true indices
   unfolding entryAt
   column-gives {code} {read} {values} {validity} {tags} {keys} {indices} code-is small steps all values-is validity-is rows = record {
     long = rows .long;
@@ -425,4 +425,46 @@ module _ {rule : List ℕ} {at : ℕ} {table : List ℕ} {t : Table} {count : �
     each = λ h q l.
         let x = g .each h q l in
         record { few = x .few; is = λ bs rest end depth els trees counted. x .is bs rest end depth (rowIn table t q) els trees counted (cell-found f table t long c there q) };
+  }
+
+-- ---- one WHEN
+
+-- the index by one step, at a row that has the entry in the step's column
+one-step : {tag column kind key : ℕ} {e : Expr} (tags keys : List ℕ) → StepWhen tag column kind key e → getD tags 0 0 ≡ tag → getD keys 0 0 ≡ key → (row : Row) (x : Entry) (c : ℕ) → row column ≡ entry x
+    → EntryIndex tags keys 1 kind x c → WhenIndex e row c
+unfolding found
+one-step tags keys s tag-is key-is row x c p (inl (null-is, c-is)) =
+    let y = says-null s row (p ∙ ap entry null-is) in
+    record { value = y .value; is = y .is; index = c-is ∙ sym (ap (λ (b : Bool). cond b 1 2) (y .truth)) }
+one-step tags keys s tag-is key-is row x c p (inr (n, numbered, c-is)) =
+    let y = says-number s row x p numbered in
+    record { value = y .value; is = y .is; index = c-is ∙ ap₂ (λ (a b : ℕ). cond (stepPasses a b n) 1 2) tag-is key-is ∙ sym (ap (λ (b : Bool). cond b 1 2) (y .truth)) }
+
+module _ {s : Step} {table : List ℕ} {place : ColumnPlace} {w : List ℕ} {at n : ℕ} where
+  pub step-refused : {values : List ℕ} → length values ≡ 512 → StepRows s table place w at n false values
+  step-refused e = record { long = e; each = λ h. absurd (false≢true h) }
+
+  pub step-gives : {code : ℕ} {values validity tags keys indices : List ℕ} → code ≡ typeNumber (place .«data_type») → code ≤ 4 → s .kind ≡ code → getD tags 0 0 ≡ s .tag → getD keys 0 0 ≡ s .key
+      → values ≡ columnIn table place .values → validity ≡ columnIn table place .validity
+      → RowsIndexed (RowIndex (place .«data_type») values validity tags keys 1) w at n indices → StepRows s table place w at n true indices
+  unfolding entryAt
+  step-gives {code} {values} {validity} {tags} {keys} {indices} code-is small kind-is tag-is key-is values-is validity-is rows = record {
+    long = rows .long;
+    each = λ h q l.
+        let right = subst (λ (y : List ℕ). RowIndex (place .«data_type») (columnIn table place .values) y tags keys 1 q (getD indices q 0)) validity-is
+        (subst (λ (y : List ℕ). RowIndex (place .«data_type») y validity tags keys 1 q (getD indices q 0)) values-is (rows .each q l)) in
+        let index : EntryIndex tags keys 1 (s .kind) (entryAt (columnIn table place) q) (getD indices q 0) =
+        subst (λ (y : ℕ). EntryIndex tags keys 1 y (entryAt (columnIn table place) q) (getD indices q 0)) (sym (kind-is ∙ code-is)) (right .is (omega arith) (columnIn table place .offsets)) in
+        record { is = λ e row step p. one-step tags keys step tag-is key-is row (entryAt (columnIn table place) q) (getD indices q 0) p index };
+  }
+
+module _ {rule : List ℕ} {start end : ℕ} {table : List ℕ} {t : Table} {w : List ℕ} {at n : ℕ} where
+  pub when-refused : {values : List ℕ} → length values ≡ 512 → WhenGives rule start end table t w at n false values
+  when-refused e = record { long = e; each = λ h. absurd (false≢true h) }
+
+  pub when-gives : {A : Type 0} (f : ColumnPlace → A) {s : Step} {served : Bool} {values : List ℕ} → StepGives rule start end s → (s .tag ≡ 0 → ⊥) → length (map f (t .columns)) ≡ 16
+      → s .column < min (t .count) 16 → StepRows s table (getD (t .columns) (s .column) noPlace) w at n served values → WhenGives rule start end table t w at n served values
+  when-gives f {s} step some long there g = record {
+    long = g .long;
+    each = λ h q l e depth node. g .each h q l .is e (rowIn table t q) (step .is some e depth node) (cell-found f table t long (s .column) there q);
   }

@@ -5,6 +5,7 @@ use mathlib.Core.Bool.{Bool, true, false, cond}
 use mathlib.Core.List.{List}
 use mathlib.Core.Option.{Option, some, none}
 use Prim.Native.Nat.{ℕ, _<_, _≤_}
+use lib.Dec.{eqb}
 use lib.ListN.{length, getD}
 use Rattle.layout.specs.Bytes.{byte}
 use Rattle.scalar.specs.declared.value.Value.{Value}
@@ -38,6 +39,10 @@ classAt NullBase rule table w index failed r = leaving nullOutcome index failed 
 classAt TrueWhen rule table w index failed r = leaving trueOutcome index failed (meaning rule table (nextSlot w r))
 classAt EqualWhen rule table w index failed r = leaving trueOutcome index failed (onEntries equalEntry (meaning rule table (slotAt w r)) (meaning rule table (nextSlot w r)))
 classAt Rest rule table w index failed r = index
+
+-- the same by the index of its WHEN, which is 1 where that is true
+abbrev pub classBy : List ℕ → ℕ → ℕ → ℕ
+classBy whens index r = cond (eqb (getD whens r 0) 1) index 0
 
 -- what a builder holds for a row
 abbrev pub heldBy : ResultBuilder → ℕ → Option ℕ

@@ -11,7 +11,7 @@ use Rattle.scalar.specs.declared.types.DataType.the-variants.{Boolean}
 use Rattle.scalar.specs.declared.order.Key.{Key}
 use Rattle.scalar.specs.declared.order.Key.the-variants as Keys
 use Rattle.scalar.specs.Types.{typeNumber}
-use Rattle.scalar.specs.Entry.{Entry, null, Outcome, entry, onEntries}
+use Rattle.scalar.specs.Entry.{Entry, null, isTrue, Outcome, entry, onEntries}
 use Rattle.scalar.specs.Order.{Numbered}
 use Rattle.rule.specs.Tree.{Expr, literal, Branches, noMore, branch, branchCount}
 use Rattle.rule.specs.Row.{Row, isTrueTest, eval, evalBranches}
@@ -102,10 +102,10 @@ pub record KeyAt (kind : DataType) (values : List ℕ) (row x : ℕ) : Type 0 wh
 pub record RowIndex (kind : DataType) (values validity tags keys : List ℕ) (count row c : ℕ) : Type 0 where
   pub is : typeNumber kind ≤ 4 → (offsets : List ℕ) → EntryIndex tags keys count (typeNumber kind) (cond (validIn validity row) (valueAt kind offsets values row) null) c
 
--- the index of each listed row is right
-pub record RowsIndexed (right : ℕ → ℕ → Type 0) (w : List ℕ) (n : ℕ) (indices : List ℕ) : Type 0 where
+-- the index of each row of the list at a place is right
+pub record RowsIndexed (right : ℕ → ℕ → Type 0) (w : List ℕ) (at n : ℕ) (indices : List ℕ) : Type 0 where
   pub long : length indices ≡ 512
-  pub each : (q : ℕ) → Listed w 0 n q → right q (getD indices q 0)
+  pub each : (q : ℕ) → Listed w at n q → right q (getD indices q 0)
 
 -- the index that whatever branches stand at a place give a row that has in a column what the table has there
 pub record ColumnIndex (rule : List ℕ) (at : ℕ) (table : List ℕ) (column : ℕ) (place : ColumnPlace) (count q c : ℕ) : Type 0 where
@@ -117,3 +117,24 @@ pub record ColumnIndex (rule : List ℕ) (at : ℕ) (table : List ℕ) (column :
 pub record ColumnGives (rule : List ℕ) (at : ℕ) (table : List ℕ) (column : ℕ) (place : ColumnPlace) (count : ℕ) (w : List ℕ) (n : ℕ) (served : Bool) (values : List ℕ) : Type 0 where
   pub long : length values ≡ 512
   pub each : served ≡ true → (q : ℕ) → Listed w 0 n q → ColumnIndex rule at table column place count q (getD values q 0)
+
+-- ---- one WHEN
+
+-- the index of a row by a WHEN: 1 where it is true, 2 where it is not
+pub record WhenIndex (e : Expr) (row : Row) (c : ℕ) : Type 0 where
+  pub value : Entry
+  pub is : eval e row ≡ entry value
+  pub index : c ≡ cond (isTrue value) 1 2
+
+-- by whatever WHEN is this step, at a row that has in the column what the table has there
+pub record StepRow (s : Step) (table : List ℕ) (place : ColumnPlace) (q c : ℕ) : Type 0 where
+  pub is : (e : Expr) (row : Row) → StepWhen (s .tag) (s .column) (s .kind) (s .key) e → row (s .column) ≡ entry (entryAt (columnIn table place) q) → WhenIndex e row c
+
+pub record StepRows (s : Step) (table : List ℕ) (place : ColumnPlace) (w : List ℕ) (at n : ℕ) (served : Bool) (indices : List ℕ) : Type 0 where
+  pub long : length indices ≡ 512
+  pub each : served ≡ true → (q : ℕ) → Listed w at n q → StepRow s table place q (getD indices q 0)
+
+-- by whatever WHEN stands at a place of the rule, at each row of a list
+pub record WhenGives (rule : List ℕ) (start end : ℕ) (table : List ℕ) (t : Table) (w : List ℕ) (at n : ℕ) (served : Bool) (values : List ℕ) : Type 0 where
+  pub long : length values ≡ 512
+  pub each : served ≡ true → (q : ℕ) → Listed w at n q → (e : Expr) (depth : ℕ) → NodeAt rule start end e depth → WhenIndex e (rowIn table t q) (getD values q 0)

@@ -10,14 +10,16 @@ use scalar::compare::equal;
 use scalar::value::Value;
 use scalar::value::kind;
 ghost use mathlib.Core.Path.{_≡_};
+ghost use mathlib.Core.Bool.{true};
 ghost use mathlib.Core.List.{List};
 ghost use mathlib.Core.Option.{none};
 ghost use Prim.Native.Nat.{ℕ, _<_, _≤_};
 ghost use lib.ListN.{length, getD};
 ghost use Rattle.scalar.specs.Value.{meaning};
+ghost use Rattle.case.specs.declared.settle.Leave.the-variants.{TrueWhen};
 ghost use Rattle.case.specs.Builder.{orElse};
 ghost use Rattle.case.specs.Frame.{Rows};
-ghost use Rattle.case.specs.Choosing.{leaving, nullOutcome, trueOutcome, classAt, heldBy, Open, Settles};
+ghost use Rattle.case.specs.Choosing.{leaving, nullOutcome, trueOutcome, classAt, classBy, heldBy, Open, Settles};
 ghost use Rattle.case.specs.Parting.{Parted, PartAsks, PartGives};
 
 // When a row leaves: its base is null, its WHEN is true, its WHEN equals its base, or always.
@@ -173,6 +175,80 @@ pub(crate) fn settle(
         &mut rows,
         &mut values,
     );
+    let builder = add_part(b, &rows[..m], &values[..m]);
+    Settled {
+        left: left - m,
+        builder,
+    }
+}
+
+// Whether a row leaves where its WHEN is true.
+pub(crate) fn asks_true(how: Leave) -> bool
+    ensures { λ r. ⌜ (r ≡ true → how ≡ TrueWhen) ⌝ }
+{
+    match how {
+        Leave::NullBase => false,
+        Leave::TrueWhen => true,
+        Leave::EqualWhen => false,
+        Leave::Rest => false,
+    }
+}
+
+// The index with which a row leaves by its WHEN's index, 0 where it stays.
+fn class_by(whens: &[u16], index: u16, row: usize) -> u16
+    requires { ⌜ (row < 512) × (512 ≤ length (now whens)) ⌝ }
+    ensures { λ r. ⌜ r ≡ classBy (now (whens .entry)) index row ⌝ }
+{
+    if whens[row] == 1 { index } else { 0 }
+}
+
+// The rows of the open list whose WHEN has index 1, with the branch's index: how many they are. The others stay in it.
+fn split_by(
+    work: &mut [u8],
+    left: usize,
+    whens: &[u16],
+    index: u16,
+    rows: &mut [u16],
+    values: &mut [u16],
+) -> usize
+    requires { ⌜ Rows (now work) 5632 left 512 ⌝ }
+    requires { ⌜ (12288 ≤ length (now work)) × (512 ≤ length (now rows)) × (512 ≤ length (now values)) ⌝ }
+    requires { ⌜ 512 ≤ length (now whens) ⌝ }
+    ensures { λ m. ⌜ Parted (classBy (now (whens .entry)) index) (now (work .entry)) left m (now (rows .exit)) (now (values .exit)) (now (work .exit)) ⌝ }
+{
+    let mut m = 0;
+    let mut i = 0;
+    while i < left {
+        let r = row_at(work, 5632, i);
+        let class = class_by(whens, index, r);
+        if class == 0 {
+            put_row(work, 5632, i - m, r);
+        } else {
+            rows[m] = r as u16;
+            values[m] = class;
+            m += 1;
+        }
+        i += 1;
+    }
+    m
+}
+
+// The rows of the open list whose WHEN has index 1 are held with the branch's index, the others stay in it.
+pub(crate) fn settle_by(
+    work: &mut [u8],
+    left: usize,
+    whens: &[u16],
+    index: u16,
+    b: ResultBuilder,
+) -> Settled
+    requires { ⌜ Open b (now work) left (b .rows) ⌝ }
+    requires { ⌜ (12288 ≤ length (now work)) × (512 ≤ length (now whens)) ⌝ }
+    requires { ⌜ 0 < index ⌝ }
+    ensures { λ r. ⌜ Settles (classBy (now (whens .entry)) index) (now (work .entry)) left (b .rows) b r (now (work .exit)) ⌝ }
+{
+    let mut rows = [0u16; 512];
+    let mut values = [0u16; 512];
+    let m = split_by(work, left, whens, index, &mut rows, &mut values);
     let builder = add_part(b, &rows[..m], &values[..m]);
     Settled {
         left: left - m,

@@ -20,10 +20,10 @@ use table::entry::valid_at;
 use table::places::ColumnPlace;
 use table::places::Table;
 ghost use mathlib.Core.Path.{_≡_};
-ghost use Prim.Native.Nat.{_*_, _≤_};
+ghost use Prim.Native.Nat.{_+_, _*_, _≤_};
 ghost use lib.ListN.{length};
 ghost use Rattle.case.specs.Frame.{Rows};
-ghost use Rattle.case.specs.Steps.{StepsGive, noStep, stepOf, StepGives, StepsRead, stepPasses, stepIndex, KeyAt, RowIndex, RowsIndexed, ColumnGives};
+ghost use Rattle.case.specs.Steps.{StepsGive, noStep, stepOf, StepGives, StepsRead, stepPasses, stepIndex, KeyAt, RowIndex, RowsIndexed, ColumnGives, StepRows, WhenGives};
 
 // Most branches of a CASE.
 const BRANCHES_MOST: u8 = 32;
@@ -182,7 +182,7 @@ fn row_index(
     step_index(tags, keys, count, key_at(kind, values, row))
 }
 
-// The index of each listed row.
+// The index of each row of the list at a place.
 fn index_rows(
     kind: DataType,
     values: &[u8],
@@ -191,17 +191,18 @@ fn index_rows(
     keys: &[u64],
     count: usize,
     work: &[u8],
+    at: usize,
     n: usize,
     indices: &mut [u16],
 )
     requires { ⌜ (length (now tags) ≡ 32) × (length (now keys) ≡ 32) × (count ≤ 32) ⌝ }
-    requires { ⌜ Rows (now work) 0 n 512 × (2 * n ≤ length (now work)) ⌝ }
+    requires { ⌜ Rows (now work) at n 512 × (at + 2 * n ≤ length (now work)) ⌝ }
     requires { ⌜ length (now indices) ≡ 512 ⌝ }
-    ensures { λ _. ⌜ RowsIndexed (RowIndex kind (now (values .entry)) (now (validity .entry)) (now (tags .entry)) (now (keys .entry)) count) (now (work .entry)) n (now (indices .exit)) ⌝ }
+    ensures { λ _. ⌜ RowsIndexed (RowIndex kind (now (values .entry)) (now (validity .entry)) (now (tags .entry)) (now (keys .entry)) count) (now (work .entry)) at n (now (indices .exit)) ⌝ }
 {
     let mut i = 0;
     while i < n {
-        let r = row_at(work, 0, i);
+        let r = row_at(work, at, i);
         indices[r] = row_index(kind, values, validity, tags, keys, count, r);
         i += 1;
     }
@@ -247,6 +248,7 @@ fn column_steps(
         &keys,
         whens,
         work,
+        0,
         n,
         indices,
     );
@@ -278,4 +280,79 @@ pub(crate) fn step_values(
     }
     let place = t.columns[c];
     column_steps(rule, at, count, table, first.column, place, work, n, values)
+}
+
+// The index of each row of the list at a place of the work buffer, by a step on the column at a place of the table: 1 where it passes, 2 where it doesn't; where
+// the column is of the step's kind.
+fn column_step(
+    s: Step,
+    table: &[u8],
+    place: ColumnPlace,
+    work: &[u8],
+    at: usize,
+    n: usize,
+    indices: &mut [u16],
+) -> bool
+    requires { ⌜ Rows (now work) at n 512 × (at + 2 * n ≤ length (now work)) ⌝ }
+    requires { ⌜ length (now indices) ≡ 512 ⌝ }
+    ensures { λ r. ⌜ StepRows s (now (table .entry)) place (now (work .entry)) at n r (now (indices .exit)) ⌝ }
+{
+    let kind = place.data_type;
+    let code = type_number(kind);
+    if 4 < code {
+        return false;
+    }
+    if s.kind != code {
+        return false;
+    }
+    let mut tags = [0u8; 32];
+    let mut keys = [0u64; 32];
+    tags[0] = s.tag;
+    keys[0] = s.key;
+    let values = part_of(table, place.values_start, place.values_end);
+    let validity = part_of(table, place.validity_start, place.validity_end);
+    index_rows(
+        kind,
+        values,
+        validity,
+        &tags,
+        &keys,
+        1,
+        work,
+        at,
+        n,
+        indices,
+    );
+    true
+}
+
+// The same by the WHEN at a place of the rule, where it is a step on a column of the table: 1 where it is true, 2 where it is not.
+pub(crate) fn step_when(
+    rule: &[u8],
+    start: usize,
+    end: usize,
+    table: &[u8],
+    t: Table,
+    work: &[u8],
+    at: usize,
+    n: usize,
+    values: &mut [u16],
+) -> bool
+    requires { ⌜ Rows (now work) at n 512 × (at + 2 * n ≤ length (now work)) ⌝ }
+    requires { ⌜ length (now values) ≡ 512 ⌝ }
+    ensures { λ r. ⌜ WhenGives (now (rule .entry)) start end (now (table .entry)) t (now (work .entry)) at n r (now (values .exit)) ⌝ }
+{
+    let s = step_at(rule, start, end);
+    if s.tag == 0 {
+        return false;
+    }
+    let c = s.column as usize;
+    if t.count <= c {
+        return false;
+    }
+    if 16 <= c {
+        return false;
+    }
+    let place = t.columns[c];
+    column_step(s, table, place, work, at, n, values)
 }

@@ -21,6 +21,6 @@ column-steps-spec =
     (λ c κs. search needs)
     (λ c. search needs)
     (λ c. search needs)
-    (λ c κs. search needs)
+    (λ c κs. let p = c .before .before .before .before .before .before .before .before .before .before .before .before .before .before .before .before .before .before .pre in let r = c .before .before .before .before .before .before .before .before .read-steps .ensures in ((r .tags-long, r .keys-long, omega arith), ((p .0 .0, omega (arith, p .0 .1)), p .1)))
     (λ c. search needs)
     (λ c. column-gives (c .before .before .before .before .before .before .before .before .before .before .before .before .before .before .before .type-number .ensures) (omega (arith, c .before .before .before .before .before .before .before .before .before .before .before .before .before .before .if2 .left)) (c .before .before .before .before .before .before .before .before .before .before .before .read-steps .ensures) (not-false _ (c .before .before .before .before .before .before .before .before .if3 .left)) (c .before .before .before .before .before .before .before .part-of .ensures) (c .before .before .before .before .before .before .part-of2 .ensures) (c .before .before .index-rows .ensures)))

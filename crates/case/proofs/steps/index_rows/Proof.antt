@@ -8,10 +8,10 @@ use Rattle.case.proofs.steps.index_rows.Statement.{statement}
 use Rattle.case.proofs.steps.index_rows.Tie as tie
 
 abbrev Inv-loop : tie.InvT-loop
-Inv-loop kind values validity tags keys count work n indices₀ i₀ indices i = RowsIndexed (RowIndex kind values validity tags keys count) work i indices
+Inv-loop kind values validity tags keys count work at n indices₀ i₀ indices i = RowsIndexed (RowIndex kind values validity tags keys count) work at i indices
 
 abbrev μ-loop : tie.MeasureT-loop
-μ-loop kind values validity tags keys count work n indices₀ i₀ indices i = n - i
+μ-loop kind values validity tags keys count work at n indices₀ i₀ indices i = n - i
 
 pub index-rows-spec : {M : Type 1} → statement M
 index-rows-spec =
