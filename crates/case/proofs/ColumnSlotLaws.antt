@@ -1,8 +1,8 @@
--- The entries of a column that isn't of text, in slots. Assumes nothing.
+-- The entries of a column in slots. Assumes nothing.
 use mathlib.Core.Path.{_≡_, refl, sym, ap, subst, _∙_}
 use mathlib.Core.Bool.{Bool, true, false, cond}
 use mathlib.Core.List.{List, [], _∷_}
-use Prim.Native.Nat.{ℕ, _*_, _^_, _<_, _%_}
+use Prim.Native.Nat.{ℕ, _+_, _*_, _^_, _<_, _%_}
 use native.Mathlib.Nat.{mod-eq-of-lt}
 use lib.Dec.{eqb}
 use types.Run.{OneOf, miss}
@@ -12,15 +12,19 @@ use Rattle.scalar.proofs.types.DataType.{the-type}
 use Rattle.scalar.proofs.FloatLaws.{float-means}
 use Rattle.scalar.specs.declared.types.DataType.{DataType}
 use Rattle.scalar.specs.declared.types.DataType.the-variants.{Boolean, Int32, Int64, Float64, Utf8}
-use Rattle.scalar.specs.Entry.{null, boolean, int32, int64, float64, entry}
+use Rattle.scalar.specs.declared.value.Value.{Value}
+use Rattle.scalar.specs.declared.value.Value.the-variants.{Null}
+use Rattle.scalar.specs.Entry.{null, boolean, int32, int64, float64, utf8, entry}
 use Rattle.scalar.specs.Types.{typeNumber, markNumber}
 use Rattle.scalar.specs.Value.{meaning, valueOf}
 use Rattle.table.specs.declared.places.ColumnPlace.{ColumnPlace}
-use Rattle.table.specs.Column.{validIn, valueAt, entryAt}
+use Rattle.table.specs.Column.{validIn, textBetween, valueAt, entryAt}
 use Rattle.table.specs.Places.{columnIn}
+use Rattle.table.specs.Parts.{ValueGives}
+use Rattle.table.proofs.EntryLaws.{text-row}
 use Rattle.case.specs.Frame.{Filled}
 use Rattle.case.specs.Taking.{EntryRight}
-use Rattle.case.specs.ColumnSlots.{PayloadRight, NumberRight}
+use Rattle.case.specs.ColumnSlots.{PayloadRight, NumberRight, textEntry, TextRight}
 use Rattle.case.proofs.CellLaws.{filled-as}
 
 -- ---- the payload of a row's value, type by type
@@ -71,6 +75,20 @@ number-right t validity values r k p e h n rule table offsets = ap (λ (x : ℕ)
     go true = h n rule table offsets
     go false = refl
 
+-- ---- the text of a row
+
+module _ (table validity offsets values : List ℕ) (r : ℕ) {b : Bool} (is : b ≡ validIn validity r) where
+  pub text-valid : (from to : ℕ) (v : Value) → b ≡ true → from ≡ numberAt 4 offsets (4 * r) → to ≡ numberAt 4 offsets (4 * (r + 1))
+      → ValueGives table (utf8 (textBetween from to values)) v → ValueGives table (textEntry validity offsets values r) v
+  text-valid from to v q p s g =
+      subst (λ (x : Bool). ValueGives table (cond x (valueAt Utf8 offsets values r) null) v) (sym q ∙ is)
+      (text-row table offsets values r offsets refl from to p s v g)
+
+  pub text-null : b ≡ false → ValueGives table (textEntry validity offsets values r) Null
+  text-null q =
+      subst (λ (x : Bool). ValueGives table (cond x (valueAt Utf8 offsets values r) null) Null) (sym q ∙ is)
+      (record { says = λ rule. refl; stores = λ h. tt })
+
 -- ---- a column at its place
 
 -- what the last arm of a `match` on text leaves
@@ -88,3 +106,11 @@ unfolding entryAt
 column-filled table place validity values p q h d = filled-as d (λ r v f rule.
     f (not-text (place .«data_type») h) rule table (columnIn table place .offsets)
     ∙ (λ i. entry (cond (validIn (p i) r) (valueAt (place .«data_type») (columnIn table place .offsets) (q i) r) null)))
+
+-- and so are the texts of its validity and offsets
+pub texts-filled : (table : List ℕ) (place : ColumnPlace) (validity offsets : List ℕ) {w : List ℕ} {n : ℕ} {w′ : List ℕ}
+    → validity ≡ columnIn table place .validity → offsets ≡ columnIn table place .offsets → place .«data_type» ≡ Utf8
+    → Filled (TextRight table validity offsets (columnIn table place .values)) w n w′ → Filled (EntryRight table place) w n w′
+unfolding entryAt
+texts-filled table place validity offsets p q t d = filled-as d (λ r v f rule.
+    f rule ∙ (λ i. entry (cond (validIn (p i) r) (valueAt (sym t i) (q i) (columnIn table place .values) r) null)))

@@ -3,16 +3,16 @@
 use mathlib.Core.Path.{_≡_, refl, sym, ap, ap₂, subst, _∙_}
 use mathlib.Core.Bool.{Bool, true, false, cond, _&&_}
 use mathlib.Core.List.{List, [], _∷_}
-use Prim.Native.Nat.{ℕ, zero, suc, _+_, _-_, _*_, _<_, _≤_}
+use Prim.Native.Nat.{ℕ, zero, suc, _+_, _-_, _*_, _/_, _%_, _^_, _<_, _≤_}
 use native.Mathlib.Nat.{add-suc, suc-add, add-zero, sub-zero}
 use native.Mathlib.Numerals.{add-one}
 use native.Mathlib.Decide.{ℕ-discrete}
 use native.Mathlib.Omega.{arith}
 use lib.Dec.{eqb}
-use lib.ListN.{length, getD, set, length-set}
+use lib.ListN.{length, getD, take, drop, set, length-set, length-take, length-drop}
 use lib.Seq.{getD-set-same, getD-set-other}
 use borrow.Author.Tests.{eq-eqb, ne-eqb, eqb-true}
-use lib.Ieee.{Float}
+use lib.Ieee.{Float, binary64, nanBits, ofBits}
 use types.Run.{OneOf, hit, miss}
 use denote.Enum.Declared.{tagOf}
 use Rattle.scalar.specs.declared.value.Value.{Value}
@@ -25,6 +25,7 @@ use Rattle.scalar.specs.Text.{sameBytes}
 use Rattle.scalar.specs.Value.{meaning, valueOf, kindOf, payloadOf, placeText, Storable}
 use Rattle.scalar.proofs.ValueLaws.{payload-back}
 use Rattle.scalar.proofs.EntryLaws.{agree-eq}
+use Rattle.scalar.proofs.TextLaws.{same-length}
 use Rattle.case.specs.declared.boolean_lookup_table.BooleanIndexMap.{BooleanIndexMap}
 use Rattle.case.specs.LookUpBooleans.{BooleansOf}
 use Rattle.case.specs.LookUpTables.{sameKey, found, valueAt, keyIndex, whenIndex, baseIndex, numberIndex, Keys, EachOnce, TableOf, Added}
@@ -167,37 +168,40 @@ failed-second unfit = refl
 
 -- ---- text keys
 
--- the rest of a `match` that tells texts
-abbrev pub NoText : Value → Type 0
-NoText v = OneOf (0 ∷ 1 ∷ 2 ∷ 3 ∷ 4 ∷ 5 ∷ 8 ∷ []) (tagOf the-type v)
+-- a place that lies in the bytes
+module _ (text bytes : List ℕ) (start size : ℕ) (inside : start + size ≤ length bytes) where
+  pub place-unlike : (size ≡ length text → ⊥) → false ≡ sameBytes text (placeText bytes start size)
+  place-unlike n = sym (same-length text (placeText bytes start size) (λ e. n (omega (arith, e, length-take size (drop start bytes), length-drop start bytes))))
 
-module _ (rule table text : List ℕ) {v : Value} where
-  pub text-in-rule : {r : Bool} {start size : ℕ} (place : List ℕ) → v ≡ RuleText start size → place ≡ placeText rule start size → r ≡ sameBytes text place
-      → r ≡ sameKey (entry (utf8 text)) (meaning rule table v)
-  unfolding pairOf
-  text-in-rule place e p q = q ∙ ap (sameBytes text) p ∙ sym (ap (λ (x : Value). sameKey (entry (utf8 text)) (meaning rule table x)) e)
-
-  pub text-in-table : {r : Bool} {start size : ℕ} (place : List ℕ) → v ≡ TableText start size → place ≡ placeText table start size → r ≡ sameBytes text place
-      → r ≡ sameKey (entry (utf8 text)) (meaning rule table v)
-  unfolding pairOf
-  text-in-table place e p q = q ∙ ap (sameBytes text) p ∙ sym (ap (λ (x : Value). sameKey (entry (utf8 text)) (meaning rule table x)) e)
-
-pub text-nowhere : (rule table text : List ℕ) (v : Value) → NoText v → false ≡ sameKey (entry (utf8 text)) (meaning rule table v)
-unfolding pairOf
-text-nowhere rule table text Null h = refl
-text-nowhere rule table text (Boolean b) h = refl
-text-nowhere rule table text (Int32 n) h = refl
-text-nowhere rule table text (Int64 n) h = refl
-text-nowhere rule table text (Float64 f) h = refl
-text-nowhere rule table text (Nan n) h = refl
-text-nowhere rule table text (RuleText s n) h = absurd (miss (0 ∷ 1 ∷ 2 ∷ 3 ∷ 4 ∷ 5 ∷ 8 ∷ []) 6 tt h)
-text-nowhere rule table text (TableText s n) h = absurd (miss (0 ∷ 1 ∷ 2 ∷ 3 ∷ 4 ∷ 5 ∷ 8 ∷ []) 7 tt h)
-text-nowhere rule table text Failed h = refl
+  pub place-whole : {r : Bool} → r ≡ sameBytes text (take (start + size - start) (drop start bytes)) → r ≡ sameBytes text (placeText bytes start size)
+  place-whole p =
+      let e : start + size - start ≡ size = omega arith in
+      p ∙ ap (λ (k : ℕ). sameBytes text (take k (drop start bytes))) e
 
 -- a key's test, by its kind and payload
-pub key-told : (rule table text : List ℕ) {v w : Value} {r t : Bool} → v ≡ w → r ≡ sameKey (entry (utf8 text)) (meaning rule table v) → r ≡ t
-    → sameKey (entry (utf8 text)) (meaning rule table w) ≡ t
-key-told rule table text e p q = ap (λ (x : Value). sameKey (entry (utf8 text)) (meaning rule table x)) (sym e) ∙ sym p ∙ q
+module _ (rule table text : List ℕ) (k p : ℕ) where
+  pub text-in-rule : {r : Bool} → k ≡ 5 → r ≡ sameBytes text (placeText rule (p % 2 ^ 32) (p / 2 ^ 32)) → r ≡ sameKey (entry (utf8 text)) (meaning rule table (valueOf k p))
+  unfolding pairOf valueOf
+  text-in-rule e q = q ∙ sym (ap (λ (x : ℕ). sameKey (entry (utf8 text)) (meaning rule table (valueOf x p))) e)
+
+  pub text-in-table : {r : Bool} → k ≡ 6 → r ≡ sameBytes text (placeText table (p % 2 ^ 32) (p / 2 ^ 32)) → r ≡ sameKey (entry (utf8 text)) (meaning rule table (valueOf k p))
+  unfolding pairOf valueOf
+  text-in-table e q = q ∙ sym (ap (λ (x : ℕ). sameKey (entry (utf8 text)) (meaning rule table (valueOf x p))) e)
+
+pub text-nowhere : (rule table text : List ℕ) (k p : ℕ) → (k ≡ 5 → ⊥) → (k ≡ 6 → ⊥) → false ≡ sameKey (entry (utf8 text)) (meaning rule table (valueOf k p))
+unfolding pairOf valueOf
+text-nowhere rule table text zero p a b = refl
+text-nowhere rule table text (suc zero) p a b = refl
+text-nowhere rule table text (suc (suc zero)) p a b = refl
+text-nowhere rule table text (suc (suc (suc zero))) p a b = refl
+text-nowhere rule table text (suc (suc (suc (suc zero)))) p a b = either (nanBits binary64 p)
+  where
+    either : (n : Bool) → false ≡ sameKey (entry (utf8 text)) (meaning rule table (cond n (Nan p) (Float64 (ofBits binary64 p))))
+    either true = refl
+    either false = refl
+text-nowhere rule table text (suc (suc (suc (suc (suc zero))))) p a b = absurd (a refl)
+text-nowhere rule table text (suc (suc (suc (suc (suc (suc zero)))))) p a b = absurd (b refl)
+text-nowhere rule table text (suc (suc (suc (suc (suc (suc (suc k))))))) p a b = refl
 
 -- ---- number keys
 

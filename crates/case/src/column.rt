@@ -13,6 +13,7 @@ use scalar::value::Value;
 use table::entry::entry_in;
 use table::entry::row_u32;
 use table::entry::row_u64;
+use table::entry::text_between;
 use table::entry::valid_at;
 use table::places::ColumnPlace;
 ghost use mathlib.Core.Path.{_≡_};
@@ -20,15 +21,17 @@ ghost use mathlib.Core.Bool.{cond};
 ghost use mathlib.Core.List.{List};
 ghost use Prim.Native.Nat.{ℕ, _^_, _<_};
 ghost use lib.ListN.{length};
+ghost use Rattle.layout.specs.Bytes.{part};
 ghost use Rattle.scalar.specs.Entry.{Entry, entry};
 ghost use Rattle.scalar.specs.Types.{typeNumber, markNumber};
 ghost use Rattle.scalar.specs.Value.{meaning, Storable};
 ghost use Rattle.rule.specs.Row.{isTrueTest, chosen};
 ghost use Rattle.table.specs.Column.{validIn, entryAt};
+ghost use Rattle.table.specs.Parts.{ValueGives};
 ghost use Rattle.table.specs.Places.{columnIn};
 ghost use Rattle.case.specs.Frame.{Fillable, Filled};
 ghost use Rattle.case.specs.Taking.{EntryRight, ColumnRight};
-ghost use Rattle.case.specs.ColumnSlots.{PayloadRight, NumberRight};
+ghost use Rattle.case.specs.ColumnSlots.{PayloadRight, NumberRight, textEntry, TextRight};
 
 // A column's entry in the slot of each listed row.
 pub(crate) fn fill_column(table: &[u8], place: ColumnPlace, work: &mut [u8], n: usize)
@@ -37,10 +40,21 @@ pub(crate) fn fill_column(table: &[u8], place: ColumnPlace, work: &mut [u8], n: 
     ensures { λ _. ⌜ Filled (EntryRight (now (table .entry)) place) (now (work .entry)) n (now (work .exit)) ⌝ }
 {
     let kind = place.data_type;
+    let validity = part_of(table, place.validity_start, place.validity_end);
     match kind {
-        DataType::Utf8 => fill_texts(table, place, work, n),
+        DataType::Utf8 => {
+            let offsets = part_of(table, place.offsets_start, place.offsets_end);
+            fill_texts(
+                table,
+                validity,
+                offsets,
+                place.values_start,
+                place.values_end,
+                work,
+                n,
+            );
+        }
         _ => {
-            let validity = part_of(table, place.validity_start, place.validity_end);
             let values = part_of(table, place.values_start, place.values_end);
             fill_numbers(validity, values, kind, work, n);
         }
@@ -93,16 +107,44 @@ fn fill_numbers(validity: &[u8], values: &[u8], kind: DataType, work: &mut [u8],
     }
 }
 
-// A column's text in the slot of each listed row.
-fn fill_texts(table: &[u8], place: ColumnPlace, work: &mut [u8], n: usize)
+// The text of a row, or null, by its place in the table.
+fn text_in(
+    table: &[u8],
+    validity: &[u8],
+    offsets: &[u8],
+    start: usize,
+    end: usize,
+    row: usize,
+) -> Value
+    requires { ⌜ row < 512 ⌝ }
+    ensures { λ r. ⌜ ValueGives (now (table .entry)) (textEntry (now (validity .entry)) (now (offsets .entry)) (part (now (table .entry)) start end) row) r ⌝ }
+{
+    if valid_at(validity, row) {
+        let from = row_u32(offsets, row) as usize;
+        let to = row_u32(offsets, row + 1) as usize;
+        return text_between(table, start, end, from, to);
+    }
+    Value::Null
+}
+
+// The text of a column in the slot of each listed row; the values stand between two places of the table.
+fn fill_texts(
+    table: &[u8],
+    validity: &[u8],
+    offsets: &[u8],
+    start: usize,
+    end: usize,
+    work: &mut [u8],
+    n: usize,
+)
     requires { ⌜ Fillable (now work) n ⌝ }
     requires { ⌜ length (now table) < 2 ^ 32 ⌝ }
-    ensures { λ _. ⌜ Filled (EntryRight (now (table .entry)) place) (now (work .entry)) n (now (work .exit)) ⌝ }
+    ensures { λ _. ⌜ Filled (TextRight (now (table .entry)) (now (validity .entry)) (now (offsets .entry)) (part (now (table .entry)) start end)) (now (work .entry)) n (now (work .exit)) ⌝ }
 {
     let mut i = 0;
     while i < n {
         let r = row_at(work, 0, i);
-        let v = entry_in(table, place, r);
+        let v = text_in(table, validity, offsets, start, end, r);
         put_slot(work, r, v);
         i += 1;
     }

@@ -52,7 +52,7 @@ pub fn row_u64(values: &[u8], row: usize) -> u64
 }
 
 // The text between two offsets of the part from start to end, by its place in the whole of the bytes.
-fn text_between(bytes: &[u8], start: usize, end: usize, from: usize, to: usize) -> Value
+pub fn text_between(bytes: &[u8], start: usize, end: usize, from: usize, to: usize) -> Value
     ensures { λ r. ⌜ ValueGives (now (bytes .entry)) (utf8 (textBetween from to (part (now (bytes .entry)) start end))) r ⌝ }
 {
     let size = part_of(bytes, start, end).len();

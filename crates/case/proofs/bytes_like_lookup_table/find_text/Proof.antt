@@ -1,13 +1,12 @@
 -- `find_text` breaks out at the first key that is the text. The loop's invariant: what is left gives the answer.
+use mathlib.Core.Path.{sym, _∙_}
 use Prim.Native.Nat.{ℕ, _-_}
 use native.Mathlib.Omega.{arith}
 use lib.ListN.{getD}
-use denote.Ref.{now}
-use borrow.Author.Needs.{needs}
 use Rattle.scalar.specs.Entry.{entry, utf8}
 use Rattle.scalar.specs.Value.{meaning}
 use Rattle.case.specs.LookUpTables.{sameKey, valueAt}
-use Rattle.case.proofs.LookUpLaws.{Searching, search-starts, search-misses, search-hits, search-ends, key-told}
+use Rattle.case.proofs.LookUpLaws.{Searching, search-starts, search-misses, search-hits, search-ends}
 use Rattle.case.proofs.bytes_like_lookup_table.find_text.Statement.{statement}
 use Rattle.case.proofs.bytes_like_lookup_table.find_text.Tie as tie
 
@@ -27,13 +26,12 @@ find-text-spec =
     (λ c. omega arith)
     (λ c. omega arith)
     (λ c. omega arith)
-    (λ c κs. search needs)
-    (λ c κs. search needs)
+    (λ c κs. tt)
     (λ c. omega arith)
     (λ c. omega arith)
-    (λ c. omega (arith, c .shared-slice-known9 .given (c .before .before .before .before .before .before .before .loop .k)))
+    (λ c. omega (arith, c .shared-slice-known9 .given (c .before .before .before .before .before .before .loop .k)))
     (λ c. omega arith)
     (λ c. omega arith)
-    (λ c. search-misses (c .before .before .before .before .before .before .loop .inv) (omega arith) (key-told (now (c .before .before .before .before .before .before .before .before .before .before .before .before .before .args .rule)) (now (c .before .before .before .before .before .before .before .before .before .before .before .before .before .args .table)) _ (c .before .before .value-of .ensures) (c .before .is-text .ensures) (c .if2 .left)))
+    (λ c. search-misses (c .before .before .before .before .before .loop .inv) (omega arith) (sym (c .before .is-text .ensures) ∙ c .if2 .left))
     (λ c. search-ends (c .before .loop .inv) (omega arith))
-    (λ c. search-hits (c .before .before .before .before .before .before .before .loop .inv) (omega arith) (key-told (now (c .before .before .before .before .before .before .before .before .before .before .before .before .before .before .args .rule)) (now (c .before .before .before .before .before .before .before .before .before .before .before .before .before .before .args .table)) _ (c .before .before .before .value-of .ensures) (c .before .before .is-text .ensures) (c .before .if2 .taken))))
+    (λ c. search-hits (c .before .before .before .before .before .before .loop .inv) (omega arith) (sym (c .before .before .is-text .ensures) ∙ c .before .if2 .taken)))
