@@ -18,8 +18,9 @@ use Rattle.scalar.specs.declared.order.Key.{Key}
 use Rattle.scalar.specs.declared.order.Key.the-variants as Keys
 use Rattle.scalar.specs.Types.{typeNumber, markNumber}
 use Rattle.scalar.specs.Float.{signTurned, totalKey}
-use Rattle.scalar.specs.Entry.{Entry, null, boolean, int32, int64, float64, utf8, isTrue, Outcome, entry, onEntries}
+use Rattle.scalar.specs.Entry.{Entry, null, boolean, int32, int64, float64, utf8, isTrue, Outcome, entry, unfit, onEntries}
 use Rattle.scalar.specs.Pair.{pairOf}
+use Rattle.scalar.specs.Compare.{equalEntry, lessEntry}
 use Rattle.scalar.specs.Order.{keyOf, Numbered}
 use Rattle.scalar.proofs.OrderLaws.{value-numbered}
 use Rattle.scalar.proofs.CompareLaws.{numbers-equal, numbers-less}
@@ -36,9 +37,8 @@ use Rattle.table.specs.Places.{columnIn, noPlace}
 use Rattle.case.specs.declared.steps.Step.{Step}
 use Rattle.case.specs.Frame.{rowAt, Rows, Listed}
 use Rattle.case.specs.LookUpTables.{found}
-use Rattle.case.specs.Taking.{comparison}
 use Rattle.case.specs.Evaluation.{rowIn, resultAt, indexed}
-use Rattle.case.specs.Steps.{StepsGive, noStep, stepOf, StepWhen, StepGives, whenAt, StepsAt, StepsRead, stepPasses, stepIndex, EntryIndex, KeyAt, RowIndex, RowsIndexed, ColumnGives, WhenIndex, StepRow, StepRows, WhenGives}
+use Rattle.case.specs.Steps.{StepsGive, noStep, stepOf, Sides, SidesGive, stepEntry, StepWhen, StepGives, whenAt, StepsAt, StepsRead, stepPasses, stepIndex, EntryIndex, KeyAt, RowIndex, RowsIndexed, ColumnGives, WhenIndex, StepRow, StepRows, WhenGives}
 use Rattle.case.proofs.LookUpLaws.{found-none, found-below}
 use Rattle.case.proofs.BranchLaws.{behind-none, behind-two}
 use Rattle.case.proofs.CellLaws.{cell-found}
@@ -68,65 +68,85 @@ by-number tag c Keys.Failed s e h = absurd (h (ap (λ (s : Step). s .tag) e))
 by-number tag c (Keys.Number kind key) s e h = record { kind = kind; key = key; key-is = refl; step-is = e }
 by-number tag c Keys.Text s e h = absurd (h (ap (λ (s : Step). s .tag) e))
 
--- what a column has, beside an entry
-record Sides (c kind key : ℕ) (a b : Expr) : Type 0 where
-  value : Entry
-  numbered : Numbered kind key value
-  left : (row : Row) → eval a row ≡ row c
-  right : (row : Row) → eval b row ≡ entry value
+-- two sides of which one is no column, or the other no literal
+pub sides-none : {rule : List ℕ} {tag at literal end : ℕ} {s : Step} → s ≡ noStep → SidesGive rule tag at literal end s
+sides-none e = record { tag-is = λ h. absurd (h (ap (λ (s : Step). s .tag) e)); is = λ h. absurd (h (ap (λ (s : Step). s .tag) e)) }
 
 -- a column beside a literal
-module _ {rule : List ℕ} {at middle end c : ℕ} (v : Value) {k : Key} (ends : EndGives rule at middle) (column-tag : byte rule at ≡ 16) (literal-tag : byte rule middle ≡ 17)
-    (index : c ≡ byte rule (at + 3)) (gives : LiteralGives rule middle end v) (key-is : k ≡ keyOf v) where
-  sides : (a b : Expr) (depth : ℕ) {kind key : ℕ} → k ≡ Keys.Number kind key → TreesAt rule at end (a ∷ b ∷ []) depth → Sides c kind key a b
-  unfolding eval
-  sides a b depth {kind} {key} number trees =
-      let (first, rest) = first-tree ends trees in
-      let second = trees-one rest in
-      go a b first second (node-of-tag first column-tag) (node-of-tag second literal-tag)
-    where
-      go : (a b : Expr) → NodeAt rule at middle a depth → NodeAt rule middle end b depth → Tagged 16 a → Tagged 17 b → Sides c kind key a b
-      go a b first second (ofColumn x) (ofLiteral t y) =
-          let (means, stores) = gives t y depth second in
-          record {
-            value = y;
-            numbered = value-numbered rule [] v y stores (means []) (sym key-is ∙ number);
-            left = λ row. ap row (sym (index ∙ node-byte 0 (at + 3) first (omega arith) (omega arith)));
-            right = λ row. refl;
-          }
+pub sides-some : {rule : List ℕ} {tag at literal end c : ℕ} (v : Value) {k : Key} {s : Step} → byte rule at ≡ 16 → byte rule literal ≡ 17 → c ≡ byte rule (at + 3)
+    → LiteralGives rule literal end v → k ≡ keyOf v → s ≡ stepOf tag c k → SidesGive rule tag at literal end s
+unfolding eval
+sides-some {rule} {tag} {at} {literal} {end} {c} v {k} {s} column-tag literal-tag index gives key-is s-is = record {
+  tag-is = λ h. ap (λ (x : Step). x .tag) (by-number tag c k s s-is h .step-is);
+  is = λ h a b behind depth first second.
+      let n = by-number tag c k s s-is h in
+      subst (λ (x : Step). Sides (x .column) (x .kind) (x .key) a b) (sym (n .step-is))
+      (go (n .key-is) a b first second (node-of-tag first column-tag) (node-of-tag second literal-tag));
+}
+  where
+    go : {kind key behind depth : ℕ} → k ≡ Keys.Number kind key → (a b : Expr) → NodeAt rule at behind a depth → NodeAt rule literal end b depth → Tagged 16 a → Tagged 17 b → Sides c kind key a b
+    go {depth = depth} number a b first second (ofColumn x) (ofLiteral t y) =
+        let (means, stores) = gives t y depth second in
+        record {
+          value = y;
+          numbered = value-numbered rule [] v y stores (means []) (sym key-is ∙ number);
+          left = λ row. ap row (sym (index ∙ node-byte 0 (at + 3) first (omega arith) (omega arith)));
+          right = λ row. refl;
+        }
 
-  pub step-some : {start tag : ℕ} {s : Step} → tag ≡ byte rule start → (tag ≡ 23) ⊎ (tag ≡ 24) → ChildrenGives rule start at → s ≡ stepOf tag c k → StepGives rule start end s
+-- the literal less than the column, told from the column's side
+exchanged : (o : Outcome) (v : Entry) → onEntries lessEntry (entry v) o ≡ onEntries (stepEntry 26) o (entry v)
+exchanged (entry a) v = refl
+exchanged unfit v = refl
+
+-- a comparison by its sides, where the column stands first or the literal does
+module _ {rule : List ℕ} {start at middle end tag : ℕ} {s : Step} (read : tag ≡ byte rule start) (children : ChildrenGives rule start at) (ends : EndGives rule at middle) where
+  pub step-column : (tag ≡ 23) ⊎ (tag ≡ 24) → SidesGive rule tag at middle end s → StepGives rule start end s
   unfolding eval
-  step-some {start} {tag} {s} read either children s-is = record {
+  step-column either sides = record {
     is = λ h e depth node.
-        let n = by-number tag c k s s-is h in
-        subst (λ (x : Step). StepWhen (x .tag) (x .column) (x .kind) (x .key) e) (sym (n .step-is))
-        (told e either (node-of-tag node (sym read)) (children .stand end e depth node) (n .key-is));
+        subst (λ (y : ℕ). StepWhen y (s .column) (s .kind) (s .key) e) (sym (sides .tag-is h))
+        (told e either (node-of-tag node (sym read)) (λ a b trees. let (first, rest) = first-tree ends trees in sides .is h a b middle (depth - 1) first (trees-one rest)) (children .stand end e depth node));
   }
     where
-      told : {tag kind key depth : ℕ} (e : Expr) → (tag ≡ 23) ⊎ (tag ≡ 24) → Tagged tag e → TreesAt rule at end (childrenOf e) depth → k ≡ Keys.Number kind key → StepWhen tag c kind key e
-      told e (inl p) (ofColumn x) trees number = absurd (omega arith)
-      told e (inr p) (ofColumn x) trees number = absurd (omega arith)
-      told e (inl p) (ofLiteral x y) trees number = absurd (omega arith)
-      told e (inr p) (ofLiteral x y) trees number = absurd (omega arith)
-      told e (inl p) (ofNegation a) trees number = absurd (omega arith)
-      told e (inr p) (ofNegation a) trees number = absurd (omega arith)
-      told e (inl p) (ofNegative a) trees number = absurd (omega arith)
-      told e (inr p) (ofNegative a) trees number = absurd (omega arith)
-      told e (inl p) (ofIsNotNull a) trees number = absurd (omega arith)
-      told e (inr p) (ofIsNotNull a) trees number = absurd (omega arith)
-      told e (inl p) (ofCast x a) trees number = absurd (omega arith)
-      told e (inr p) (ofCast x a) trees number = absurd (omega arith)
-      told e (inl p) (ofTryCast x a) trees number = absurd (omega arith)
-      told e (inr p) (ofTryCast x a) trees number = absurd (omega arith)
-      told {depth = depth} e p (ofEqual a b) trees number =
-          let x = sides a b depth number trees in
-          record { value = x .value; numbered = x .numbered; is = λ row. ap₂ (onEntries (comparison false)) (x .left row) (x .right row) }
-      told {depth = depth} e p (ofLess a b) trees number =
-          let x = sides a b depth number trees in
-          record { value = x .value; numbered = x .numbered; is = λ row. ap₂ (onEntries (comparison true)) (x .left row) (x .right row) }
-      told e (inl p) (ofCase a b d) trees number = absurd (omega arith)
-      told e (inr p) (ofCase a b d) trees number = absurd (omega arith)
+      told : {tag c kind key depth : ℕ} (e : Expr) → (tag ≡ 23) ⊎ (tag ≡ 24) → Tagged tag e → ((a b : Expr) → TreesAt rule at end (a ∷ b ∷ []) depth → Sides c kind key a b)
+          → TreesAt rule at end (childrenOf e) depth → StepWhen tag c kind key e
+      told e (inl p) (ofColumn x) sides trees = absurd (omega arith)
+      told e (inr p) (ofColumn x) sides trees = absurd (omega arith)
+      told e (inl p) (ofLiteral x y) sides trees = absurd (omega arith)
+      told e (inr p) (ofLiteral x y) sides trees = absurd (omega arith)
+      told e (inl p) (ofNegation a) sides trees = absurd (omega arith)
+      told e (inr p) (ofNegation a) sides trees = absurd (omega arith)
+      told e (inl p) (ofNegative a) sides trees = absurd (omega arith)
+      told e (inr p) (ofNegative a) sides trees = absurd (omega arith)
+      told e (inl p) (ofIsNotNull a) sides trees = absurd (omega arith)
+      told e (inr p) (ofIsNotNull a) sides trees = absurd (omega arith)
+      told e (inl p) (ofCast x a) sides trees = absurd (omega arith)
+      told e (inr p) (ofCast x a) sides trees = absurd (omega arith)
+      told e (inl p) (ofTryCast x a) sides trees = absurd (omega arith)
+      told e (inr p) (ofTryCast x a) sides trees = absurd (omega arith)
+      told e p (ofEqual a b) sides trees =
+          let x = sides a b trees in
+          record { value = x .value; numbered = x .numbered; is = λ row. ap₂ (onEntries equalEntry) (x .left row) (x .right row) }
+      told e p (ofLess a b) sides trees =
+          let x = sides a b trees in
+          record { value = x .value; numbered = x .numbered; is = λ row. ap₂ (onEntries lessEntry) (x .left row) (x .right row) }
+      told e (inl p) (ofCase a b d) sides trees = absurd (omega arith)
+      told e (inr p) (ofCase a b d) sides trees = absurd (omega arith)
+
+  pub step-literal : tag ≡ 24 → SidesGive rule 26 middle at middle s → StepGives rule start end s
+  unfolding eval
+  step-literal is-less sides = record {
+    is = λ h e depth node.
+        subst (λ (y : ℕ). StepWhen y (s .column) (s .kind) (s .key) e) (sym (sides .tag-is h))
+        (told e (node-of-tag node (sym read ∙ is-less)) (λ a b trees. let (first, rest) = first-tree ends trees in sides .is h b a end (depth - 1) (trees-one rest) first) (children .stand end e depth node));
+  }
+    where
+      told : {c kind key depth : ℕ} (e : Expr) → Tagged 24 e → ((a b : Expr) → TreesAt rule at end (a ∷ b ∷ []) depth → Sides c kind key b a) → TreesAt rule at end (childrenOf e) depth
+          → StepWhen 26 c kind key e
+      told {c} e (ofLess a b) sides trees =
+          let x = sides a b trees in
+          record { value = x .value; numbered = x .numbered; is = λ row. ap₂ (onEntries lessEntry) (x .right row) (x .left row) ∙ exchanged (row c) (x .value) }
 
 -- ---- the steps of a CASE
 
@@ -207,11 +227,18 @@ module _ {rule : List ℕ} {at count column kind place i : ℕ} {tags keys : Lis
 -- ---- the index of a row
 
 -- whether a number passes
-pub passes-less : (tag key x : ℕ) → tag ≡ 24 → ltb x key ≡ stepPasses tag key x
-passes-less tag key x e = sym (ap (λ (b : Bool). cond b (ltb x key) (eqb x key)) (eq-eqb tag 24 e))
+module _ (tag key x : ℕ) where
+  pub passes-less : tag ≡ 24 → ltb x key ≡ stepPasses tag key x
+  passes-less e = sym (ap (λ (b : Bool). cond b (ltb x key) (cond (eqb tag 26) (ltb key x) (eqb x key))) (eq-eqb tag 24 e))
 
-pub passes-equal : (tag key x : ℕ) → (tag ≡ 24 → ⊥) → eqb x key ≡ stepPasses tag key x
-passes-equal tag key x e = sym (ap (λ (b : Bool). cond b (ltb x key) (eqb x key)) (ne-eqb tag 24 e))
+  passes-rest : (tag ≡ 24 → ⊥) → cond (eqb tag 26) (ltb key x) (eqb x key) ≡ stepPasses tag key x
+  passes-rest e = sym (ap (λ (b : Bool). cond b (ltb x key) (cond (eqb tag 26) (ltb key x) (eqb x key))) (ne-eqb tag 24 e))
+
+  pub passes-more : (tag ≡ 24 → ⊥) → tag ≡ 26 → ltb key x ≡ stepPasses tag key x
+  passes-more d e = sym (ap (λ (b : Bool). cond b (ltb key x) (eqb x key)) (eq-eqb tag 26 e)) ∙ passes-rest d
+
+  pub passes-equal : (tag ≡ 24 → ⊥) → (tag ≡ 26 → ⊥) → eqb x key ≡ stepPasses tag key x
+  passes-equal d e = sym (ap (λ (b : Bool). cond b (ltb key x) (eqb x key)) (ne-eqb tag 26 e)) ∙ passes-rest d
 
 -- an index is at most ELSE's
 index-small : (tags keys : List ℕ) (count x : ℕ) → stepIndex tags keys count x ≤ count + 1
@@ -330,39 +357,39 @@ module _ (test : ℕ → Bool) (row : Row) (els : Outcome) (otherwise : ℕ) whe
       }
 
 -- null is compared to null
-null-not : (b : Bool) (e : Entry) → isTrue (comparison b null e) ≡ false
+null-not : (e : Entry) → (isTrue (lessEntry null e) ≡ false) × (isTrue (lessEntry e null) ≡ false) × (isTrue (equalEntry null e) ≡ false)
 unfolding pairOf
-null-not true null = refl
-null-not true (boolean x) = refl
-null-not true (int32 x) = refl
-null-not true (int64 x) = refl
-null-not true (float64 x) = refl
-null-not true (utf8 x) = refl
-null-not false null = refl
-null-not false (boolean x) = refl
-null-not false (int32 x) = refl
-null-not false (int64 x) = refl
-null-not false (float64 x) = refl
-null-not false (utf8 x) = refl
+null-not null = (refl, refl, refl)
+null-not (boolean x) = (refl, refl, refl)
+null-not (int32 x) = (refl, refl, refl)
+null-not (int64 x) = (refl, refl, refl)
+null-not (float64 x) = (refl, refl, refl)
+null-not (utf8 x) = (refl, refl, refl)
 
 module _ {tag column kind key : ℕ} {w : Expr} (s : StepWhen tag column kind key w) (row : Row) where
   says-null : row column ≡ entry null → Says (eval w row) false
   says-null e = record {
-    value = comparison (eqb tag 24) null (s .value);
-    is = s .is row ∙ ap (λ (o : Outcome). onEntries (comparison (eqb tag 24)) o (entry (s .value))) e;
-    truth = null-not (eqb tag 24) (s .value);
+    value = stepEntry tag null (s .value);
+    is = s .is row ∙ ap (λ (o : Outcome). onEntries (stepEntry tag) o (entry (s .value))) e;
+    truth = by (eqb tag 24) (eqb tag 26);
   }
+    where
+      by : (b d : Bool) → isTrue (cond b (lessEntry null (s .value)) (cond d (lessEntry (s .value) null) (equalEntry null (s .value)))) ≡ false
+      by true d = null-not (s .value) .0
+      by false true = null-not (s .value) .1
+      by false false = null-not (s .value) .2
 
   says-number : {x : ℕ} (e : Entry) → row column ≡ entry e → Numbered kind x e → Says (eval w row) (stepPasses tag key x)
   says-number {x} e p n = record {
     value = boolean (stepPasses tag key x);
-    is = s .is row ∙ ap (λ (o : Outcome). onEntries (comparison (eqb tag 24)) o (entry (s .value))) p ∙ by (eqb tag 24);
+    is = s .is row ∙ ap (λ (o : Outcome). onEntries (stepEntry tag) o (entry (s .value))) p ∙ by (eqb tag 24) (eqb tag 26);
     truth = refl;
   }
     where
-      by : (b : Bool) → entry (comparison b e (s .value)) ≡ entry (boolean (cond b (ltb x key) (eqb x key)))
-      by true = numbers-less e (s .value) n (s .numbered)
-      by false = numbers-equal e (s .value) n (s .numbered)
+      by : (b d : Bool) → entry (cond b (lessEntry e (s .value)) (cond d (lessEntry (s .value) e) (equalEntry e (s .value)))) ≡ entry (boolean (cond b (ltb x key) (cond d (ltb key x) (eqb x key))))
+      by true d = numbers-less e (s .value) n (s .numbered)
+      by false true = numbers-less (s .value) e (s .numbered) n
+      by false false = numbers-equal e (s .value) n (s .numbered)
 
 -- the branches of a CASE whose WHENs are steps
 module _ {rule : List ℕ} {at count column kind : ℕ} {tags keys : List ℕ} (steps : StepsAt rule at count column kind tags keys) where
@@ -459,12 +486,13 @@ module _ {s : Step} {table : List ℕ} {place : ColumnPlace} {w : List ℕ} {at 
   }
 
 module _ {rule : List ℕ} {start end : ℕ} {table : List ℕ} {t : Table} {w : List ℕ} {at n : ℕ} where
-  pub when-refused : {values : List ℕ} → length values ≡ 512 → WhenGives rule start end table t w at n false values
-  when-refused e = record { long = e; each = λ h. absurd (false≢true h) }
+  pub when-refused : {asked : Bool} {values : List ℕ} → length values ≡ 512 → WhenGives asked rule start end table t w at n false values
+  when-refused e = record { long = e; wanted = λ h. absurd (false≢true h); each = λ h. absurd (false≢true h) }
 
-  pub when-gives : {A : Type 0} (f : ColumnPlace → A) {s : Step} {served : Bool} {values : List ℕ} → StepGives rule start end s → (s .tag ≡ 0 → ⊥) → length (map f (t .columns)) ≡ 16
-      → s .column < min (t .count) 16 → StepRows s table (getD (t .columns) (s .column) noPlace) w at n served values → WhenGives rule start end table t w at n served values
-  when-gives f {s} step some long there g = record {
+  pub when-gives : {A : Type 0} (f : ColumnPlace → A) {asked : Bool} {s : Step} {served : Bool} {values : List ℕ} → asked ≡ true → StepGives rule start end s → (s .tag ≡ 0 → ⊥) → length (map f (t .columns)) ≡ 16
+      → s .column < min (t .count) 16 → StepRows s table (getD (t .columns) (s .column) noPlace) w at n served values → WhenGives asked rule start end table t w at n served values
+  when-gives f {s = s} yes-asked step some long there g = record {
     long = g .long;
+    wanted = λ h. yes-asked;
     each = λ h q l e depth node. g .each h q l .is e (rowIn table t q) (step .is some e depth node) (cell-found f table t long (s .column) there q);
   }

@@ -12,6 +12,7 @@ use Rattle.scalar.specs.declared.order.Key.{Key}
 use Rattle.scalar.specs.declared.order.Key.the-variants as Keys
 use Rattle.scalar.specs.Types.{typeNumber}
 use Rattle.scalar.specs.Entry.{Entry, null, isTrue, Outcome, entry, onEntries}
+use Rattle.scalar.specs.Compare.{equalEntry, lessEntry}
 use Rattle.scalar.specs.Order.{Numbered}
 use Rattle.rule.specs.Tree.{Expr, literal, Branches, noMore, branch, branchCount}
 use Rattle.rule.specs.Row.{Row, isTrueTest, eval, evalBranches}
@@ -24,7 +25,6 @@ use Rattle.table.specs.Places.{columnIn}
 use Rattle.case.specs.declared.steps.Step.{Step}
 use Rattle.case.specs.Frame.{Listed}
 use Rattle.case.specs.LookUpTables.{found}
-use Rattle.case.specs.Taking.{comparison}
 use Rattle.case.specs.Evaluation.{rowIn, indexed}
 
 -- the index that whatever branches stand at a place give a row: from 1, ELSE's behind them
@@ -51,11 +51,27 @@ stepOf tag column Keys.Failed = noStep
 stepOf tag column (Keys.Number kind key) = record { tag = tag; column = column; kind = kind; key = key }
 stepOf tag column Keys.Text = noStep
 
+-- what a column has, beside an entry that goes by a number
+pub record Sides (column kind key : ℕ) (a b : Expr) : Type 0 where
+  pub value : Entry
+  pub numbered : Numbered kind key value
+  pub left : (row : Row) → eval a row ≡ row column
+  pub right : (row : Row) → eval b row ≡ entry value
+
+-- the tag, and whatever nodes stand at two places are such sides, unless the step's tag is 0
+pub record SidesGive (rule : List ℕ) (tag at literal end : ℕ) (s : Step) : Type 0 where
+  pub tag-is : (s .tag ≡ 0 → ⊥) → s .tag ≡ tag
+  pub is : (s .tag ≡ 0 → ⊥) → (a b : Expr) (behind depth : ℕ) → NodeAt rule at behind a depth → NodeAt rule literal end b depth → Sides (s .column) (s .kind) (s .key) a b
+
+-- what a step says of an entry beside its literal: less (24), the literal is less (26, the tag of no node), equal
+abbrev pub stepEntry : ℕ → Entry → Entry → Entry
+stepEntry tag e value = cond (eqb tag 24) (lessEntry e value) (cond (eqb tag 26) (lessEntry value e) (equalEntry e value))
+
 -- a WHEN that compares what a column has with an entry that goes by a number
 pub record StepWhen (tag column kind key : ℕ) (e : Expr) : Type 0 where
   pub value : Entry
   pub numbered : Numbered kind key value
-  pub is : (row : Row) → eval e row ≡ onEntries (comparison (eqb tag 24)) (row column) (entry value)
+  pub is : (row : Row) → eval e row ≡ onEntries (stepEntry tag) (row column) (entry value)
 
 -- whatever node stands from a place to a place is such a one, unless the tag is 0
 pub record StepGives (rule : List ℕ) (start end : ℕ) (s : Step) : Type 0 where
@@ -82,9 +98,9 @@ pub record StepsRead (rule : List ℕ) (at count column kind : ℕ) (read : Bool
 
 -- ---- the index of a row
 
--- a number passes a step: it is less than the key, or equals it
+-- a number passes a step: it is less than the key (24), the key is less (26), or they are equal
 abbrev pub stepPasses : ℕ → ℕ → ℕ → Bool
-stepPasses tag key x = cond (eqb tag 24) (ltb x key) (eqb x key)
+stepPasses tag key x = cond (eqb tag 24) (ltb x key) (cond (eqb tag 26) (ltb key x) (eqb x key))
 
 -- the index of the first of so many steps that a number passes, from 1, or the ELSE index
 abbrev pub stepIndex : List ℕ → List ℕ → ℕ → ℕ → ℕ
@@ -134,7 +150,8 @@ pub record StepRows (s : Step) (table : List ℕ) (place : ColumnPlace) (w : Lis
   pub long : length indices ≡ 512
   pub each : served ≡ true → (q : ℕ) → Listed w at n q → StepRow s table place q (getD indices q 0)
 
--- by whatever WHEN stands at a place of the rule, at each row of a list
-pub record WhenGives (rule : List ℕ) (start end : ℕ) (table : List ℕ) (t : Table) (w : List ℕ) (at n : ℕ) (served : Bool) (values : List ℕ) : Type 0 where
+-- by whatever WHEN stands at a place of the rule, at each row of a list, where that is asked
+pub record WhenGives (asked : Bool) (rule : List ℕ) (start end : ℕ) (table : List ℕ) (t : Table) (w : List ℕ) (at n : ℕ) (served : Bool) (values : List ℕ) : Type 0 where
   pub long : length values ≡ 512
+  pub wanted : served ≡ true → asked ≡ true
   pub each : served ≡ true → (q : ℕ) → Listed w at n q → (e : Expr) (depth : ℕ) → NodeAt rule start end e depth → WhenIndex e (rowIn table t q) (getD values q 0)

@@ -16,9 +16,12 @@ use crate::rows::copy_list;
 use crate::rows::operator_at;
 use crate::settle::Leave;
 use crate::settle::Settled;
+use crate::settle::asks_true;
 use crate::settle::open_builder;
 use crate::settle::settle;
+use crate::settle::settle_by;
 use crate::steps::step_values;
+use crate::steps::step_when;
 use crate::taking::copy_slots;
 use crate::taking::pick;
 use layout::number::byte_at;
@@ -475,7 +478,7 @@ fn choose(
     }
 }
 
-// One branch: its WHEN over the open list in the next frame, and the rows that leave by it.
+// One branch: its WHEN over the open list, by a step or in the next frame, and the rows that leave by it.
 fn turn(
     rule: &[u8],
     start: usize,
@@ -494,6 +497,21 @@ fn turn(
     requires { ⌜ (0 < index) × (0 < failed) ⌝ }
     ensures { λ r. ⌜ Sifts (WhenRight (now (rule .entry)) start end (now (table .entry)) t depth how index failed (now (work .entry))) (now (work .entry)) left (t .rows) b (r .left) (r .builder) (now (work .exit)) ⌝ }
 {
+    let mut whens = [0u16; 512];
+    if step_when(
+        asks_true(how),
+        rule,
+        start,
+        end,
+        table,
+        t,
+        work,
+        5632,
+        left,
+        &mut whens,
+    ) {
+        return settle_by(work, left, &whens, index, b);
+    }
     copy_list(work, left, 5632, 6656);
     evaluate_expr(rule, start, end, table, t, &mut work[6656..], left, depth);
     settle(rule, table, work, left, how, index, failed, b)

@@ -23,12 +23,13 @@ ghost use mathlib.Core.Path.{_≡_};
 ghost use Prim.Native.Nat.{_+_, _*_, _≤_};
 ghost use lib.ListN.{length};
 ghost use Rattle.case.specs.Frame.{Rows};
-ghost use Rattle.case.specs.Steps.{StepsGive, noStep, stepOf, StepGives, StepsRead, stepPasses, stepIndex, KeyAt, RowIndex, RowsIndexed, ColumnGives, StepRows, WhenGives};
+ghost use Rattle.case.specs.Steps.{StepsGive, noStep, stepOf, SidesGive, StepGives, StepsRead, stepPasses, stepIndex, KeyAt, RowIndex, RowsIndexed, ColumnGives, StepRows, WhenGives};
 
 // Most branches of a CASE.
 const BRANCHES_MOST: u8 = 32;
 
-// A column compared with a literal: equal (23) or less (24), the column, and the kind and the key of the literal. Tag 0 is any other node.
+// A column compared with a literal: equal (23), less (24), or the literal less than the column (26, the tag of no node); the column, and the kind
+// and the key of the literal. Tag 0 is any other node.
 pub(crate) struct Step {
     pub(crate) tag: u8,
     pub(crate) column: u8,
@@ -65,6 +66,23 @@ fn step_of(tag: u8, column: u8, key: Key) -> Step
     }
 }
 
+// The step of a tag, where a column stands at one place and a literal from another to its end.
+fn step_between(rule: &[u8], tag: u8, at: usize, literal: usize, end: usize) -> Step
+    ensures { λ r. ⌜ SidesGive (now (rule .entry)) tag at literal end r ⌝ }
+{
+    if byte_at(rule, at) != 16 {
+        return no_step();
+    }
+    if byte_at(rule, literal) != 17 {
+        return no_step();
+    }
+    step_of(
+        tag,
+        byte_at(rule, at + 3),
+        key_of(literal_value(rule, literal, end)),
+    )
+}
+
 // The node at a place, where it is a step.
 fn step_at(rule: &[u8], start: usize, end: usize) -> Step
     ensures { λ r. ⌜ StepGives (now (rule .entry)) start end r ⌝ }
@@ -77,17 +95,13 @@ fn step_at(rule: &[u8], start: usize, end: usize) -> Step
     }
     let at = children_at(rule, start);
     let middle = field_end(rule, at);
-    if byte_at(rule, at) != 16 {
+    if byte_at(rule, at) != 17 {
+        return step_between(rule, tag, at, middle, end);
+    }
+    if tag != 24 {
         return no_step();
     }
-    if byte_at(rule, middle) != 17 {
-        return no_step();
-    }
-    step_of(
-        tag,
-        byte_at(rule, at + 3),
-        key_of(literal_value(rule, middle, end)),
-    )
+    step_between(rule, 26, middle, at, middle)
 }
 
 // The tags and the keys of so many branches' WHENs, where each is a step on the column, of its kind.
@@ -129,7 +143,10 @@ fn read_steps(
 fn passes(tag: u8, key: u64, x: u64) -> bool
     ensures { λ r. ⌜ r ≡ stepPasses tag key x ⌝ }
 {
-    if tag == 24 { x < key } else { x == key }
+    if tag == 24 {
+        return x < key;
+    }
+    if tag == 26 { key < x } else { x == key }
 }
 
 // The index of the first step that a number passes, from 1, or the ELSE index.
@@ -326,8 +343,9 @@ fn column_step(
     true
 }
 
-// The same by the WHEN at a place of the rule, where it is a step on a column of the table: 1 where it is true, 2 where it is not.
+// The same by the WHEN at a place of the rule, where that is asked and it is a step on a column of the table: 1 where it is true, 2 where it is not.
 pub(crate) fn step_when(
+    asked: bool,
     rule: &[u8],
     start: usize,
     end: usize,
@@ -340,8 +358,11 @@ pub(crate) fn step_when(
 ) -> bool
     requires { ⌜ Rows (now work) at n 512 × (at + 2 * n ≤ length (now work)) ⌝ }
     requires { ⌜ length (now values) ≡ 512 ⌝ }
-    ensures { λ r. ⌜ WhenGives (now (rule .entry)) start end (now (table .entry)) t (now (work .entry)) at n r (now (values .exit)) ⌝ }
+    ensures { λ r. ⌜ WhenGives asked (now (rule .entry)) start end (now (table .entry)) t (now (work .entry)) at n r (now (values .exit)) ⌝ }
 {
+    if !asked {
+        return false;
+    }
     let s = step_at(rule, start, end);
     if s.tag == 0 {
         return false;

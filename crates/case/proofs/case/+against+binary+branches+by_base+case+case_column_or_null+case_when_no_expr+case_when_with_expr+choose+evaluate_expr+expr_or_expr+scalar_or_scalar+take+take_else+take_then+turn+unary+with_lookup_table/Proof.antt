@@ -7,7 +7,7 @@ use denote.Ref.{now}
 use Rattle.case.proofs.FrameLaws.{rows-to, rows-small, framed-fillable, framed-kept, framed-below}
 use Rattle.case.proofs.ExprLaws.{expr-none, expr-behind, expr-column, expr-literal, expr-case, expr-unary, expr-binary, unary-gives, binary-gives, against-none, against-value, against-asks, against-next, against-rows, back-long}
 use Rattle.case.proofs.CaseLaws.{shape-1, shape-2, shape-3, shape-4, shape-5, shape-6, case-none, case-behind, case-by, scalar-gives, column-gives, lookup-gives, no-expr-gives, single-gives, no-expr-steps, single-steps, scalar-steps, with-expr-gives, by-base-gives}
-use Rattle.case.proofs.ChooseLaws.{open-rows, open-self, turn-room, turn-asks, turn-long, turn-open, turn-gives, Chosen, choose-none, choose-ahead, choose-end, choose-more}
+use Rattle.case.proofs.ChooseLaws.{open-rows, open-self, step-asks, step-turn, turn-room, turn-asks, turn-long, turn-open, turn-gives, Chosen, choose-none, choose-ahead, choose-end, choose-more}
 use Rattle.case.proofs.TakeLaws.{picked-room, picked-asks, picked-next, next-asks, next-fillable, next-room, next-takes, then-known, then-takes, else-none, else-known, else-next, else-again, else-takes, Taken, start-framed, start-done, take-none, take-framed, take-more, take-end}
 use Rattle.case.proofs.MergeLaws.{branches-ahead, branches-open, branches-framed, branches-gives}
 use Prim.Native.Nat.{ℕ, _+_, _-_, _*_, _<_}
@@ -79,9 +79,12 @@ use Rattle.case.proofs.results.start_results.Reads as start-results-rea
 use Rattle.case.proofs.rows.apply.Reads as apply-reads
 use Rattle.case.proofs.rows.copy_list.Reads as copy-list-reads
 use Rattle.case.proofs.rows.operator_at.Reads as operator-at-reads
+use Rattle.case.proofs.settle.asks_true.Reads as asks-true-reads
 use Rattle.case.proofs.settle.open_builder.Reads as open-builder-reads
 use Rattle.case.proofs.settle.settle.Reads as settle-reads
+use Rattle.case.proofs.settle.settle_by.Reads as settle-by-reads
 use Rattle.case.proofs.steps.step_values.Reads as step-values-reads
+use Rattle.case.proofs.steps.step_when.Reads as step-when-reads
 use Rattle.case.proofs.taking.copy_slots.Reads as copy-slots-reads
 use Rattle.case.proofs.taking.pick.Reads as pick-reads
 use Rattle.layout.proofs.number.byte_at.Reads as byte-at-reads
@@ -766,6 +769,12 @@ pub +against+binary+branches+by-base+case+case-column-or-null+case-when-no-expr+
     (λ c. next-takes (now (c .before .before .before .before .before .before .before .before .before .before .before .before .before .before .before .before .before .before .args .values)) (c .before .before .before .before .before .before .before .before .before .before .before .before .before .before .before .before .before .before .pre .1 .0) (c .before .before .before .before .before .before .before .before .before .before .before .before .before .before .before .before .before .before .pre .1 .1 .0) (c .before .before .before .before .before .before .before .before .before .before .pick .ensures) (picked-next (now (c .before .before .before .before .before .before .before .before .before .before .before .before .before .before .before .before .before .before .args .values)) (c .before .before .before .before .before .before .before .before .before .before .before .before .before .before .before .before .before .before .pre .1 .0) (c .before .before .before .before .before .before .before .before .before .before .before .before .before .before .before .before .before .before .pre .1 .1 .0) (c .before .before .before .before .before .before .before .before .before .before .pick .ensures) (c .before .before .before .before .before .before .evaluate-expr .ensures)) (c .before .before .copy-slots .ensures) .long)
     (λ c. then-takes (next-takes (now (c .before .before .before .before .before .before .before .before .before .before .before .before .before .before .before .before .before .before .args .values)) (c .before .before .before .before .before .before .before .before .before .before .before .before .before .before .before .before .before .before .pre .1 .0) (c .before .before .before .before .before .before .before .before .before .before .before .before .before .before .before .before .before .before .pre .1 .1 .0) (c .before .before .before .before .before .before .before .before .before .before .pick .ensures) (picked-next (now (c .before .before .before .before .before .before .before .before .before .before .before .before .before .before .before .before .before .before .args .values)) (c .before .before .before .before .before .before .before .before .before .before .before .before .before .before .before .before .before .before .pre .1 .0) (c .before .before .before .before .before .before .before .before .before .before .before .before .before .before .before .before .before .before .pre .1 .1 .0) (c .before .before .before .before .before .before .before .before .before .before .pick .ensures) (c .before .before .before .before .before .before .evaluate-expr .ensures)) (c .before .before .copy-slots .ensures))))
     (λ t. turn-lts.spec (
+      asks-true-reads.Asked,
+      asks-true-reads.Learnt,
+      step-when-reads.Asked,
+      step-when-reads.Learnt,
+      settle-by-reads.Asked,
+      settle-by-reads.Learnt,
       copy-list-reads.Asked,
       copy-list-reads.Learnt,
       evaluate-expr-below t,
@@ -775,14 +784,21 @@ pub +against+binary+branches+by-base+case+case-column-or-null+case-when-no-expr+
     )
     (turn-at t)
     turn.Post
-    (λ c κs. let f = c .before .before .before .before .pre .1 .0 .is-open .list-ok .few in let r = c .before .before .before .before .pre .1 .0 .room in let d = c .before .before .before .before .pre .1 .0 .deep in (omega arith, omega arith))
-    (λ c. let r = turn-room (c .before .before .before .before .before .before .before .pre .1 .0) (c .before .before .copy-list .ensures) in omega arith)
-    (λ c. let r = turn-room (c .before .before .before .before .before .before .before .pre .1 .0) (c .before .before .copy-list .ensures) in omega arith)
-    (λ c. let r = turn-room (c .before .before .before .before .before .before .before .pre .1 .0) (c .before .before .copy-list .ensures) in omega arith)
-    (λ c κs. let q = c .before .before .before .before .before .before .before .before .pre .0 in (omega arith, turn-asks (c .before .before .before .before .before .before .before .before .pre .1 .0) (c .before .before .before .copy-list .ensures)))
-    (λ c κs. (turn-open (c .before .before .before .before .before .before .before .before .before .before .before .before .pre .1 .0) (c .before .before .before .before .before .before .before .copy-list .ensures) (c .before .before .before .evaluate-expr .ensures) .0, (turn-open (c .before .before .before .before .before .before .before .before .before .before .before .before .pre .1 .0) (c .before .before .before .before .before .before .before .copy-list .ensures) (c .before .before .before .evaluate-expr .ensures) .1, c .before .before .before .before .before .before .before .before .before .before .before .before .pre .1 .1)))
-    (λ c. c .before .before .settle .ensures .long ∙ turn-long (c .before .before .before .before .before .before .before .before .before .before .before .before .before .before .before .pre .1 .0) (c .before .before .before .before .before .before .before .before .before .before .copy-list .ensures) (c .before .before .before .before .before .before .evaluate-expr .ensures))
-    (λ c. turn-gives (c .before .before .before .before .before .before .before .before .before .before .before .before .before .before .before .pre .1 .0) (c .before .before .before .before .before .before .before .before .before .before .copy-list .ensures) (c .before .before .before .before .before .before .evaluate-expr .ensures) (c .before .before .before .before .before .before .before .before .before .before .before .before .before .before .before .args .how) (c .before .before .before .before .before .before .before .before .before .before .before .before .before .before .before .args .index) (c .before .before .before .before .before .before .before .before .before .before .before .before .before .before .before .args .failed) (c .before .before .settle .ensures)))
+    (λ c κs. tt)
+    (λ c. search needs)
+    (λ c κs. (step-asks (c .before .before .before .before .before .before .pre .1 .0), omega arith))
+    (λ c. search needs)
+    (λ c κs. let l = c .before .before .before .before .step-when .ensures .long in let r = c .before .before .before .before .before .before .before .before .before .before .before .pre .1 .0 .room in let d = c .before .before .before .before .before .before .before .before .before .before .before .pre .1 .0 .deep in (open-self (c .before .before .before .before .before .before .before .before .before .before .before .pre .1 .0 .is-open), ((omega arith, omega arith), c .before .before .before .before .before .before .before .before .before .before .before .pre .1 .1 .0)))
+    (λ c. c .before .before .settle-by .ensures .long)
+    (λ c. step-turn (c .before .before .before .before .before .before .before .before .before .before .before .before .before .before .pre .1 .0) _ (c .before .before .before .before .before .before .before .before .before .before .asks-true .ensures) (c .before .before .before .before .before .before .before .step-when .ensures) (c .before .before .before .before .before .if1 .taken) (c .before .before .settle-by .ensures))
+    (λ c κs. let f = c .before .before .before .before .before .before .before .before .before .before .pre .1 .0 .is-open .list-ok .few in let r = c .before .before .before .before .before .before .before .before .before .before .pre .1 .0 .room in let d = c .before .before .before .before .before .before .before .before .before .before .pre .1 .0 .deep in (omega arith, omega arith))
+    (λ c. let r = turn-room (c .before .before .before .before .before .before .before .before .before .before .before .before .before .pre .1 .0) (c .before .before .copy-list .ensures) in omega arith)
+    (λ c. let r = turn-room (c .before .before .before .before .before .before .before .before .before .before .before .before .before .pre .1 .0) (c .before .before .copy-list .ensures) in omega arith)
+    (λ c. let r = turn-room (c .before .before .before .before .before .before .before .before .before .before .before .before .before .pre .1 .0) (c .before .before .copy-list .ensures) in omega arith)
+    (λ c κs. let q = c .before .before .before .before .before .before .before .before .before .before .before .before .before .before .pre .0 in (omega arith, turn-asks (c .before .before .before .before .before .before .before .before .before .before .before .before .before .before .pre .1 .0) (c .before .before .before .copy-list .ensures)))
+    (λ c κs. (turn-open (c .before .before .before .before .before .before .before .before .before .before .before .before .before .before .before .before .before .before .pre .1 .0) (c .before .before .before .before .before .before .before .copy-list .ensures) (c .before .before .before .evaluate-expr .ensures) .0, (turn-open (c .before .before .before .before .before .before .before .before .before .before .before .before .before .before .before .before .before .before .pre .1 .0) (c .before .before .before .before .before .before .before .copy-list .ensures) (c .before .before .before .evaluate-expr .ensures) .1, c .before .before .before .before .before .before .before .before .before .before .before .before .before .before .before .before .before .before .pre .1 .1)))
+    (λ c. c .before .before .settle .ensures .long ∙ turn-long (c .before .before .before .before .before .before .before .before .before .before .before .before .before .before .before .before .before .before .before .before .before .pre .1 .0) (c .before .before .before .before .before .before .before .before .before .before .copy-list .ensures) (c .before .before .before .before .before .before .evaluate-expr .ensures))
+    (λ c. turn-gives (c .before .before .before .before .before .before .before .before .before .before .before .before .before .before .before .before .before .before .before .before .before .pre .1 .0) (c .before .before .before .before .before .before .before .before .before .before .copy-list .ensures) (c .before .before .before .before .before .before .evaluate-expr .ensures) (c .before .before .before .before .before .before .before .before .before .before .before .before .before .before .before .before .before .before .before .before .before .args .how) (c .before .before .before .before .before .before .before .before .before .before .before .before .before .before .before .before .before .before .before .before .before .args .index) (c .before .before .before .before .before .before .before .before .before .before .before .before .before .before .before .before .before .before .before .before .before .args .failed) (c .before .before .settle .ensures)))
     (λ t. unary-lts.spec (
       children-at-reads.Asked,
       children-at-reads.Learnt,

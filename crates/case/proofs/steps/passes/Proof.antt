@@ -1,5 +1,5 @@
--- By whether the tag is that of less.
-use Rattle.case.proofs.StepLaws.{passes-less, passes-equal}
+-- By the tag.
+use Rattle.case.proofs.StepLaws.{passes-less, passes-more, passes-equal}
 use Rattle.case.proofs.steps.passes.Statement.{statement}
 use Rattle.case.proofs.steps.passes.Tie as tie
 
@@ -8,4 +8,5 @@ passes-spec =
     tie.close
     (tie.spec
     (λ c. passes-less (c .before .args .tag) (c .before .args .key) (c .before .args .x) (c .if1 .taken))
-    (λ c. passes-equal (c .before .args .tag) (c .before .args .key) (c .before .args .x) (c .if1 .left)))
+    (λ c. passes-more (c .before .before .args .tag) (c .before .before .args .key) (c .before .before .args .x) (c .before .if1 .left) (c .if2 .taken))
+    (λ c. passes-equal (c .before .before .args .tag) (c .before .before .args .key) (c .before .before .args .x) (c .before .if1 .left) (c .if2 .left)))
