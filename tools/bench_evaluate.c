@@ -1,5 +1,5 @@
-/* bench_evaluate FOLDER NAME [ONCE]: evaluates FOLDER/NAME.rule over FOLDER/NAME.table through the library and prints nanoseconds a table;
- * with ONCE only one evaluation, for counting instructions. */
+/* bench_evaluate FOLDER NAME [ONCE]: evaluates FOLDER/NAME.rule over FOLDER/NAME.table through the library and prints nanoseconds a table, and
+ * beside them what reading the rule, reading the table and a memset of the work buffer take in the same run; with ONCE only one evaluation, for counting instructions. */
 #include <stdio.h>
 #include <stdlib.h>
 #include <string.h>
@@ -24,19 +24,33 @@ static double now(void) {
     return t.tv_sec * 1e9 + t.tv_nsec;
 }
 
-int main(int argc, char **argv) {
-    if (argc < 3) return 2;
-    size_t r = load(argv[1], argv[2], "rule", rule, sizeof rule), t = load(argv[1], argv[2], "table", table, sizeof table);
-    size_t said = tembalku_evaluate(rule, r, table, t, work, sizeof work, output, sizeof output);
-    if (argc > 3) return said < 256;
-    double best = 1e18;
+static size_t rule_length, table_length;
+static volatile size_t said;
+
+static void whole(void) { said = tembalku_evaluate(rule, rule_length, table, table_length, work, sizeof work, output, sizeof output); }
+static void read_rule(void) { said = tembalku_rule_read(rule, rule_length); }
+static void read_table(void) { said = tembalku_table_read(table, table_length); }
+static void clear(void) { memset(work, 0, sizeof work); __asm__ volatile("" ::"r"(work) : "memory"); }
+
+/* The best of seven rounds of 2,000 calls. */
+static double best(void (*call)(void)) {
+    double least = 1e18;
     for (int k = 0; k < 7; k++) {
         int n = 2000;
         double from = now();
-        for (int i = 0; i < n; i++) said = tembalku_evaluate(rule, r, table, t, work, sizeof work, output, sizeof output);
+        for (int i = 0; i < n; i++) call();
         double took = (now() - from) / n;
-        if (took < best) best = took;
+        if (took < least) least = took;
     }
-    printf("%-28s %8.0f ns a table, answer %zu\n", argv[2], best, said);
+    return least;
+}
+
+int main(int argc, char **argv) {
+    if (argc < 3) return 2;
+    rule_length = load(argv[1], argv[2], "rule", rule, sizeof rule), table_length = load(argv[1], argv[2], "table", table, sizeof table);
+    whole();
+    if (argc > 3) return said < 256;
+    double all = best(whole), rules = best(read_rule), tables = best(read_table), clears = best(clear);
+    printf("%-28s %8.0f ns a table; reading the rule %5.0f, the table %4.0f, clearing %5.0f\n", argv[2], all, rules, tables, clears);
     return 0;
 }
