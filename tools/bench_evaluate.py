@@ -1,7 +1,7 @@
 #!/usr/bin/env python3
 """bench_evaluate.py [--count]: evaluates tables of 512 rows through the static library, outside of the gate.
 
-Builds tools/bench_evaluate.c with target/staticlib/libtembalku.a (made by `rt staticlib tembalku`) and prints nanoseconds a table for seven
+Builds tools/bench_evaluate.c with target/staticlib/libtembalku.a (made by `rt staticlib tembalku`) and prints nanoseconds a table for eight
 rules; with --count also instructions a table, by valgrind's callgrind, collected within one call.
 """
 import os
@@ -53,11 +53,13 @@ def bitmap(bits):
     return bytes(out)
 
 
+def int32_column(values, nulls=None):
+    validity = bitmap([0 if n else 1 for n in nulls]) if nulls else b""
+    return field(2, bytes([2, 1 if nulls else 0])) + field(3, validity) + field(4, b"".join(number(v, 4) for v in values))
+
+
 def numbers(values, nulls=None):
-    rows = len(values)
-    head = field(1, number(rows, 2)) + field(2, bytes([2, 1 if nulls else 0]))
-    head += field(3, bitmap([0 if n else 1 for n in nulls]) if nulls else b"")
-    return head + field(4, b"".join(number(v, 4) for v in values))
+    return field(1, number(len(values), 2)) + int32_column(values, nulls)
 
 
 def texts(values):
@@ -84,6 +86,9 @@ def cases():
     yield "10 text keys", case(column(0, 5, 0), [(text(words[k]), int32(k)) for k in range(10)], int32(-1)), texts([words[k] for k in keys])
     yield "CASE in THEN (5 over 4)", case(None, [(less(col, int32(500)), case(None, [(less(col, int32(250)), int32(1))], int32(2)))], int32(3)), numbers(values)
     yield "three CASEs of two", case(None, [(less(col, int32(300 * (i + 1))), two(300 * i)) for i in range(3)], int32(9)), numbers(values)
+    four = [[rng.randrange(1000) for _ in range(512)] for _ in range(4)]
+    turns = case(None, [(less(column(i % 4, 2, 0), int32(25 * (i + 1))), int32(i)) for i in range(10)], int32(99))
+    yield "10 branches, four columns", turns, field(1, number(512, 2)) + b"".join(int32_column(v) for v in four)
 
 
 def main(count):

@@ -1,4 +1,5 @@
--- WHENs that each compare the numbers of one column with a literal: a row's branch is found from one number of the row (01, What changes shape).
+-- Steps: WHENs that compare the numbers of a column with a literal. A row's branch is found from one number of the row; what is promised of it is the
+-- one-row outcome (01, One row: branches are tried in order; equal and less).
 use mathlib.Core.Path.{_≡_}
 use mathlib.Core.Bool.{Bool, true, cond}
 use mathlib.Core.List.{List, _++_}
@@ -33,7 +34,7 @@ pub record StepIndex (rule : List ℕ) (at : ℕ) (table : List ℕ) (t : Table)
   pub is : (bs : Branches) (rest : List Expr) (end depth : ℕ) (els : Outcome) → TreesAt rule at end (branchTrees bs ++ rest) depth → branchCount bs ≡ count
       → evalBranches bs (rowIn table t q) isTrueTest els ≡ indexed bs (rowIn table t q) els c
 
--- the index of each listed row, where every WHEN is such a one
+-- the index of each listed row, where every WHEN is a step on one column
 pub record StepsGive (rule : List ℕ) (at : ℕ) (table : List ℕ) (t : Table) (count : ℕ) (w : List ℕ) (n : ℕ) (served : Bool) (values : List ℕ) : Type 0 where
   pub long : length values ≡ 512
   pub each : served ≡ true → (q : ℕ) → Listed w 0 n q → StepIndex rule at table t count q (getD values q 0)
@@ -146,6 +147,7 @@ pub record WhenIndex (e : Expr) (row : Row) (c : ℕ) : Type 0 where
 pub record StepRow (s : Step) (table : List ℕ) (place : ColumnPlace) (q c : ℕ) : Type 0 where
   pub is : (e : Expr) (row : Row) → StepWhen (s .tag) (s .column) (s .kind) (s .key) e → row (s .column) ≡ entry (entryAt (columnIn table place) q) → WhenIndex e row c
 
+-- at each row of a list
 pub record StepRows (s : Step) (table : List ℕ) (place : ColumnPlace) (w : List ℕ) (at n : ℕ) (served : Bool) (indices : List ℕ) : Type 0 where
   pub long : length indices ≡ 512
   pub each : served ≡ true → (q : ℕ) → Listed w at n q → StepRow s table place q (getD indices q 0)
