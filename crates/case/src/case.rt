@@ -40,7 +40,7 @@ ghost use Rattle.case.specs.Evaluation.{Framed, Done, ExprRight, UnaryRi
 ghost use Rattle.case.specs.Results.{ThenRight, ElseRight};
 
 // An expression at each listed row, in the row's slot.
-pub(crate) fn evaluate_expr(
+pub(crate) fn expr(
     rule: &[u8],
     start: usize,
     end: usize,
@@ -94,7 +94,7 @@ fn unary(
     ensures { λ _. ⌜ Done (UnaryRight (now (rule .entry)) start end (now (table .entry)) t depth) (now (work .entry)) n (now (work .exit)) ⌝ }
 {
     let at = children_at(rule, start);
-    evaluate_expr(rule, at, end, table, t, work, n, depth);
+    expr(rule, at, end, table, t, work, n, depth);
     apply(work, n, operator_at(rule, start));
 }
 
@@ -115,7 +115,7 @@ fn binary(
     let at = children_at(rule, start);
     let middle = field_end(rule, at);
     let less = byte_at(rule, start) == 24;
-    evaluate_expr(rule, at, middle, table, t, work, n, depth);
+    expr(rule, at, middle, table, t, work, n, depth);
     against(rule, middle, end, table, t, work, n, less, depth);
 }
 
@@ -142,7 +142,7 @@ fn against(
         return;
     }
     copy_list(work, n, 0, 6656);
-    evaluate_expr(rule, start, end, table, t, &mut work[6656..], n, depth);
+    expr(rule, start, end, table, t, &mut work[6656..], n, depth);
     compare_rows(rule, table, work, n, less);
 }
 
@@ -246,7 +246,7 @@ fn case_when_with_expr(
     let at = children_at(rule, start);
     let first = field_end(rule, at);
     let to = type_of(rule, start);
-    evaluate_expr(rule, at, first, table, t, work, n, depth);
+    expr(rule, at, first, table, t, work, n, depth);
     by_base(rule, first, end, table, t, work, n, count, to, depth);
 }
 
@@ -305,7 +305,7 @@ fn case_column_or_null(
 {
     let at = children_at(rule, start);
     let then = field_end(rule, at);
-    evaluate_expr(rule, at, then, table, t, work, n, depth);
+    expr(rule, at, then, table, t, work, n, depth);
     cells_or_null(rule, then, table, t, work, n);
 }
 
@@ -332,7 +332,7 @@ fn scalar_or_scalar(
         return;
     }
     let then = field_end(rule, at);
-    evaluate_expr(rule, at, then, table, t, work, n, depth);
+    expr(rule, at, then, table, t, work, n, depth);
     scalar_rows(rule, then, end, work, n);
 }
 
@@ -398,7 +398,7 @@ fn with_lookup_table(
     let at = children_at(rule, start);
     let first = field_end(rule, at);
     let to = type_of(rule, start);
-    evaluate_expr(rule, at, first, table, t, work, n, depth);
+    expr(rule, at, first, table, t, work, n, depth);
     look_up(rule, first, end, count, to, table, work, n);
 }
 
@@ -513,7 +513,7 @@ fn turn(
         return settle_by(work, left, &whens, index, b);
     }
     copy_list(work, left, 5632, 6656);
-    evaluate_expr(rule, start, end, table, t, &mut work[6656..], left, depth);
+    expr(rule, start, end, table, t, &mut work[6656..], left, depth);
     settle(rule, table, work, left, how, index, failed, b)
 }
 
@@ -540,9 +540,9 @@ fn take(
     let mut place = at;
     let mut k = 1;
     while k < els {
-        let then = field_end(rule, place);
-        let next = field_end(rule, then);
-        take_then(rule, then, next, table, t, work, n, values, k, depth);
+        let result = field_end(rule, place);
+        let next = field_end(rule, result);
+        then(rule, result, next, table, t, work, n, values, k, depth);
         place = next;
         k += 1;
     }
@@ -550,7 +550,7 @@ fn take(
 }
 
 // A THEN over the rows of its index; a literal is there already.
-fn take_then(
+fn then(
     rule: &[u8],
     start: usize,
     end: usize,
@@ -570,7 +570,7 @@ fn take_then(
         return;
     }
     let m = pick(work, n, values, k);
-    evaluate_expr(rule, start, end, table, t, &mut work[6656..], m, depth);
+    expr(rule, start, end, table, t, &mut work[6656..], m, depth);
     copy_slots(work, m);
 }
 
@@ -599,7 +599,7 @@ fn take_else(
         return;
     }
     let m = pick(work, n, values, k);
-    evaluate_expr(rule, at, end, table, t, &mut work[6656..], m, depth);
+    expr(rule, at, end, table, t, &mut work[6656..], m, depth);
     apply(&mut work[6656..], m, Op::TryCast(to));
     copy_slots(work, m);
 }

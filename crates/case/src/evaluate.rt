@@ -1,6 +1,6 @@
 // Evaluation of a rule over a table, in a lent work buffer, into a lent output.
 use crate::answer::RunAnswer;
-use crate::case::evaluate_expr;
+use crate::case::expr;
 use crate::clear::clear;
 use crate::fits::fits_table;
 use crate::rows::all_rows;
@@ -68,5 +68,5 @@ fn evaluate_rows(rule: &[u8], table: &[u8], t: Table, work: &mut [u8])
     ensures { λ _. ⌜ RowsGives (now (rule .entry)) (now (table .entry)) t (now (work .entry)) (now (work .exit)) ⌝ }
 {
     all_rows(work, t.rows);
-    evaluate_expr(rule, 0, rule.len(), table, t, work, t.rows, 8);
+    expr(rule, 0, rule.len(), table, t, work, t.rows, 8);
 }

@@ -11,5 +11,5 @@ evaluate-rows-spec =
     (tie.spec
     (λ c κs. (c .before .before .before .before .pre .0, (let k = c .before .before .before .before .pre .1 in omega arith)))
     (λ c κs. rows-framed (c .before .before .before .before .before .before .before .before .pre) (c .before .before .before .all-rows .ensures))
-    (λ c. c .before .before .evaluate-expr .ensures .long ∙ c .before .before .before .before .before .before .all-rows .ensures .long)
-    (λ c. rows-given (c .before .before .before .before .before .before .all-rows .ensures) (c .before .before .evaluate-expr .ensures)))
+    (λ c. c .before .before .expr .ensures .long ∙ c .before .before .before .before .before .before .all-rows .ensures .long)
+    (λ c. rows-given (c .before .before .before .before .before .before .all-rows .ensures) (c .before .before .expr .ensures)))

@@ -15,58 +15,58 @@ use borrow.Fn.Kinds.{In}
 use borrow.Fn.PlainCycle.{Measures, is, falls, and}
 use Rattle.case.proofs.case.against.Reads as against
 use Rattle.case.proofs.case.against.Kinds as against-kinds
-use Rattle.case.proofs.case.+against+binary+branches+by_base+case+case_column_or_null+case_when_no_expr+case_when_with_expr+choose+evaluate_expr+expr_or_expr+scalar_or_scalar+take+take_else+take_then+turn+unary+with_lookup_table.Lts-against as against-lts
+use Rattle.case.proofs.case.+against+binary+branches+by_base+case+case_column_or_null+case_when_no_expr+case_when_with_expr+choose+expr+expr_or_expr+scalar_or_scalar+take+take_else+then+turn+unary+with_lookup_table.Lts-against as against-lts
 use Rattle.case.proofs.case.binary.Reads as binary
 use Rattle.case.proofs.case.binary.Kinds as binary-kinds
-use Rattle.case.proofs.case.+against+binary+branches+by_base+case+case_column_or_null+case_when_no_expr+case_when_with_expr+choose+evaluate_expr+expr_or_expr+scalar_or_scalar+take+take_else+take_then+turn+unary+with_lookup_table.Lts-binary as binary-lts
+use Rattle.case.proofs.case.+against+binary+branches+by_base+case+case_column_or_null+case_when_no_expr+case_when_with_expr+choose+expr+expr_or_expr+scalar_or_scalar+take+take_else+then+turn+unary+with_lookup_table.Lts-binary as binary-lts
 use Rattle.case.proofs.case.branches.Reads as branches
 use Rattle.case.proofs.case.branches.Kinds as branches-kinds
-use Rattle.case.proofs.case.+against+binary+branches+by_base+case+case_column_or_null+case_when_no_expr+case_when_with_expr+choose+evaluate_expr+expr_or_expr+scalar_or_scalar+take+take_else+take_then+turn+unary+with_lookup_table.Lts-branches as branches-lts
+use Rattle.case.proofs.case.+against+binary+branches+by_base+case+case_column_or_null+case_when_no_expr+case_when_with_expr+choose+expr+expr_or_expr+scalar_or_scalar+take+take_else+then+turn+unary+with_lookup_table.Lts-branches as branches-lts
 use Rattle.case.proofs.case.by_base.Reads as by-base
 use Rattle.case.proofs.case.by_base.Kinds as by-base-kinds
-use Rattle.case.proofs.case.+against+binary+branches+by_base+case+case_column_or_null+case_when_no_expr+case_when_with_expr+choose+evaluate_expr+expr_or_expr+scalar_or_scalar+take+take_else+take_then+turn+unary+with_lookup_table.Lts-by_base as by-base-lts
+use Rattle.case.proofs.case.+against+binary+branches+by_base+case+case_column_or_null+case_when_no_expr+case_when_with_expr+choose+expr+expr_or_expr+scalar_or_scalar+take+take_else+then+turn+unary+with_lookup_table.Lts-by_base as by-base-lts
 use Rattle.case.proofs.case.case.Reads as case
 use Rattle.case.proofs.case.case.Kinds as case-kinds
-use Rattle.case.proofs.case.+against+binary+branches+by_base+case+case_column_or_null+case_when_no_expr+case_when_with_expr+choose+evaluate_expr+expr_or_expr+scalar_or_scalar+take+take_else+take_then+turn+unary+with_lookup_table.Lts-case as case-lts
+use Rattle.case.proofs.case.+against+binary+branches+by_base+case+case_column_or_null+case_when_no_expr+case_when_with_expr+choose+expr+expr_or_expr+scalar_or_scalar+take+take_else+then+turn+unary+with_lookup_table.Lts-case as case-lts
 use Rattle.case.proofs.case.case_column_or_null.Reads as case-column-or-null
 use Rattle.case.proofs.case.case_column_or_null.Kinds as case-column-or-null-kinds
-use Rattle.case.proofs.case.+against+binary+branches+by_base+case+case_column_or_null+case_when_no_expr+case_when_with_expr+choose+evaluate_expr+expr_or_expr+scalar_or_scalar+take+take_else+take_then+turn+unary+with_lookup_table.Lts-case_column_or_null as case-column-or-null-lts
+use Rattle.case.proofs.case.+against+binary+branches+by_base+case+case_column_or_null+case_when_no_expr+case_when_with_expr+choose+expr+expr_or_expr+scalar_or_scalar+take+take_else+then+turn+unary+with_lookup_table.Lts-case_column_or_null as case-column-or-null-lts
 use Rattle.case.proofs.case.case_when_no_expr.Reads as case-when-no-expr
 use Rattle.case.proofs.case.case_when_no_expr.Kinds as case-when-no-expr-kinds
-use Rattle.case.proofs.case.+against+binary+branches+by_base+case+case_column_or_null+case_when_no_expr+case_when_with_expr+choose+evaluate_expr+expr_or_expr+scalar_or_scalar+take+take_else+take_then+turn+unary+with_lookup_table.Lts-case_when_no_expr as case-when-no-expr-lts
+use Rattle.case.proofs.case.+against+binary+branches+by_base+case+case_column_or_null+case_when_no_expr+case_when_with_expr+choose+expr+expr_or_expr+scalar_or_scalar+take+take_else+then+turn+unary+with_lookup_table.Lts-case_when_no_expr as case-when-no-expr-lts
 use Rattle.case.proofs.case.case_when_with_expr.Reads as case-when-with-expr
 use Rattle.case.proofs.case.case_when_with_expr.Kinds as case-when-with-expr-kinds
-use Rattle.case.proofs.case.+against+binary+branches+by_base+case+case_column_or_null+case_when_no_expr+case_when_with_expr+choose+evaluate_expr+expr_or_expr+scalar_or_scalar+take+take_else+take_then+turn+unary+with_lookup_table.Lts-case_when_with_expr as case-when-with-expr-lts
+use Rattle.case.proofs.case.+against+binary+branches+by_base+case+case_column_or_null+case_when_no_expr+case_when_with_expr+choose+expr+expr_or_expr+scalar_or_scalar+take+take_else+then+turn+unary+with_lookup_table.Lts-case_when_with_expr as case-when-with-expr-lts
 use Rattle.case.proofs.case.choose.Reads as choose
 use Rattle.case.proofs.case.choose.Kinds as choose-kinds
-use Rattle.case.proofs.case.+against+binary+branches+by_base+case+case_column_or_null+case_when_no_expr+case_when_with_expr+choose+evaluate_expr+expr_or_expr+scalar_or_scalar+take+take_else+take_then+turn+unary+with_lookup_table.Lts-choose as choose-lts
-use Rattle.case.proofs.case.evaluate_expr.Reads as evaluate-expr
-use Rattle.case.proofs.case.evaluate_expr.Kinds as evaluate-expr-kinds
-use Rattle.case.proofs.case.+against+binary+branches+by_base+case+case_column_or_null+case_when_no_expr+case_when_with_expr+choose+evaluate_expr+expr_or_expr+scalar_or_scalar+take+take_else+take_then+turn+unary+with_lookup_table.Lts-evaluate_expr as evaluate-expr-lts
+use Rattle.case.proofs.case.+against+binary+branches+by_base+case+case_column_or_null+case_when_no_expr+case_when_with_expr+choose+expr+expr_or_expr+scalar_or_scalar+take+take_else+then+turn+unary+with_lookup_table.Lts-choose as choose-lts
+use Rattle.case.proofs.case.expr.Reads as expr
+use Rattle.case.proofs.case.expr.Kinds as expr-kinds
+use Rattle.case.proofs.case.+against+binary+branches+by_base+case+case_column_or_null+case_when_no_expr+case_when_with_expr+choose+expr+expr_or_expr+scalar_or_scalar+take+take_else+then+turn+unary+with_lookup_table.Lts-expr as expr-lts
 use Rattle.case.proofs.case.expr_or_expr.Reads as expr-or-expr
 use Rattle.case.proofs.case.expr_or_expr.Kinds as expr-or-expr-kinds
-use Rattle.case.proofs.case.+against+binary+branches+by_base+case+case_column_or_null+case_when_no_expr+case_when_with_expr+choose+evaluate_expr+expr_or_expr+scalar_or_scalar+take+take_else+take_then+turn+unary+with_lookup_table.Lts-expr_or_expr as expr-or-expr-lts
+use Rattle.case.proofs.case.+against+binary+branches+by_base+case+case_column_or_null+case_when_no_expr+case_when_with_expr+choose+expr+expr_or_expr+scalar_or_scalar+take+take_else+then+turn+unary+with_lookup_table.Lts-expr_or_expr as expr-or-expr-lts
 use Rattle.case.proofs.case.scalar_or_scalar.Reads as scalar-or-scalar
 use Rattle.case.proofs.case.scalar_or_scalar.Kinds as scalar-or-scalar-kinds
-use Rattle.case.proofs.case.+against+binary+branches+by_base+case+case_column_or_null+case_when_no_expr+case_when_with_expr+choose+evaluate_expr+expr_or_expr+scalar_or_scalar+take+take_else+take_then+turn+unary+with_lookup_table.Lts-scalar_or_scalar as scalar-or-scalar-lts
+use Rattle.case.proofs.case.+against+binary+branches+by_base+case+case_column_or_null+case_when_no_expr+case_when_with_expr+choose+expr+expr_or_expr+scalar_or_scalar+take+take_else+then+turn+unary+with_lookup_table.Lts-scalar_or_scalar as scalar-or-scalar-lts
 use Rattle.case.proofs.case.take.Reads as take
 use Rattle.case.proofs.case.take.Kinds as take-kinds
-use Rattle.case.proofs.case.+against+binary+branches+by_base+case+case_column_or_null+case_when_no_expr+case_when_with_expr+choose+evaluate_expr+expr_or_expr+scalar_or_scalar+take+take_else+take_then+turn+unary+with_lookup_table.Lts-take as take-lts
+use Rattle.case.proofs.case.+against+binary+branches+by_base+case+case_column_or_null+case_when_no_expr+case_when_with_expr+choose+expr+expr_or_expr+scalar_or_scalar+take+take_else+then+turn+unary+with_lookup_table.Lts-take as take-lts
 use Rattle.case.proofs.case.take_else.Reads as take-else
 use Rattle.case.proofs.case.take_else.Kinds as take-else-kinds
-use Rattle.case.proofs.case.+against+binary+branches+by_base+case+case_column_or_null+case_when_no_expr+case_when_with_expr+choose+evaluate_expr+expr_or_expr+scalar_or_scalar+take+take_else+take_then+turn+unary+with_lookup_table.Lts-take_else as take-else-lts
-use Rattle.case.proofs.case.take_then.Reads as take-then
-use Rattle.case.proofs.case.take_then.Kinds as take-then-kinds
-use Rattle.case.proofs.case.+against+binary+branches+by_base+case+case_column_or_null+case_when_no_expr+case_when_with_expr+choose+evaluate_expr+expr_or_expr+scalar_or_scalar+take+take_else+take_then+turn+unary+with_lookup_table.Lts-take_then as take-then-lts
+use Rattle.case.proofs.case.+against+binary+branches+by_base+case+case_column_or_null+case_when_no_expr+case_when_with_expr+choose+expr+expr_or_expr+scalar_or_scalar+take+take_else+then+turn+unary+with_lookup_table.Lts-take_else as take-else-lts
+use Rattle.case.proofs.case.then.Reads as then
+use Rattle.case.proofs.case.then.Kinds as then-kinds
+use Rattle.case.proofs.case.+against+binary+branches+by_base+case+case_column_or_null+case_when_no_expr+case_when_with_expr+choose+expr+expr_or_expr+scalar_or_scalar+take+take_else+then+turn+unary+with_lookup_table.Lts-then as then-lts
 use Rattle.case.proofs.case.turn.Reads as turn
 use Rattle.case.proofs.case.turn.Kinds as turn-kinds
-use Rattle.case.proofs.case.+against+binary+branches+by_base+case+case_column_or_null+case_when_no_expr+case_when_with_expr+choose+evaluate_expr+expr_or_expr+scalar_or_scalar+take+take_else+take_then+turn+unary+with_lookup_table.Lts-turn as turn-lts
+use Rattle.case.proofs.case.+against+binary+branches+by_base+case+case_column_or_null+case_when_no_expr+case_when_with_expr+choose+expr+expr_or_expr+scalar_or_scalar+take+take_else+then+turn+unary+with_lookup_table.Lts-turn as turn-lts
 use Rattle.case.proofs.case.unary.Reads as unary
 use Rattle.case.proofs.case.unary.Kinds as unary-kinds
-use Rattle.case.proofs.case.+against+binary+branches+by_base+case+case_column_or_null+case_when_no_expr+case_when_with_expr+choose+evaluate_expr+expr_or_expr+scalar_or_scalar+take+take_else+take_then+turn+unary+with_lookup_table.Lts-unary as unary-lts
+use Rattle.case.proofs.case.+against+binary+branches+by_base+case+case_column_or_null+case_when_no_expr+case_when_with_expr+choose+expr+expr_or_expr+scalar_or_scalar+take+take_else+then+turn+unary+with_lookup_table.Lts-unary as unary-lts
 use Rattle.case.proofs.case.with_lookup_table.Reads as with-lookup-table
 use Rattle.case.proofs.case.with_lookup_table.Kinds as with-lookup-table-kinds
-use Rattle.case.proofs.case.+against+binary+branches+by_base+case+case_column_or_null+case_when_no_expr+case_when_with_expr+choose+evaluate_expr+expr_or_expr+scalar_or_scalar+take+take_else+take_then+turn+unary+with_lookup_table.Lts-with_lookup_table as with-lookup-table-lts
+use Rattle.case.proofs.case.+against+binary+branches+by_base+case+case_column_or_null+case_when_no_expr+case_when_with_expr+choose+expr+expr_or_expr+scalar_or_scalar+take+take_else+then+turn+unary+with_lookup_table.Lts-with_lookup_table as with-lookup-table-lts
 use Rattle.case.proofs.binary.compare_rows.Reads as compare-rows-reads
 use Rattle.case.proofs.binary.compare_value.Reads as compare-value-reads
 use Rattle.case.proofs.cells.cells_or_null.Reads as cells-or-null-reads
@@ -93,10 +93,10 @@ use Rattle.rule.proofs.strategy.strategy_at.Reads as strategy-at-reads
 use Rattle.rule.proofs.type_of.type_of.Reads as type-of-reads
 use Rattle.rule.proofs.walk.children_at.Reads as children-at-reads
 use Rattle.rule.proofs.walk.field_end.Reads as field-end-reads
-use Rattle.case.proofs.case.+against+binary+branches+by_base+case+case_column_or_null+case_when_no_expr+case_when_with_expr+choose+evaluate_expr+expr_or_expr+scalar_or_scalar+take+take_else+take_then+turn+unary+with_lookup_table.{
+use Rattle.case.proofs.case.+against+binary+branches+by_base+case+case_column_or_null+case_when_no_expr+case_when_with_expr+choose+expr+expr_or_expr+scalar_or_scalar+take+take_else+then+turn+unary+with_lookup_table.{
   statement,
 }
-use Rattle.case.proofs.case.+against+binary+branches+by_base+case+case_column_or_null+case_when_no_expr+case_when_with_expr+choose+evaluate_expr+expr_or_expr+scalar_or_scalar+take+take_else+take_then+turn+unary+with_lookup_table.Tie.{
+use Rattle.case.proofs.case.+against+binary+branches+by_base+case+case_column_or_null+case_when_no_expr+case_when_with_expr+choose+expr+expr_or_expr+scalar_or_scalar+take+take_else+then+turn+unary+with_lookup_table.Tie.{
   close,
 }
 
@@ -127,8 +127,8 @@ abbrev μ-case-when-with-expr : Measures 3 case-when-with-expr-kinds.ps ℕ
 abbrev μ-choose : Measures 3 choose-kinds.ps ℕ
 μ-choose κs a = 16 * a .1 .1 .1 .1 .1 .1 .1 .1 .1 .0 + 2
 
-abbrev μ-evaluate-expr : Measures 3 evaluate-expr-kinds.ps ℕ
-μ-evaluate-expr κs a = 16 * a .1 .1 .1 .1 .1 .1 .1 .0
+abbrev μ-expr : Measures 3 expr-kinds.ps ℕ
+μ-expr κs a = 16 * a .1 .1 .1 .1 .1 .1 .1 .0
 
 abbrev μ-expr-or-expr : Measures 3 expr-or-expr-kinds.ps ℕ
 μ-expr-or-expr κs a = 16 * a .1 .1 .1 .1 .1 .1 .1 .0 + 5
@@ -142,8 +142,8 @@ abbrev μ-take : Measures 4 take-kinds.ps ℕ
 abbrev μ-take-else : Measures 4 take-else-kinds.ps ℕ
 μ-take-else κs a = 16 * a .1 .1 .1 .1 .1 .1 .1 .1 .1 .1 .0 + 1
 
-abbrev μ-take-then : Measures 4 take-then-kinds.ps ℕ
-μ-take-then κs a = 16 * a .1 .1 .1 .1 .1 .1 .1 .1 .1 .0 + 1
+abbrev μ-then : Measures 4 then-kinds.ps ℕ
+μ-then κs a = 16 * a .1 .1 .1 .1 .1 .1 .1 .1 .1 .0 + 1
 
 abbrev μ-turn : Measures 3 turn-kinds.ps ℕ
 μ-turn κs a = 16 * a .1 .1 .1 .1 .1 .1 .1 .1 .1 .1 .1 .0 + 1
@@ -239,17 +239,17 @@ choose-at t = and 3 choose-kinds.ps (is 3 choose-kinds.ps μ-choose t) choose.Pr
 abbrev choose-below : ℕ → In 3 choose-kinds.ps
 choose-below t = and 3 choose-kinds.ps (falls 3 choose-kinds.ps _<_ μ-choose t) choose.Pre
 
-abbrev evaluate-expr-at : ℕ → In 3 evaluate-expr-kinds.ps
-evaluate-expr-at t =
-    and 3 evaluate-expr-kinds.ps (is 3 evaluate-expr-kinds.ps μ-evaluate-expr t) evaluate-expr.Pre
+abbrev expr-at : ℕ → In 3 expr-kinds.ps
+expr-at t =
+    and 3 expr-kinds.ps (is 3 expr-kinds.ps μ-expr t) expr.Pre
 
-abbrev evaluate-expr-below : ℕ → In 3 evaluate-expr-kinds.ps
-evaluate-expr-below t =
+abbrev expr-below : ℕ → In 3 expr-kinds.ps
+expr-below t =
     and
     3
-    evaluate-expr-kinds.ps
-    (falls 3 evaluate-expr-kinds.ps _<_ μ-evaluate-expr t)
-    evaluate-expr.Pre
+    expr-kinds.ps
+    (falls 3 expr-kinds.ps _<_ μ-expr t)
+    expr.Pre
 
 abbrev expr-or-expr-at : ℕ → In 3 expr-or-expr-kinds.ps
 expr-or-expr-at t =
@@ -292,12 +292,12 @@ abbrev take-else-below : ℕ → In 4 take-else-kinds.ps
 take-else-below t =
     and 4 take-else-kinds.ps (falls 4 take-else-kinds.ps _<_ μ-take-else t) take-else.Pre
 
-abbrev take-then-at : ℕ → In 4 take-then-kinds.ps
-take-then-at t = and 4 take-then-kinds.ps (is 4 take-then-kinds.ps μ-take-then t) take-then.Pre
+abbrev then-at : ℕ → In 4 then-kinds.ps
+then-at t = and 4 then-kinds.ps (is 4 then-kinds.ps μ-then t) then.Pre
 
-abbrev take-then-below : ℕ → In 4 take-then-kinds.ps
-take-then-below t =
-    and 4 take-then-kinds.ps (falls 4 take-then-kinds.ps _<_ μ-take-then t) take-then.Pre
+abbrev then-below : ℕ → In 4 then-kinds.ps
+then-below t =
+    and 4 then-kinds.ps (falls 4 then-kinds.ps _<_ μ-then t) then.Pre
 
 abbrev turn-at : ℕ → In 3 turn-kinds.ps
 turn-at t = and 3 turn-kinds.ps (is 3 turn-kinds.ps μ-turn t) turn.Pre
@@ -339,9 +339,9 @@ take-Inv-loop rule at end table t work₀ n values count to depth els place₀ k
 abbrev take-μ-loop : take-lts.MeasureT-loop
 take-μ-loop rule at end table t work₀ n values count to depth els place₀ k₀ work place k = els - k
 
-pub +against+binary+branches+by-base+case+case-column-or-null+case-when-no-expr+case-when-with-expr+choose+evaluate-expr+expr-or-expr+scalar-or-scalar+take+take-else+take-then+turn+unary+with-lookup-table-spec :
+pub +against+binary+branches+by-base+case+case-column-or-null+case-when-no-expr+case-when-with-expr+choose+expr+expr-or-expr+scalar-or-scalar+take+take-else+then+turn+unary+with-lookup-table-spec :
     {M : Type 1} → statement M
-+against+binary+branches+by-base+case+case-column-or-null+case-when-no-expr+case-when-with-expr+choose+evaluate-expr+expr-or-expr+scalar-or-scalar+take+take-else+take-then+turn+unary+with-lookup-table-spec =
++against+binary+branches+by-base+case+case-column-or-null+case-when-no-expr+case-when-with-expr+choose+expr+expr-or-expr+scalar-or-scalar+take+take-else+then+turn+unary+with-lookup-table-spec =
     close
     μ-against
     μ-binary
@@ -352,12 +352,12 @@ pub +against+binary+branches+by-base+case+case-column-or-null+case-when-no-expr+
     μ-case-when-no-expr
     μ-case-when-with-expr
     μ-choose
-    μ-evaluate-expr
+    μ-expr
     μ-expr-or-expr
     μ-scalar-or-scalar
     μ-take
     μ-take-else
-    μ-take-then
+    μ-then
     μ-turn
     μ-unary
     μ-with-lookup-table
@@ -370,8 +370,8 @@ pub +against+binary+branches+by-base+case+case-column-or-null+case-when-no-expr+
       compare-value-reads.Learnt,
       copy-list-reads.Asked,
       copy-list-reads.Learnt,
-      evaluate-expr-below t,
-      evaluate-expr.Post,
+      expr-below t,
+      expr.Post,
       compare-rows-reads.Asked,
       compare-rows-reads.Learnt,
     )
@@ -388,9 +388,9 @@ pub +against+binary+branches+by-base+case+case-column-or-null+case-when-no-expr+
     (λ c. let l = c .before .before .copy-list .ensures .long in let r = c .before .before .before .before .before .before .before .before .before .before .pre .1 .room in omega arith)
     (λ c. let l = c .before .before .copy-list .ensures .long in let r = c .before .before .before .before .before .before .before .before .before .before .pre .1 .room in omega arith)
     (λ c κs. let q = c .before .before .before .before .before .before .before .before .before .before .before .pre .0 in (omega arith, against-asks (c .before .before .before .before .before .before .before .before .before .before .before .pre .1) (omega arith) (c .before .before .before .copy-list .ensures)))
-    (λ c κs. against-next (c .before .before .before .before .before .before .before .before .before .before .before .before .before .before .before .pre .1) (omega arith) (c .before .before .before .before .before .before .before .copy-list .ensures) (c .before .before .before .evaluate-expr .ensures))
-    (λ c. c .before .before .compare-rows .ensures .long ∙ back-long (c .before .before .before .before .before .before .before .before .before .before .before .before .before .before .before .before .before .before .pre .1) (omega arith) (c .before .before .before .before .before .before .before .before .before .before .copy-list .ensures) (c .before .before .before .before .before .before .evaluate-expr .ensures))
-    (λ c. against-rows (c .before .before .before .before .before .before .before .before .before .before .before .before .before .before .before .before .before .before .pre .1) (omega arith) (c .before .before .before .before .before .before .before .before .before .before .copy-list .ensures) (c .before .before .before .before .before .before .evaluate-expr .ensures) (c .before .before .compare-rows .ensures)))
+    (λ c κs. against-next (c .before .before .before .before .before .before .before .before .before .before .before .before .before .before .before .pre .1) (omega arith) (c .before .before .before .before .before .before .before .copy-list .ensures) (c .before .before .before .expr .ensures))
+    (λ c. c .before .before .compare-rows .ensures .long ∙ back-long (c .before .before .before .before .before .before .before .before .before .before .before .before .before .before .before .before .before .before .pre .1) (omega arith) (c .before .before .before .before .before .before .before .before .before .before .copy-list .ensures) (c .before .before .before .before .before .before .expr .ensures))
+    (λ c. against-rows (c .before .before .before .before .before .before .before .before .before .before .before .before .before .before .before .before .before .before .pre .1) (omega arith) (c .before .before .before .before .before .before .before .before .before .before .copy-list .ensures) (c .before .before .before .before .before .before .expr .ensures) (c .before .before .compare-rows .ensures)))
     (λ t. binary-lts.spec (
       children-at-reads.Asked,
       children-at-reads.Learnt,
@@ -398,8 +398,8 @@ pub +against+binary+branches+by-base+case+case-column-or-null+case-when-no-expr+
       field-end-reads.Learnt,
       byte-at-reads.Asked,
       byte-at-reads.Learnt,
-      evaluate-expr-below t,
-      evaluate-expr.Post,
+      expr-below t,
+      expr.Post,
       against-below t,
       against.Post,
     )
@@ -409,9 +409,9 @@ pub +against+binary+branches+by-base+case+case-column-or-null+case-when-no-expr+
     (λ c κs. tt)
     (λ c κs. tt)
     (λ c κs. let q = c .before .before .before .before .before .before .before .pre .0 in (omega arith, framed-below (c .before .before .before .before .before .before .before .pre .1) (c .before .before .before .before .before .before .before .args .depth) (omega arith)))
-    (λ c κs. let q = c .before .before .before .before .before .before .before .before .before .before .before .pre .0 in (omega arith, framed-kept (c .before .before .before .before .before .before .before .before .before .before .before .pre .1) (c .before .before .before .before .before .before .before .before .before .before .before .args .depth + 1) (omega arith) _ (c .before .before .before .evaluate-expr .ensures .long) (c .before .before .before .evaluate-expr .ensures .low)))
-    (λ c. c .before .before .against .ensures .long ∙ c .before .before .before .before .before .before .evaluate-expr .ensures .long)
-    (λ c. binary-gives (c .before .before .before .before .before .before .before .before .before .before .before .before .before .before .pre .1 .list-ok .few) (c .before .before .before .before .before .before .before .before .before .before .children-at .ensures) (c .before .before .before .before .before .before .before .before .before .field-end .ensures) (c .before .before .before .before .before .before .before .before .byte-at .ensures) (c .before .before .before .before .before .before .evaluate-expr .ensures) (c .before .before .against .ensures)))
+    (λ c κs. let q = c .before .before .before .before .before .before .before .before .before .before .before .pre .0 in (omega arith, framed-kept (c .before .before .before .before .before .before .before .before .before .before .before .pre .1) (c .before .before .before .before .before .before .before .before .before .before .before .args .depth + 1) (omega arith) _ (c .before .before .before .expr .ensures .long) (c .before .before .before .expr .ensures .low)))
+    (λ c. c .before .before .against .ensures .long ∙ c .before .before .before .before .before .before .expr .ensures .long)
+    (λ c. binary-gives (c .before .before .before .before .before .before .before .before .before .before .before .before .before .before .pre .1 .list-ok .few) (c .before .before .before .before .before .before .before .before .before .before .children-at .ensures) (c .before .before .before .before .before .before .before .before .before .field-end .ensures) (c .before .before .before .before .before .before .before .before .byte-at .ensures) (c .before .before .before .before .before .before .expr .ensures) (c .before .before .against .ensures)))
     (λ t. branches-lts.spec (
       choose-below t,
       choose.Post,
@@ -497,8 +497,8 @@ pub +against+binary+branches+by-base+case+case-column-or-null+case-when-no-expr+
       children-at-reads.Learnt,
       field-end-reads.Asked,
       field-end-reads.Learnt,
-      evaluate-expr-below t,
-      evaluate-expr.Post,
+      expr-below t,
+      expr.Post,
       cells-or-null-reads.Asked,
       cells-or-null-reads.Learnt,
     )
@@ -507,9 +507,9 @@ pub +against+binary+branches+by-base+case+case-column-or-null+case-when-no-expr+
     (λ c κs. tt)
     (λ c κs. tt)
     (λ c κs. let q = c .before .before .before .before .before .before .pre .0 in (omega arith, framed-below (c .before .before .before .before .before .before .pre .1) (c .before .before .before .before .before .before .args .depth) (omega arith)))
-    (λ c κs. (framed-fillable (framed-kept (c .before .before .before .before .before .before .before .before .before .before .pre .1) (c .before .before .before .before .before .before .before .before .before .before .args .depth + 1) (omega arith) _ (c .before .before .before .evaluate-expr .ensures .long) (c .before .before .before .evaluate-expr .ensures .low)) (omega arith), c .before .before .before .before .before .before .before .before .before .before .pre .1 .short))
-    (λ c. c .before .before .cells-or-null .ensures .long ∙ c .before .before .before .before .before .before .evaluate-expr .ensures .long)
-    (λ c. column-gives (c .before .before .before .before .before .before .before .before .before .before .before .before .before .pre .1 .list-ok .few) (c .before .before .before .before .before .before .before .before .before .children-at .ensures) (c .before .before .before .before .before .before .before .before .field-end .ensures) (c .before .before .before .before .before .before .evaluate-expr .ensures) (c .before .before .cells-or-null .ensures)))
+    (λ c κs. (framed-fillable (framed-kept (c .before .before .before .before .before .before .before .before .before .before .pre .1) (c .before .before .before .before .before .before .before .before .before .before .args .depth + 1) (omega arith) _ (c .before .before .before .expr .ensures .long) (c .before .before .before .expr .ensures .low)) (omega arith), c .before .before .before .before .before .before .before .before .before .before .pre .1 .short))
+    (λ c. c .before .before .cells-or-null .ensures .long ∙ c .before .before .before .before .before .before .expr .ensures .long)
+    (λ c. column-gives (c .before .before .before .before .before .before .before .before .before .before .before .before .before .pre .1 .list-ok .few) (c .before .before .before .before .before .before .before .before .before .children-at .ensures) (c .before .before .before .before .before .before .before .before .field-end .ensures) (c .before .before .before .before .before .before .expr .ensures) (c .before .before .cells-or-null .ensures)))
     (λ t. case-when-no-expr-lts.spec (
       byte-at-reads.Asked,
       byte-at-reads.Learnt,
@@ -555,8 +555,8 @@ pub +against+binary+branches+by-base+case+case-column-or-null+case-when-no-expr+
       field-end-reads.Learnt,
       type-of-reads.Asked,
       type-of-reads.Learnt,
-      evaluate-expr-below t,
-      evaluate-expr.Post,
+      expr-below t,
+      expr.Post,
       by-base-below t,
       by-base.Post,
     )
@@ -569,9 +569,9 @@ pub +against+binary+branches+by-base+case+case-column-or-null+case-when-no-expr+
     (λ c κs. tt)
     (λ c κs. tt)
     (λ c κs. let q = c .before .before .before .before .before .before .before .before .before .pre .0 in (omega arith, framed-below (c .before .before .before .before .before .before .before .before .before .pre .1 .0) (c .before .before .before .before .before .before .before .before .before .args .depth) (omega arith)))
-    (λ c κs. let q = c .before .before .before .before .before .before .before .before .before .before .before .before .before .pre .0 in (omega arith, (framed-kept (c .before .before .before .before .before .before .before .before .before .before .before .before .before .pre .1 .0) (c .before .before .before .before .before .before .before .before .before .before .before .before .before .args .depth + 1) (omega arith) _ (c .before .before .before .evaluate-expr .ensures .long) (c .before .before .before .evaluate-expr .ensures .low), c .before .before .before .before .before .before .before .before .before .before .before .before .before .pre .1 .1)))
-    (λ c. c .before .before .by-base .ensures .long ∙ c .before .before .before .before .before .before .evaluate-expr .ensures .long)
-    (λ c. with-expr-gives (c .before .before .before .before .before .before .before .before .before .before .before .before .before .before .before .before .pre .1 .0 .list-ok .few) (c .before .before .before .before .before .before .before .before .before .before .before .byte-at .ensures) (c .before .before .before .before .before .before .before .before .before .before .children-at .ensures) (c .before .before .before .before .before .before .before .before .before .field-end .ensures) (c .before .before .before .before .before .before .before .before .type-of .ensures) (c .before .before .before .before .before .before .evaluate-expr .ensures) (c .before .before .by-base .ensures)))
+    (λ c κs. let q = c .before .before .before .before .before .before .before .before .before .before .before .before .before .pre .0 in (omega arith, (framed-kept (c .before .before .before .before .before .before .before .before .before .before .before .before .before .pre .1 .0) (c .before .before .before .before .before .before .before .before .before .before .before .before .before .args .depth + 1) (omega arith) _ (c .before .before .before .expr .ensures .long) (c .before .before .before .expr .ensures .low), c .before .before .before .before .before .before .before .before .before .before .before .before .before .pre .1 .1)))
+    (λ c. c .before .before .by-base .ensures .long ∙ c .before .before .before .before .before .before .expr .ensures .long)
+    (λ c. with-expr-gives (c .before .before .before .before .before .before .before .before .before .before .before .before .before .before .before .before .pre .1 .0 .list-ok .few) (c .before .before .before .before .before .before .before .before .before .before .before .byte-at .ensures) (c .before .before .before .before .before .before .before .before .before .before .children-at .ensures) (c .before .before .before .before .before .before .before .before .before .field-end .ensures) (c .before .before .before .before .before .before .before .before .type-of .ensures) (c .before .before .before .before .before .before .expr .ensures) (c .before .before .by-base .ensures)))
     (λ t. choose-lts.spec
     (field-end-reads.Asked, field-end-reads.Learnt, turn-below t, turn.Post)
     (choose-at t)
@@ -590,7 +590,7 @@ pub +against+binary+branches+by-base+case+case-column-or-null+case-when-no-expr+
     (λ c. choose-more (c .before .before .before .before .before .before .before .before .before .before .before .before .pre .1) (c .before .before .before .before .before .before .before .before .loop .inv) (c .before .before .before .before .before .before .before .loop-test .taken) (c .before .before .before .before .before .before .field-end .ensures) (c .field-end2 .ensures) (c .before .before .before .before .turn .ensures))
     (λ c. c .before .loop .inv .sifts .long)
     (λ c. choose-end (c .before .before .before .before .before .pre .1) (c .before .loop .inv) (c .loop-test .left)))
-    (λ t. evaluate-expr-lts.spec (
+    (λ t. expr-lts.spec (
       byte-at-reads.Asked,
       byte-at-reads.Learnt,
       fill-cells-reads.Asked,
@@ -604,8 +604,8 @@ pub +against+binary+branches+by-base+case+case-column-or-null+case-when-no-expr+
       binary-below t,
       binary.Post,
     )
-    (evaluate-expr-at t)
-    evaluate-expr.Post
+    (expr-at t)
+    expr.Post
     (λ c. expr-none (c .if1 .taken))
     (λ c. expr-behind (c .if2 .taken))
     (λ c. omega arith)
@@ -671,8 +671,8 @@ pub +against+binary+branches+by-base+case+case-column-or-null+case-when-no-expr+
       take.Post,
       field-end-reads.Asked,
       field-end-reads.Learnt,
-      evaluate-expr-below t,
-      evaluate-expr.Post,
+      expr-below t,
+      expr.Post,
       scalar-rows-reads.Asked,
       scalar-rows-reads.Learnt,
     )
@@ -688,16 +688,16 @@ pub +against+binary+branches+by-base+case+case-column-or-null+case-when-no-expr+
     (λ c. scalar-steps _ (c .before .before .before .before .before .before .before .before .before .before .before .before .before .before .before .pre .1 .0 .list-ok .few) (c .before .before .before .before .before .before .before .before .before .before .before .children-at .ensures) (c .before .before .before .before .before .before .before .before .before .before .type-of .ensures) (c .before .before .before .before .before .before .before .step-values .ensures) (c .before .before .before .before .before .if1 .taken) (c .before .before .take .ensures) refl)
     (λ c κs. tt)
     (λ c κs. let q = c .before .before .before .before .before .before .before .before .before .before .before .before .pre .0 in (omega arith, framed-below (c .before .before .before .before .before .before .before .before .before .before .before .before .pre .1 .0) (c .before .before .before .before .before .before .before .before .before .before .before .before .args .depth) (omega arith)))
-    (λ c κs. framed-fillable (framed-kept (c .before .before .before .before .before .before .before .before .before .before .before .before .before .before .before .before .pre .1 .0) (c .before .before .before .before .before .before .before .before .before .before .before .before .before .before .before .before .args .depth + 1) (omega arith) _ (c .before .before .before .evaluate-expr .ensures .long) (c .before .before .before .evaluate-expr .ensures .low)) (omega arith))
-    (λ c. c .before .before .scalar-rows .ensures .long ∙ c .before .before .before .before .before .before .evaluate-expr .ensures .long)
-    (λ c. scalar-gives (c .before .before .before .before .before .before .before .before .before .before .before .before .before .before .before .before .before .before .before .pre .1 .0 .list-ok .few) (c .before .before .before .before .before .before .before .before .before .before .before .before .before .before .before .children-at .ensures) (c .before .before .before .before .before .before .before .before .field-end .ensures) (c .before .before .before .before .before .before .evaluate-expr .ensures) (c .before .before .scalar-rows .ensures)))
+    (λ c κs. framed-fillable (framed-kept (c .before .before .before .before .before .before .before .before .before .before .before .before .before .before .before .before .pre .1 .0) (c .before .before .before .before .before .before .before .before .before .before .before .before .before .before .before .before .args .depth + 1) (omega arith) _ (c .before .before .before .expr .ensures .long) (c .before .before .before .expr .ensures .low)) (omega arith))
+    (λ c. c .before .before .scalar-rows .ensures .long ∙ c .before .before .before .before .before .before .expr .ensures .long)
+    (λ c. scalar-gives (c .before .before .before .before .before .before .before .before .before .before .before .before .before .before .before .before .before .before .before .pre .1 .0 .list-ok .few) (c .before .before .before .before .before .before .before .before .before .before .before .before .before .before .before .children-at .ensures) (c .before .before .before .before .before .before .before .before .field-end .ensures) (c .before .before .before .before .before .before .expr .ensures) (c .before .before .scalar-rows .ensures)))
     (λ t. take-lts.spec (
       start-results-reads.Asked,
       start-results-reads.Learnt,
       field-end-reads.Asked,
       field-end-reads.Learnt,
-      take-then-below t,
-      take-then.Post,
+      then-below t,
+      then.Post,
       take-else-below t,
       take-else.Post,
     )
@@ -713,7 +713,7 @@ pub +against+binary+branches+by-base+case+case-column-or-null+case-when-no-expr+
     (λ c κs. let q = c .before .before .before .before .before .before .before .before .before .before .before .before .before .pre .0 in (omega arith, (take-framed (start-framed (c .before .before .before .before .before .before .before .before .before .before .before .before .before .pre .1 .0) (c .before .before .before .before .before .before .before .start-results .ensures)) (c .before .before .before .before .loop .inv), c .before .before .before .before .before .before .before .before .before .before .before .before .before .pre .1 .1)))
     (λ c. omega arith)
     (λ c. omega arith)
-    (λ c. take-more (start-framed (c .before .before .before .before .before .before .before .before .before .before .before .before .before .before .before .before .pre .1 .0) (c .before .before .before .before .before .before .before .before .before .before .start-results .ensures)) (c .before .before .before .before .before .before .before .loop .inv) (c .before .before .before .before .before .before .loop-test .taken) (c .before .before .before .before .before .field-end .ensures) (c .before .before .before .before .field-end2 .ensures) (c .before .before .take-then .ensures))
+    (λ c. take-more (start-framed (c .before .before .before .before .before .before .before .before .before .before .before .before .before .before .before .before .pre .1 .0) (c .before .before .before .before .before .before .before .before .before .before .start-results .ensures)) (c .before .before .before .before .before .before .before .loop .inv) (c .before .before .before .before .before .before .loop-test .taken) (c .before .before .before .before .before .field-end .ensures) (c .before .before .before .before .field-end2 .ensures) (c .before .before .then .ensures))
     (λ c κs. let q = c .before .before .before .before .before .before .before .before .before .before .before .pre .0 in (omega arith, (take-framed (start-framed (c .before .before .before .before .before .before .before .before .before .before .before .pre .1 .0) (c .before .before .before .before .before .start-results .ensures)) (c .before .before .loop .inv), c .before .before .before .before .before .before .before .before .before .before .before .pre .1 .1)))
     (λ c. c .before .before .take-else .ensures .long ∙ c .before .before .before .before .before .loop .inv .long ∙ c .before .before .before .before .before .before .before .before .start-results .ensures .long)
     (λ c. start-done (c .before .before .before .before .before .before .before .before .before .before .before .before .before .before .pre .1 .0) (c .before .before .before .before .before .before .before .before .start-results .ensures) (take-end (start-framed (c .before .before .before .before .before .before .before .before .before .before .before .before .before .before .pre .1 .0) (c .before .before .before .before .before .before .before .before .start-results .ensures)) (c .before .before .before .before .before .loop .inv) (c .before .before .before .before .loop-test .left) (c .before .before .take-else .ensures))))
@@ -722,8 +722,8 @@ pub +against+binary+branches+by-base+case+case-column-or-null+case-when-no-expr+
       byte-at-reads.Learnt,
       pick-reads.Asked,
       pick-reads.Learnt,
-      evaluate-expr-below t,
-      evaluate-expr.Post,
+      expr-below t,
+      expr.Post,
       apply-reads.Asked,
       apply-reads.Learnt,
       copy-slots-reads.Asked,
@@ -739,25 +739,25 @@ pub +against+binary+branches+by-base+case+case-column-or-null+case-when-no-expr+
     (λ c. let r = picked-room (now (c .before .before .before .before .before .before .before .before .before .before .before .args .values)) (c .before .before .before .before .before .before .before .before .before .before .before .pre .1 .0) (c .before .before .before .before .before .before .before .before .before .before .before .pre .1 .1 .0) (c .before .before .pick .ensures) in omega arith)
     (λ c. let r = picked-room (now (c .before .before .before .before .before .before .before .before .before .before .before .args .values)) (c .before .before .before .before .before .before .before .before .before .before .before .pre .1 .0) (c .before .before .before .before .before .before .before .before .before .before .before .pre .1 .1 .0) (c .before .before .pick .ensures) in omega arith)
     (λ c κs. let q = c .before .before .before .before .before .before .before .before .before .before .before .before .pre .0 in (omega arith, picked-asks (now (c .before .before .before .before .before .before .before .before .before .before .before .before .args .values)) (c .before .before .before .before .before .before .before .before .before .before .before .before .pre .1 .0) (c .before .before .before .before .before .before .before .before .before .before .before .before .pre .1 .1 .0) (c .before .before .before .pick .ensures)))
-    (λ c. let r = next-room (now (c .before .before .before .before .before .before .before .before .before .before .before .before .before .before .before .args .values)) (c .before .before .before .before .before .before .before .before .before .before .before .before .before .before .before .pre .1 .0) (c .before .before .before .before .before .before .before .before .before .before .before .before .before .before .before .pre .1 .1 .0) (c .before .before .before .before .before .before .pick .ensures) (else-next (now (c .before .before .before .before .before .before .before .before .before .before .before .before .before .before .before .args .values)) (c .before .before .before .before .before .before .before .before .before .before .before .before .before .before .before .pre .1 .0) (c .before .before .before .before .before .before .before .before .before .before .before .before .before .before .before .pre .1 .1 .0) (c .before .before .before .before .before .before .pick .ensures) (c .before .before .before .before .before .before .before .before .before .before .if1 .left) (c .before .before .evaluate-expr .ensures)) in omega arith)
-    (λ c. let r = next-room (now (c .before .before .before .before .before .before .before .before .before .before .before .before .before .before .before .args .values)) (c .before .before .before .before .before .before .before .before .before .before .before .before .before .before .before .pre .1 .0) (c .before .before .before .before .before .before .before .before .before .before .before .before .before .before .before .pre .1 .1 .0) (c .before .before .before .before .before .before .pick .ensures) (else-next (now (c .before .before .before .before .before .before .before .before .before .before .before .before .before .before .before .args .values)) (c .before .before .before .before .before .before .before .before .before .before .before .before .before .before .before .pre .1 .0) (c .before .before .before .before .before .before .before .before .before .before .before .before .before .before .before .pre .1 .1 .0) (c .before .before .before .before .before .before .pick .ensures) (c .before .before .before .before .before .before .before .before .before .before .if1 .left) (c .before .before .evaluate-expr .ensures)) in omega arith)
-    (λ c. let r = next-room (now (c .before .before .before .before .before .before .before .before .before .before .before .before .before .before .before .args .values)) (c .before .before .before .before .before .before .before .before .before .before .before .before .before .before .before .pre .1 .0) (c .before .before .before .before .before .before .before .before .before .before .before .before .before .before .before .pre .1 .1 .0) (c .before .before .before .before .before .before .pick .ensures) (else-next (now (c .before .before .before .before .before .before .before .before .before .before .before .before .before .before .before .args .values)) (c .before .before .before .before .before .before .before .before .before .before .before .before .before .before .before .pre .1 .0) (c .before .before .before .before .before .before .before .before .before .before .before .before .before .before .before .pre .1 .1 .0) (c .before .before .before .before .before .before .pick .ensures) (c .before .before .before .before .before .before .before .before .before .before .if1 .left) (c .before .before .evaluate-expr .ensures)) in omega arith)
-    (λ c κs. next-fillable (now (c .before .before .before .before .before .before .before .before .before .before .before .before .before .before .before .before .args .values)) (c .before .before .before .before .before .before .before .before .before .before .before .before .before .before .before .before .pre .1 .0) (c .before .before .before .before .before .before .before .before .before .before .before .before .before .before .before .before .pre .1 .1 .0) (c .before .before .before .before .before .before .before .pick .ensures) (else-next (now (c .before .before .before .before .before .before .before .before .before .before .before .before .before .before .before .before .args .values)) (c .before .before .before .before .before .before .before .before .before .before .before .before .before .before .before .before .pre .1 .0) (c .before .before .before .before .before .before .before .before .before .before .before .before .before .before .before .before .pre .1 .1 .0) (c .before .before .before .before .before .before .before .pick .ensures) (c .before .before .before .before .before .before .before .before .before .before .before .if1 .left) (c .before .before .before .evaluate-expr .ensures)))
-    (λ c κs. next-asks (now (c .before .before .before .before .before .before .before .before .before .before .before .before .before .before .before .before .before .before .before .before .args .values)) (c .before .before .before .before .before .before .before .before .before .before .before .before .before .before .before .before .before .before .before .before .pre .1 .0) (c .before .before .before .before .before .before .before .before .before .before .before .before .before .before .before .before .before .before .before .before .pre .1 .1 .0) (c .before .before .before .before .before .before .before .before .before .before .before .pick .ensures) (else-again (now (c .before .before .before .before .before .before .before .before .before .before .before .before .before .before .before .before .before .before .before .before .args .values)) (c .before .before .before .before .before .before .before .before .before .before .before .before .before .before .before .before .before .before .before .before .pre .1 .0) (c .before .before .before .before .before .before .before .before .before .before .before .before .before .before .before .before .before .before .before .before .pre .1 .1 .0) (c .before .before .before .before .before .before .before .before .before .before .before .pick .ensures) (c .before .before .before .before .before .before .before .before .before .before .before .before .before .before .before .if1 .left) (c .before .before .before .before .before .before .before .evaluate-expr .ensures) (c .before .before .before .before .before .before .before .before .before .before .before .before .before .before .before .before .before .before .before .before .args .to) (c .before .before .before .apply .ensures)))
-    (λ c. else-takes (now (c .before .before .before .before .before .before .before .before .before .before .before .before .before .before .before .before .before .before .before .before .before .before .before .args .values)) (c .before .before .before .before .before .before .before .before .before .before .before .before .before .before .before .before .before .before .before .before .before .before .before .pre .1 .0) (c .before .before .before .before .before .before .before .before .before .before .before .before .before .before .before .before .before .before .before .before .before .before .before .pre .1 .1 .0) (c .before .before .before .before .before .before .before .before .before .before .before .before .before .before .pick .ensures) (c .before .before .before .before .before .before .before .before .before .before .before .before .before .before .before .before .before .before .if1 .left) (c .before .before .before .before .before .before .before .before .before .before .evaluate-expr .ensures) (c .before .before .before .before .before .before .before .before .before .before .before .before .before .before .before .before .before .before .before .before .before .before .before .args .to) (c .before .before .before .before .before .before .apply .ensures) (c .before .before .copy-slots .ensures) .long)
-    (λ c. else-takes (now (c .before .before .before .before .before .before .before .before .before .before .before .before .before .before .before .before .before .before .before .before .before .before .before .args .values)) (c .before .before .before .before .before .before .before .before .before .before .before .before .before .before .before .before .before .before .before .before .before .before .before .pre .1 .0) (c .before .before .before .before .before .before .before .before .before .before .before .before .before .before .before .before .before .before .before .before .before .before .before .pre .1 .1 .0) (c .before .before .before .before .before .before .before .before .before .before .before .before .before .before .pick .ensures) (c .before .before .before .before .before .before .before .before .before .before .before .before .before .before .before .before .before .before .if1 .left) (c .before .before .before .before .before .before .before .before .before .before .evaluate-expr .ensures) (c .before .before .before .before .before .before .before .before .before .before .before .before .before .before .before .before .before .before .before .before .before .before .before .args .to) (c .before .before .before .before .before .before .apply .ensures) (c .before .before .copy-slots .ensures)))
-    (λ t. take-then-lts.spec (
+    (λ c. let r = next-room (now (c .before .before .before .before .before .before .before .before .before .before .before .before .before .before .before .args .values)) (c .before .before .before .before .before .before .before .before .before .before .before .before .before .before .before .pre .1 .0) (c .before .before .before .before .before .before .before .before .before .before .before .before .before .before .before .pre .1 .1 .0) (c .before .before .before .before .before .before .pick .ensures) (else-next (now (c .before .before .before .before .before .before .before .before .before .before .before .before .before .before .before .args .values)) (c .before .before .before .before .before .before .before .before .before .before .before .before .before .before .before .pre .1 .0) (c .before .before .before .before .before .before .before .before .before .before .before .before .before .before .before .pre .1 .1 .0) (c .before .before .before .before .before .before .pick .ensures) (c .before .before .before .before .before .before .before .before .before .before .if1 .left) (c .before .before .expr .ensures)) in omega arith)
+    (λ c. let r = next-room (now (c .before .before .before .before .before .before .before .before .before .before .before .before .before .before .before .args .values)) (c .before .before .before .before .before .before .before .before .before .before .before .before .before .before .before .pre .1 .0) (c .before .before .before .before .before .before .before .before .before .before .before .before .before .before .before .pre .1 .1 .0) (c .before .before .before .before .before .before .pick .ensures) (else-next (now (c .before .before .before .before .before .before .before .before .before .before .before .before .before .before .before .args .values)) (c .before .before .before .before .before .before .before .before .before .before .before .before .before .before .before .pre .1 .0) (c .before .before .before .before .before .before .before .before .before .before .before .before .before .before .before .pre .1 .1 .0) (c .before .before .before .before .before .before .pick .ensures) (c .before .before .before .before .before .before .before .before .before .before .if1 .left) (c .before .before .expr .ensures)) in omega arith)
+    (λ c. let r = next-room (now (c .before .before .before .before .before .before .before .before .before .before .before .before .before .before .before .args .values)) (c .before .before .before .before .before .before .before .before .before .before .before .before .before .before .before .pre .1 .0) (c .before .before .before .before .before .before .before .before .before .before .before .before .before .before .before .pre .1 .1 .0) (c .before .before .before .before .before .before .pick .ensures) (else-next (now (c .before .before .before .before .before .before .before .before .before .before .before .before .before .before .before .args .values)) (c .before .before .before .before .before .before .before .before .before .before .before .before .before .before .before .pre .1 .0) (c .before .before .before .before .before .before .before .before .before .before .before .before .before .before .before .pre .1 .1 .0) (c .before .before .before .before .before .before .pick .ensures) (c .before .before .before .before .before .before .before .before .before .before .if1 .left) (c .before .before .expr .ensures)) in omega arith)
+    (λ c κs. next-fillable (now (c .before .before .before .before .before .before .before .before .before .before .before .before .before .before .before .before .args .values)) (c .before .before .before .before .before .before .before .before .before .before .before .before .before .before .before .before .pre .1 .0) (c .before .before .before .before .before .before .before .before .before .before .before .before .before .before .before .before .pre .1 .1 .0) (c .before .before .before .before .before .before .before .pick .ensures) (else-next (now (c .before .before .before .before .before .before .before .before .before .before .before .before .before .before .before .before .args .values)) (c .before .before .before .before .before .before .before .before .before .before .before .before .before .before .before .before .pre .1 .0) (c .before .before .before .before .before .before .before .before .before .before .before .before .before .before .before .before .pre .1 .1 .0) (c .before .before .before .before .before .before .before .pick .ensures) (c .before .before .before .before .before .before .before .before .before .before .before .if1 .left) (c .before .before .before .expr .ensures)))
+    (λ c κs. next-asks (now (c .before .before .before .before .before .before .before .before .before .before .before .before .before .before .before .before .before .before .before .before .args .values)) (c .before .before .before .before .before .before .before .before .before .before .before .before .before .before .before .before .before .before .before .before .pre .1 .0) (c .before .before .before .before .before .before .before .before .before .before .before .before .before .before .before .before .before .before .before .before .pre .1 .1 .0) (c .before .before .before .before .before .before .before .before .before .before .before .pick .ensures) (else-again (now (c .before .before .before .before .before .before .before .before .before .before .before .before .before .before .before .before .before .before .before .before .args .values)) (c .before .before .before .before .before .before .before .before .before .before .before .before .before .before .before .before .before .before .before .before .pre .1 .0) (c .before .before .before .before .before .before .before .before .before .before .before .before .before .before .before .before .before .before .before .before .pre .1 .1 .0) (c .before .before .before .before .before .before .before .before .before .before .before .pick .ensures) (c .before .before .before .before .before .before .before .before .before .before .before .before .before .before .before .if1 .left) (c .before .before .before .before .before .before .before .expr .ensures) (c .before .before .before .before .before .before .before .before .before .before .before .before .before .before .before .before .before .before .before .before .args .to) (c .before .before .before .apply .ensures)))
+    (λ c. else-takes (now (c .before .before .before .before .before .before .before .before .before .before .before .before .before .before .before .before .before .before .before .before .before .before .before .args .values)) (c .before .before .before .before .before .before .before .before .before .before .before .before .before .before .before .before .before .before .before .before .before .before .before .pre .1 .0) (c .before .before .before .before .before .before .before .before .before .before .before .before .before .before .before .before .before .before .before .before .before .before .before .pre .1 .1 .0) (c .before .before .before .before .before .before .before .before .before .before .before .before .before .before .pick .ensures) (c .before .before .before .before .before .before .before .before .before .before .before .before .before .before .before .before .before .before .if1 .left) (c .before .before .before .before .before .before .before .before .before .before .expr .ensures) (c .before .before .before .before .before .before .before .before .before .before .before .before .before .before .before .before .before .before .before .before .before .before .before .args .to) (c .before .before .before .before .before .before .apply .ensures) (c .before .before .copy-slots .ensures) .long)
+    (λ c. else-takes (now (c .before .before .before .before .before .before .before .before .before .before .before .before .before .before .before .before .before .before .before .before .before .before .before .args .values)) (c .before .before .before .before .before .before .before .before .before .before .before .before .before .before .before .before .before .before .before .before .before .before .before .pre .1 .0) (c .before .before .before .before .before .before .before .before .before .before .before .before .before .before .before .before .before .before .before .before .before .before .before .pre .1 .1 .0) (c .before .before .before .before .before .before .before .before .before .before .before .before .before .before .pick .ensures) (c .before .before .before .before .before .before .before .before .before .before .before .before .before .before .before .before .before .before .if1 .left) (c .before .before .before .before .before .before .before .before .before .before .expr .ensures) (c .before .before .before .before .before .before .before .before .before .before .before .before .before .before .before .before .before .before .before .before .before .before .before .args .to) (c .before .before .before .before .before .before .apply .ensures) (c .before .before .copy-slots .ensures)))
+    (λ t. then-lts.spec (
       byte-at-reads.Asked,
       byte-at-reads.Learnt,
       pick-reads.Asked,
       pick-reads.Learnt,
-      evaluate-expr-below t,
-      evaluate-expr.Post,
+      expr-below t,
+      expr.Post,
       copy-slots-reads.Asked,
       copy-slots-reads.Learnt,
     )
-    (take-then-at t)
-    take-then.Post
+    (then-at t)
+    then.Post
     (λ c κs. tt)
     (λ c. then-known (sym (c .before .byte-at .ensures) ∙ c .if1 .taken))
     (λ c κs. let d = c .before .before .before .before .before .before .before .pre .1 .1 .0 in let r = c .before .before .before .before .before .before .before .pre .1 .0 .room in (rows-small (c .before .before .before .before .before .before .before .pre .1 .0 .small) (c .before .before .before .before .before .before .before .pre .1 .0 .list-ok), (omega arith, c .before .before .before .before .before .before .before .pre .1 .1 .1)))
@@ -765,9 +765,9 @@ pub +against+binary+branches+by-base+case+case-column-or-null+case-when-no-expr+
     (λ c. let r = picked-room (now (c .before .before .before .before .before .before .before .before .before .before .args .values)) (c .before .before .before .before .before .before .before .before .before .before .pre .1 .0) (c .before .before .before .before .before .before .before .before .before .before .pre .1 .1 .0) (c .before .before .pick .ensures) in omega arith)
     (λ c. let r = picked-room (now (c .before .before .before .before .before .before .before .before .before .before .args .values)) (c .before .before .before .before .before .before .before .before .before .before .pre .1 .0) (c .before .before .before .before .before .before .before .before .before .before .pre .1 .1 .0) (c .before .before .pick .ensures) in omega arith)
     (λ c κs. let q = c .before .before .before .before .before .before .before .before .before .before .before .pre .0 in (omega arith, picked-asks (now (c .before .before .before .before .before .before .before .before .before .before .before .args .values)) (c .before .before .before .before .before .before .before .before .before .before .before .pre .1 .0) (c .before .before .before .before .before .before .before .before .before .before .before .pre .1 .1 .0) (c .before .before .before .pick .ensures)))
-    (λ c κs. next-asks (now (c .before .before .before .before .before .before .before .before .before .before .before .before .before .before .before .args .values)) (c .before .before .before .before .before .before .before .before .before .before .before .before .before .before .before .pre .1 .0) (c .before .before .before .before .before .before .before .before .before .before .before .before .before .before .before .pre .1 .1 .0) (c .before .before .before .before .before .before .before .pick .ensures) (picked-next (now (c .before .before .before .before .before .before .before .before .before .before .before .before .before .before .before .args .values)) (c .before .before .before .before .before .before .before .before .before .before .before .before .before .before .before .pre .1 .0) (c .before .before .before .before .before .before .before .before .before .before .before .before .before .before .before .pre .1 .1 .0) (c .before .before .before .before .before .before .before .pick .ensures) (c .before .before .before .evaluate-expr .ensures)))
-    (λ c. next-takes (now (c .before .before .before .before .before .before .before .before .before .before .before .before .before .before .before .before .before .before .args .values)) (c .before .before .before .before .before .before .before .before .before .before .before .before .before .before .before .before .before .before .pre .1 .0) (c .before .before .before .before .before .before .before .before .before .before .before .before .before .before .before .before .before .before .pre .1 .1 .0) (c .before .before .before .before .before .before .before .before .before .before .pick .ensures) (picked-next (now (c .before .before .before .before .before .before .before .before .before .before .before .before .before .before .before .before .before .before .args .values)) (c .before .before .before .before .before .before .before .before .before .before .before .before .before .before .before .before .before .before .pre .1 .0) (c .before .before .before .before .before .before .before .before .before .before .before .before .before .before .before .before .before .before .pre .1 .1 .0) (c .before .before .before .before .before .before .before .before .before .before .pick .ensures) (c .before .before .before .before .before .before .evaluate-expr .ensures)) (c .before .before .copy-slots .ensures) .long)
-    (λ c. then-takes (next-takes (now (c .before .before .before .before .before .before .before .before .before .before .before .before .before .before .before .before .before .before .args .values)) (c .before .before .before .before .before .before .before .before .before .before .before .before .before .before .before .before .before .before .pre .1 .0) (c .before .before .before .before .before .before .before .before .before .before .before .before .before .before .before .before .before .before .pre .1 .1 .0) (c .before .before .before .before .before .before .before .before .before .before .pick .ensures) (picked-next (now (c .before .before .before .before .before .before .before .before .before .before .before .before .before .before .before .before .before .before .args .values)) (c .before .before .before .before .before .before .before .before .before .before .before .before .before .before .before .before .before .before .pre .1 .0) (c .before .before .before .before .before .before .before .before .before .before .before .before .before .before .before .before .before .before .pre .1 .1 .0) (c .before .before .before .before .before .before .before .before .before .before .pick .ensures) (c .before .before .before .before .before .before .evaluate-expr .ensures)) (c .before .before .copy-slots .ensures))))
+    (λ c κs. next-asks (now (c .before .before .before .before .before .before .before .before .before .before .before .before .before .before .before .args .values)) (c .before .before .before .before .before .before .before .before .before .before .before .before .before .before .before .pre .1 .0) (c .before .before .before .before .before .before .before .before .before .before .before .before .before .before .before .pre .1 .1 .0) (c .before .before .before .before .before .before .before .pick .ensures) (picked-next (now (c .before .before .before .before .before .before .before .before .before .before .before .before .before .before .before .args .values)) (c .before .before .before .before .before .before .before .before .before .before .before .before .before .before .before .pre .1 .0) (c .before .before .before .before .before .before .before .before .before .before .before .before .before .before .before .pre .1 .1 .0) (c .before .before .before .before .before .before .before .pick .ensures) (c .before .before .before .expr .ensures)))
+    (λ c. next-takes (now (c .before .before .before .before .before .before .before .before .before .before .before .before .before .before .before .before .before .before .args .values)) (c .before .before .before .before .before .before .before .before .before .before .before .before .before .before .before .before .before .before .pre .1 .0) (c .before .before .before .before .before .before .before .before .before .before .before .before .before .before .before .before .before .before .pre .1 .1 .0) (c .before .before .before .before .before .before .before .before .before .before .pick .ensures) (picked-next (now (c .before .before .before .before .before .before .before .before .before .before .before .before .before .before .before .before .before .before .args .values)) (c .before .before .before .before .before .before .before .before .before .before .before .before .before .before .before .before .before .before .pre .1 .0) (c .before .before .before .before .before .before .before .before .before .before .before .before .before .before .before .before .before .before .pre .1 .1 .0) (c .before .before .before .before .before .before .before .before .before .before .pick .ensures) (c .before .before .before .before .before .before .expr .ensures)) (c .before .before .copy-slots .ensures) .long)
+    (λ c. then-takes (next-takes (now (c .before .before .before .before .before .before .before .before .before .before .before .before .before .before .before .before .before .before .args .values)) (c .before .before .before .before .before .before .before .before .before .before .before .before .before .before .before .before .before .before .pre .1 .0) (c .before .before .before .before .before .before .before .before .before .before .before .before .before .before .before .before .before .before .pre .1 .1 .0) (c .before .before .before .before .before .before .before .before .before .before .pick .ensures) (picked-next (now (c .before .before .before .before .before .before .before .before .before .before .before .before .before .before .before .before .before .before .args .values)) (c .before .before .before .before .before .before .before .before .before .before .before .before .before .before .before .before .before .before .pre .1 .0) (c .before .before .before .before .before .before .before .before .before .before .before .before .before .before .before .before .before .before .pre .1 .1 .0) (c .before .before .before .before .before .before .before .before .before .before .pick .ensures) (c .before .before .before .before .before .before .expr .ensures)) (c .before .before .copy-slots .ensures))))
     (λ t. turn-lts.spec (
       asks-true-reads.Asked,
       asks-true-reads.Learnt,
@@ -777,8 +777,8 @@ pub +against+binary+branches+by-base+case+case-column-or-null+case-when-no-expr+
       settle-by-reads.Learnt,
       copy-list-reads.Asked,
       copy-list-reads.Learnt,
-      evaluate-expr-below t,
-      evaluate-expr.Post,
+      expr-below t,
+      expr.Post,
       settle-reads.Asked,
       settle-reads.Learnt,
     )
@@ -796,14 +796,14 @@ pub +against+binary+branches+by-base+case+case-column-or-null+case-when-no-expr+
     (λ c. let r = turn-room (c .before .before .before .before .before .before .before .before .before .before .before .before .before .pre .1 .0) (c .before .before .copy-list .ensures) in omega arith)
     (λ c. let r = turn-room (c .before .before .before .before .before .before .before .before .before .before .before .before .before .pre .1 .0) (c .before .before .copy-list .ensures) in omega arith)
     (λ c κs. let q = c .before .before .before .before .before .before .before .before .before .before .before .before .before .before .pre .0 in (omega arith, turn-asks (c .before .before .before .before .before .before .before .before .before .before .before .before .before .before .pre .1 .0) (c .before .before .before .copy-list .ensures)))
-    (λ c κs. (turn-open (c .before .before .before .before .before .before .before .before .before .before .before .before .before .before .before .before .before .before .pre .1 .0) (c .before .before .before .before .before .before .before .copy-list .ensures) (c .before .before .before .evaluate-expr .ensures) .0, (turn-open (c .before .before .before .before .before .before .before .before .before .before .before .before .before .before .before .before .before .before .pre .1 .0) (c .before .before .before .before .before .before .before .copy-list .ensures) (c .before .before .before .evaluate-expr .ensures) .1, c .before .before .before .before .before .before .before .before .before .before .before .before .before .before .before .before .before .before .pre .1 .1)))
-    (λ c. c .before .before .settle .ensures .long ∙ turn-long (c .before .before .before .before .before .before .before .before .before .before .before .before .before .before .before .before .before .before .before .before .before .pre .1 .0) (c .before .before .before .before .before .before .before .before .before .before .copy-list .ensures) (c .before .before .before .before .before .before .evaluate-expr .ensures))
-    (λ c. turn-gives (c .before .before .before .before .before .before .before .before .before .before .before .before .before .before .before .before .before .before .before .before .before .pre .1 .0) (c .before .before .before .before .before .before .before .before .before .before .copy-list .ensures) (c .before .before .before .before .before .before .evaluate-expr .ensures) (c .before .before .before .before .before .before .before .before .before .before .before .before .before .before .before .before .before .before .before .before .before .args .how) (c .before .before .before .before .before .before .before .before .before .before .before .before .before .before .before .before .before .before .before .before .before .args .index) (c .before .before .before .before .before .before .before .before .before .before .before .before .before .before .before .before .before .before .before .before .before .args .failed) (c .before .before .settle .ensures)))
+    (λ c κs. (turn-open (c .before .before .before .before .before .before .before .before .before .before .before .before .before .before .before .before .before .before .pre .1 .0) (c .before .before .before .before .before .before .before .copy-list .ensures) (c .before .before .before .expr .ensures) .0, (turn-open (c .before .before .before .before .before .before .before .before .before .before .before .before .before .before .before .before .before .before .pre .1 .0) (c .before .before .before .before .before .before .before .copy-list .ensures) (c .before .before .before .expr .ensures) .1, c .before .before .before .before .before .before .before .before .before .before .before .before .before .before .before .before .before .before .pre .1 .1)))
+    (λ c. c .before .before .settle .ensures .long ∙ turn-long (c .before .before .before .before .before .before .before .before .before .before .before .before .before .before .before .before .before .before .before .before .before .pre .1 .0) (c .before .before .before .before .before .before .before .before .before .before .copy-list .ensures) (c .before .before .before .before .before .before .expr .ensures))
+    (λ c. turn-gives (c .before .before .before .before .before .before .before .before .before .before .before .before .before .before .before .before .before .before .before .before .before .pre .1 .0) (c .before .before .before .before .before .before .before .before .before .before .copy-list .ensures) (c .before .before .before .before .before .before .expr .ensures) (c .before .before .before .before .before .before .before .before .before .before .before .before .before .before .before .before .before .before .before .before .before .args .how) (c .before .before .before .before .before .before .before .before .before .before .before .before .before .before .before .before .before .before .before .before .before .args .index) (c .before .before .before .before .before .before .before .before .before .before .before .before .before .before .before .before .before .before .before .before .before .args .failed) (c .before .before .settle .ensures)))
     (λ t. unary-lts.spec (
       children-at-reads.Asked,
       children-at-reads.Learnt,
-      evaluate-expr-below t,
-      evaluate-expr.Post,
+      expr-below t,
+      expr.Post,
       operator-at-reads.Asked,
       operator-at-reads.Learnt,
       apply-reads.Asked,
@@ -814,9 +814,9 @@ pub +against+binary+branches+by-base+case+case-column-or-null+case-when-no-expr+
     (λ c κs. tt)
     (λ c κs. let q = c .before .before .before .before .before .pre .0 in (omega arith, framed-below (c .before .before .before .before .before .pre .1) (c .before .before .before .before .before .args .depth) (omega arith)))
     (λ c κs. tt)
-    (λ c κs. framed-fillable (framed-kept (c .before .before .before .before .before .before .before .before .before .before .pre .1) (c .before .before .before .before .before .before .before .before .before .before .args .depth + 1) (omega arith) _ (c .before .before .before .before .evaluate-expr .ensures .long) (c .before .before .before .before .evaluate-expr .ensures .low)) (omega arith))
-    (λ c. c .before .before .apply .ensures .long ∙ c .before .before .before .before .before .before .before .evaluate-expr .ensures .long)
-    (λ c. unary-gives (c .before .before .before .before .before .before .before .before .before .before .before .before .before .pre .1 .list-ok .few) (c .before .before .before .before .before .before .before .before .before .children-at .ensures) (c .before .before .before .before .before .before .before .evaluate-expr .ensures) (c .before .before .before .operator-at .ensures) (c .before .before .apply .ensures)))
+    (λ c κs. framed-fillable (framed-kept (c .before .before .before .before .before .before .before .before .before .before .pre .1) (c .before .before .before .before .before .before .before .before .before .before .args .depth + 1) (omega arith) _ (c .before .before .before .before .expr .ensures .long) (c .before .before .before .before .expr .ensures .low)) (omega arith))
+    (λ c. c .before .before .apply .ensures .long ∙ c .before .before .before .before .before .before .before .expr .ensures .long)
+    (λ c. unary-gives (c .before .before .before .before .before .before .before .before .before .before .before .before .before .pre .1 .list-ok .few) (c .before .before .before .before .before .before .before .before .before .children-at .ensures) (c .before .before .before .before .before .before .before .expr .ensures) (c .before .before .before .operator-at .ensures) (c .before .before .apply .ensures)))
     λ t. with-lookup-table-lts.spec (
       byte-at-reads.Asked,
       byte-at-reads.Learnt,
@@ -826,8 +826,8 @@ pub +against+binary+branches+by-base+case+case-column-or-null+case-when-no-expr+
       field-end-reads.Learnt,
       type-of-reads.Asked,
       type-of-reads.Learnt,
-      evaluate-expr-below t,
-      evaluate-expr.Post,
+      expr-below t,
+      expr.Post,
       look-up-reads.Asked,
       look-up-reads.Learnt,
     )
@@ -840,6 +840,6 @@ pub +against+binary+branches+by-base+case+case-column-or-null+case-when-no-expr+
     (λ c κs. tt)
     (λ c κs. tt)
     (λ c κs. let q = c .before .before .before .before .before .before .before .before .before .pre .0 in (omega arith, framed-below (c .before .before .before .before .before .before .before .before .before .pre .1) (c .before .before .before .before .before .before .before .before .before .args .depth) (omega arith)))
-    (λ c κs. framed-fillable (framed-kept (c .before .before .before .before .before .before .before .before .before .before .before .before .before .pre .1) (c .before .before .before .before .before .before .before .before .before .before .before .before .before .args .depth + 1) (omega arith) _ (c .before .before .before .evaluate-expr .ensures .long) (c .before .before .before .evaluate-expr .ensures .low)) (omega arith))
-    (λ c. c .before .before .look-up .ensures .long ∙ c .before .before .before .before .before .before .evaluate-expr .ensures .long)
-    (λ c. lookup-gives (c .before .before .before .before .before .before .before .before .before .before .before .before .before .before .before .before .pre .1 .list-ok .few) (c .before .before .before .before .before .before .before .before .before .before .children-at .ensures) (c .before .before .before .before .before .before .before .before .before .field-end .ensures) (c .before .before .before .before .before .before .evaluate-expr .ensures) (c .before .before .before .before .before .before .before .before .before .before .before .byte-at .ensures) (c .before .before .before .before .before .before .before .before .type-of .ensures) (c .before .before .look-up .ensures))
+    (λ c κs. framed-fillable (framed-kept (c .before .before .before .before .before .before .before .before .before .before .before .before .before .pre .1) (c .before .before .before .before .before .before .before .before .before .before .before .before .before .args .depth + 1) (omega arith) _ (c .before .before .before .expr .ensures .long) (c .before .before .before .expr .ensures .low)) (omega arith))
+    (λ c. c .before .before .look-up .ensures .long ∙ c .before .before .before .before .before .before .expr .ensures .long)
+    (λ c. lookup-gives (c .before .before .before .before .before .before .before .before .before .before .before .before .before .before .before .before .pre .1 .list-ok .few) (c .before .before .before .before .before .before .before .before .before .before .children-at .ensures) (c .before .before .before .before .before .before .before .before .before .field-end .ensures) (c .before .before .before .before .before .before .expr .ensures) (c .before .before .before .before .before .before .before .before .before .before .before .byte-at .ensures) (c .before .before .before .before .before .before .before .before .type-of .ensures) (c .before .before .look-up .ensures))
