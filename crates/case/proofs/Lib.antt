@@ -33,6 +33,8 @@ pub mod LookUpLaws
 pub mod LookUpTrees
 pub mod ResultLaws
 pub mod StepLaws
+pub mod KeyLaws
+pub mod SpanLaws
 pub mod EvaluateLaws
 pub mod AnswerLaws
 pub mod RowsTyped

@@ -9,7 +9,6 @@ use native.Mathlib.Omega.{arith}
 use lib.ListN.{length, take, drop, set, length-set}
 use lib.Seq.{sets, getD-set-same, getD-set-other, getD-drop, length-sets, drop-drop, take-all, take-nil}
 use Rattle.layout.specs.Bytes.{byte, number, numberAt, numberBytes}
-use Rattle.layout.proofs.NumberLaws.{number-split}
 use Rattle.layout.proofs.BytesLaws.{length-numberBytes, number-numberBytes}
 use Rattle.scalar.specs.declared.value.Value.{Value}
 use Rattle.scalar.specs.Value.{kindOf, payloadOf, valueOf, Storable}
@@ -137,21 +136,15 @@ parts-put w r k p small room bits w′ e = subst (SlotPut w r (valueOf k p)) (sy
 pub slot-put : {w : List ℕ} {r : ℕ} {v : Value} {w′ : List ℕ} {k p : ℕ} → Storable v → k ≡ kindOf v → p ≡ payloadOf v → SlotPut w r (valueOf k p) w′ → SlotPut w r v w′
 slot-put {w} {r} {v} {w′} stores a b s = subst (λ (x : Value). SlotPut w r x w′) (ap₂ valueOf a b ∙ payload-back v stores) s
 
--- the value of a slot's kind and the halves of its payload, and that it can be stored
-pub slot-got : (w : List ℕ) (at low high : ℕ) (v : Value) → (low ≡ numberAt 4 w (at + 1)) × (low < 2 ^ 32) → (high ≡ numberAt 4 w (at + 5)) × (high < 2 ^ 32)
-    → v ≡ valueOf (byte w at) (low + 4294967296 * high) → (v ≡ valueOf (byte w at) (numberAt 8 w (at + 1))) × Storable v
-slot-got w at low high v (p, a) (q, b) f = (
-  f ∙ ap (valueOf (byte w at)) whole,
-  subst Storable (sym f) (valueOf-stores (byte w at) (low + 4294967296 * high) (omega arith)),
-)
-  where
-    upper : numberAt 4 w (at + 5) ≡ numberAt 4 (drop (at + 1) w) 4
-    upper =
-        let e : at + 5 ≡ at + 1 + 4 = omega arith in
-        ap (numberAt 4 w) e ∙ sym (ap (λ (m : List ℕ). number (take 4 m)) (drop-drop 4 (at + 1) w))
+-- the value of a slot's kind and payload, and that it can be stored
+pub slot-got : (w : List ℕ) (at p : ℕ) (v : Value) → p ≡ numberAt 8 w (at + 1) → p < 2 ^ 64 → v ≡ valueOf (byte w at) p → (v ≡ valueOf (byte w at) (numberAt 8 w (at + 1))) × Storable v
+slot-got w at p v e b f = (f ∙ ap (valueOf (byte w at)) e, subst Storable (sym f) (valueOf-stores (byte w at) p b))
 
-    whole : low + 4294967296 * high ≡ numberAt 8 w (at + 1)
-    whole = omega (arith, p, q, upper, number-split 4 4 (drop (at + 1) w))
+-- a slot of the next frame, by its parts
+pub slot-copied : {w : List ℕ} {r : ℕ} {w′ : List ℕ} {k p : ℕ} → k ≡ byte w (7680 + 9 * r) → p ≡ numberAt 8 w (7680 + 9 * r + 1) → SlotPut w r (valueOf k p) w′ → SlotPut w r (nextSlot w r) w′
+slot-copied {w} {r} {w′} a b s =
+    let e : 7680 + 9 * r + 1 ≡ 7681 + 9 * r = omega arith in
+    subst (λ (x : Value). SlotPut w r x w′) (ap₂ valueOf a (b ∙ ap (numberAt 8 w) e)) s
 
 -- the value at a slot's place, its payload right behind
 pub slot-there : (w : List ℕ) (at behind : ℕ) (v : Value) → at + 1 ≡ behind → (v ≡ valueOf (byte w at) (numberAt 8 w (at + 1))) × Storable v

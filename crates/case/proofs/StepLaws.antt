@@ -3,21 +3,18 @@ use mathlib.Core.Path.{_≡_, refl, sym, ap, ap₂, subst, _∙_}
 use mathlib.Core.Bool.{Bool, true, false, cond, false≢true}
 use mathlib.Core.List.{List, [], _∷_, _++_, append-assoc, map}
 use mathlib.Core.Logic.{_⊎_, inl, inr}
-use Prim.Native.Nat.{ℕ, zero, suc, _+_, _-_, _*_, _^_, _<_, _≤_, min}
+use Prim.Native.Nat.{ℕ, zero, suc, _+_, _-_, _*_, _<_, _≤_, min}
 use native.Mathlib.Decide.{ℕ-discrete}
 use native.Mathlib.Omega.{arith}
 use lib.Dec.{eqb, ltb}
 use lib.ListN.{length, getD, set, length-set}
 use lib.Seq.{getD-set-same, getD-set-other}
-use borrow.Author.Tests.{eq-eqb, ne-eqb}
-use Rattle.layout.specs.Bytes.{byte, bitAt, numberAt}
+use Rattle.layout.specs.Bytes.{byte}
 use Rattle.scalar.specs.declared.types.DataType.{DataType}
-use Rattle.scalar.specs.declared.types.DataType.the-variants as Of
 use Rattle.scalar.specs.declared.value.Value.{Value}
 use Rattle.scalar.specs.declared.order.Key.{Key}
 use Rattle.scalar.specs.declared.order.Key.the-variants as Keys
-use Rattle.scalar.specs.Types.{typeNumber, markNumber}
-use Rattle.scalar.specs.Float.{signTurned, totalKey}
+use Rattle.scalar.specs.Types.{typeNumber}
 use Rattle.scalar.specs.Entry.{Entry, null, boolean, int32, int64, float64, utf8, isTrue, Outcome, entry, unfit, onEntries}
 use Rattle.scalar.specs.Pair.{pairOf}
 use Rattle.scalar.specs.Compare.{equalEntry, lessEntry}
@@ -38,7 +35,7 @@ use Rattle.case.specs.declared.steps.Step.{Step}
 use Rattle.case.specs.Frame.{rowAt, Rows, Listed}
 use Rattle.case.specs.LookUpTables.{found}
 use Rattle.case.specs.Evaluation.{rowIn, resultAt, indexed}
-use Rattle.case.specs.Steps.{StepsGive, noStep, stepOf, Sides, SidesGive, stepEntry, StepWhen, StepGives, whenAt, StepsAt, StepsRead, stepPasses, stepIndex, EntryIndex, KeyAt, RowIndex, RowsIndexed, ColumnGives, WhenIndex, StepRow, StepRows, WhenGives}
+use Rattle.case.specs.Steps.{StepsGive, noStep, stepOf, Sides, SidesGive, stepEntry, StepWhen, StepGives, whenAt, StepsAt, StepsRead, stepPasses, stepIndex, EntryIndex, KeyAt, RowIndex, RowsIndexed, ColumnGives, WhenIndex, StepRows, WhenGives}
 use Rattle.case.proofs.LookUpLaws.{found-none, found-below}
 use Rattle.case.proofs.BranchLaws.{behind-none, behind-two}
 use Rattle.case.proofs.CellLaws.{cell-found}
@@ -226,53 +223,12 @@ module _ {rule : List ℕ} {at count column kind place i : ℕ} {tags keys : Lis
 
 -- ---- the index of a row
 
--- whether a number passes
-module _ (tag key x : ℕ) where
-  pub passes-less : tag ≡ 24 → ltb x key ≡ stepPasses tag key x
-  passes-less e = sym (ap (λ (b : Bool). cond b (ltb x key) (cond (eqb tag 26) (ltb key x) (eqb x key))) (eq-eqb tag 24 e))
-
-  passes-rest : (tag ≡ 24 → ⊥) → cond (eqb tag 26) (ltb key x) (eqb x key) ≡ stepPasses tag key x
-  passes-rest e = sym (ap (λ (b : Bool). cond b (ltb x key) (cond (eqb tag 26) (ltb key x) (eqb x key))) (ne-eqb tag 24 e))
-
-  pub passes-more : (tag ≡ 24 → ⊥) → tag ≡ 26 → ltb key x ≡ stepPasses tag key x
-  passes-more d e = sym (ap (λ (b : Bool). cond b (ltb key x) (eqb x key)) (eq-eqb tag 26 e)) ∙ passes-rest d
-
-  pub passes-equal : (tag ≡ 24 → ⊥) → (tag ≡ 26 → ⊥) → eqb x key ≡ stepPasses tag key x
-  passes-equal d e = sym (ap (λ (b : Bool). cond b (ltb key x) (eqb x key)) (ne-eqb tag 26 e)) ∙ passes-rest d
-
 -- an index is at most ELSE's
 index-small : (tags keys : List ℕ) (count x : ℕ) → stepIndex tags keys count x ≤ count + 1
 index-small tags keys count x = found-below (λ k. stepPasses (getD tags k 0) (getD keys k 0) x) (λ k. k + 1) (count + 1) count 0 (λ i h. omega arith)
 
--- the number of a value, by its type
+-- the index of a null, and of a value
 module _ {kind : DataType} {values : List ℕ} {row : ℕ} where
-  key-of : {d : DataType} {x : ℕ} → kind ≡ d → KeyAt d values row x → KeyAt kind values row x
-  key-of {d} {x} e = subst (λ (y : DataType). KeyAt y values row x) (sym e)
-
-  pub key-boolean : {b : Bool} {x : ℕ} → kind ≡ Of.Boolean → b ≡ bitAt values row → x ≡ markNumber b → KeyAt kind values row x
-  unfolding valueAt
-  key-boolean {b} {x} e p q =
-      key-of e (record { is = λ h offsets. record { key = ap (Keys.Number 1) (sym (q ∙ ap markNumber p)); within = tt } })
-
-  pub key-int32 : {n x : ℕ} → kind ≡ Of.Int32 → n ≡ numberAt 4 values (4 * row) → n < 2 ^ 32 → x ≡ signTurned 31 n → KeyAt kind values row x
-  unfolding valueAt
-  key-int32 {n} {x} e p b q =
-      key-of e (record { is = λ h offsets. record { key = ap (Keys.Number 2) (sym (q ∙ ap (signTurned 31) p)); within = subst (λ (y : ℕ). y < 2 ^ 32) p b } })
-
-  pub key-int64 : {n x : ℕ} → kind ≡ Of.Int64 → n ≡ numberAt 8 values (8 * row) → n < 2 ^ 64 → x ≡ signTurned 63 n → KeyAt kind values row x
-  unfolding valueAt
-  key-int64 {n} {x} e p b q =
-      key-of e (record { is = λ h offsets. record { key = ap (Keys.Number 3) (sym (q ∙ ap (signTurned 63) p)); within = subst (λ (y : ℕ). y < 2 ^ 64) p b } })
-
-  pub key-float64 : {n x : ℕ} → kind ≡ Of.Float64 → n ≡ numberAt 8 values (8 * row) → n < 2 ^ 64 → x ≡ totalKey 63 n → KeyAt kind values row x
-  unfolding valueAt
-  key-float64 {n} {x} e p b q =
-      key-of e (record { is = λ h offsets. record { key = ap (Keys.Number 4) (sym (q ∙ ap (totalKey 63) p)); within = subst (λ (y : ℕ). y < 2 ^ 64) p b } })
-
-  pub key-utf8 : {x : ℕ} → kind ≡ Of.Utf8 → KeyAt kind values row x
-  key-utf8 e = key-of e (record { is = λ h. absurd (omega arith) })
-
-  -- the index of a null, and of a value
   module _ {validity tags keys : List ℕ} {count : ℕ} {b : Bool} (valid : b ≡ validIn validity row) where
     pub row-null : {c : ℕ} → b ≡ false → c ≡ count + 1 → RowIndex kind values validity tags keys count row c
     row-null e p = record {
@@ -421,15 +377,14 @@ module _ {rule : List ℕ} {at : ℕ} {table : List ℕ} {column : ℕ} {place :
   pub column-refused : {values : List ℕ} → length values ≡ 512 → ColumnGives rule at table column place count w n false values
   column-refused e = record { long = e; each = λ h. absurd (false≢true h) }
 
-  pub column-gives : {code : ℕ} {read : Bool} {values validity tags keys indices : List ℕ} → code ≡ typeNumber (place .«data_type») → code ≤ 4
-      → StepsRead rule at count column code read tags keys → read ≡ true → values ≡ columnIn table place .values → validity ≡ columnIn table place .validity
-      → RowsIndexed (RowIndex (place .«data_type») values validity tags keys count) w 0 n indices → ColumnGives rule at table column place count w n true indices
+  pub column-gives : {code : ℕ} {read : Bool} {tags keys indices : List ℕ} → code ≡ typeNumber (place .«data_type») → code ≤ 4
+      → StepsRead rule at count column code read tags keys → read ≡ true
+      → RowsIndexed (RowIndex (place .«data_type») (columnIn table place .values) (columnIn table place .validity) tags keys count) w 0 n indices → ColumnGives rule at table column place count w n true indices
   unfolding entryAt
-  column-gives {code} {read} {values} {validity} {tags} {keys} {indices} code-is small steps all values-is validity-is rows = record {
+  column-gives {code} {read} {tags} {keys} {indices} code-is small steps all rows = record {
     long = rows .long;
     each = λ h q l.
-        let right = subst (λ (y : List ℕ). RowIndex (place .«data_type») (columnIn table place .values) y tags keys count q (getD indices q 0)) validity-is
-        (subst (λ (y : List ℕ). RowIndex (place .«data_type») y validity tags keys count q (getD indices q 0)) values-is (rows .each q l)) in
+        let right = rows .each q l in
         let index : EntryIndex tags keys count (typeNumber (place .«data_type»)) (entryAt (columnIn table place) q) (getD indices q 0) =
         right .is (omega arith) (columnIn table place .offsets) in
         let read-steps = subst (λ (y : ℕ). StepsAt rule at count column y tags keys) code-is (steps .steps all) in
@@ -471,15 +426,13 @@ module _ {s : Step} {table : List ℕ} {place : ColumnPlace} {w : List ℕ} {at 
   pub step-refused : {values : List ℕ} → length values ≡ 512 → StepRows s table place w at n false values
   step-refused e = record { long = e; each = λ h. absurd (false≢true h) }
 
-  pub step-gives : {code : ℕ} {values validity tags keys indices : List ℕ} → code ≡ typeNumber (place .«data_type») → code ≤ 4 → s .kind ≡ code → getD tags 0 0 ≡ s .tag → getD keys 0 0 ≡ s .key
-      → values ≡ columnIn table place .values → validity ≡ columnIn table place .validity
-      → RowsIndexed (RowIndex (place .«data_type») values validity tags keys 1) w at n indices → StepRows s table place w at n true indices
+  pub step-gives : {code : ℕ} {tags keys indices : List ℕ} → code ≡ typeNumber (place .«data_type») → code ≤ 4 → s .kind ≡ code → getD tags 0 0 ≡ s .tag → getD keys 0 0 ≡ s .key
+      → RowsIndexed (RowIndex (place .«data_type») (columnIn table place .values) (columnIn table place .validity) tags keys 1) w at n indices → StepRows s table place w at n true indices
   unfolding entryAt
-  step-gives {code} {values} {validity} {tags} {keys} {indices} code-is small kind-is tag-is key-is values-is validity-is rows = record {
+  step-gives {code} {tags} {keys} {indices} code-is small kind-is tag-is key-is rows = record {
     long = rows .long;
     each = λ h q l.
-        let right = subst (λ (y : List ℕ). RowIndex (place .«data_type») (columnIn table place .values) y tags keys 1 q (getD indices q 0)) validity-is
-        (subst (λ (y : List ℕ). RowIndex (place .«data_type») y validity tags keys 1 q (getD indices q 0)) values-is (rows .each q l)) in
+        let right = rows .each q l in
         let index : EntryIndex tags keys 1 (s .kind) (entryAt (columnIn table place) q) (getD indices q 0) =
         subst (λ (y : ℕ). EntryIndex tags keys 1 y (entryAt (columnIn table place) q) (getD indices q 0)) (sym (kind-is ∙ code-is)) (right .is (omega arith) (columnIn table place .offsets)) in
         record { is = λ e row step p. one-step tags keys step tag-is key-is row (entryAt (columnIn table place) q) (getD indices q 0) p index };

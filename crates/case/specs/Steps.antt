@@ -1,11 +1,11 @@
 -- Steps: WHENs that compare the numbers of a column with a literal. A row's branch is found from one number of the row; what is promised of it is the
 -- one-row outcome (01, One row: branches are tried in order; equal and less).
 use mathlib.Core.Path.{_≡_}
-use mathlib.Core.Bool.{Bool, true, cond}
+use mathlib.Core.Bool.{Bool, true, false, cond}
 use mathlib.Core.List.{List, _++_}
 use mathlib.Core.Logic.{_⊎_}
-use Prim.Native.Nat.{ℕ, zero, suc, _+_, _<_, _≤_}
-use lib.Dec.{eqb, ltb}
+use Prim.Native.Nat.{ℕ, zero, suc, _+_, _-_, _<_, _≤_}
+use lib.Dec.{eqb, ltb, leb}
 use lib.ListN.{length, getD}
 use Rattle.scalar.specs.declared.types.DataType.{DataType}
 use Rattle.scalar.specs.declared.types.DataType.the-variants.{Boolean}
@@ -114,6 +114,41 @@ EntryIndex tags keys count kind e c = ((e ≡ null) × (c ≡ count + 1)) ⊎ ((
 -- the number of a row's value, of any type but text
 pub record KeyAt (kind : DataType) (values : List ℕ) (row x : ℕ) : Type 0 where
   pub is : typeNumber kind ≤ 4 → (offsets : List ℕ) → Numbered (typeNumber kind) x (valueAt kind offsets values row)
+
+-- of each of the first rows
+pub record KeysAt (kind : DataType) (values : List ℕ) (rows : ℕ) (keys : List ℕ) : Type 0 where
+  pub long : length keys ≡ 512
+  pub each : (r : ℕ) → r < rows → KeyAt kind values r (getD keys r 0)
+
+-- the greatest number of 64 bits
+abbrev pub numberMost : ℕ
+numberMost = 18446744073709551615
+
+-- the least and the greatest number that pass a step; where none does, the least is above the greatest
+abbrev pub stepLow : ℕ → ℕ → ℕ
+stepLow tag key = cond (eqb tag 24) (cond (eqb key 0) 1 0) (cond (eqb tag 26) (cond (ltb key numberMost) (key + 1) 1) key)
+
+abbrev pub stepHigh : ℕ → ℕ → ℕ
+stepHigh tag key = cond (eqb tag 24) (cond (eqb key 0) 0 (key - 1)) (cond (eqb tag 26) (cond (ltb key numberMost) numberMost 0) key)
+
+-- of each of so many steps
+pub record SpansOf (tags keys : List ℕ) (count : ℕ) (lows highs : List ℕ) : Type 0 where
+  pub lows-long : length lows ≡ 32
+  pub highs-long : length highs ≡ 32
+  pub low-is : (k : ℕ) → k < count → getD lows k 0 ≡ stepLow (getD tags k 0) (getD keys k 0)
+  pub high-is : (k : ℕ) → k < count → getD highs k 0 ≡ stepHigh (getD tags k 0) (getD keys k 0)
+
+-- a number lies between two
+abbrev pub inSpan : ℕ → ℕ → ℕ → Bool
+inSpan low high x = cond (ltb x low) false (leb x high)
+
+-- the index of the first of so many spans that a number lies in, from 1, or the ELSE index
+abbrev pub spanIndex : List ℕ → List ℕ → ℕ → ℕ → ℕ
+spanIndex lows highs count x = found (λ k. inSpan (getD lows k 0) (getD highs k 0) x) (λ k. k + 1) 0 count (count + 1)
+
+-- the index of a row by its number: ELSE's of a null
+abbrev pub rowSpan : List ℕ → List ℕ → List ℕ → List ℕ → ℕ → ℕ → ℕ
+rowSpan numbers validity lows highs count row = cond (validIn validity row) (spanIndex lows highs count (getD numbers row 0)) (count + 1)
 
 -- the index of a row's entry
 pub record RowIndex (kind : DataType) (values validity tags keys : List ℕ) (count row c : ℕ) : Type 0 where

@@ -11,6 +11,7 @@ pub(crate) mod clear;
 pub(crate) mod column;
 pub mod evaluate;
 pub(crate) mod fits;
+pub(crate) mod keys;
 pub(crate) mod literal;
 pub(crate) mod literal_lookup_table;
 pub(crate) mod merge;

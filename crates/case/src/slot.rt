@@ -18,12 +18,22 @@ pub(crate) fn wide(b: u8) -> u64
 }
 
 // The number in the four bytes at a place.
-fn word(work: &[u8], at: usize) -> u64
+pub(crate) fn word(work: &[u8], at: usize) -> u64
     requires { ⌜ at + 4 ≤ length (now work) ⌝ }
     ensures { λ r. ⌜ (r ≡ numberAt 4 (now (work .entry)) at) × (r < 2 ^ 32) ⌝ }
 {
     wide(work[at])
         + 256 * (wide(work[at + 1]) + 256 * (wide(work[at + 2]) + 256 * wide(work[at + 3])))
+}
+
+// The number in the eight bytes at a place.
+pub(crate) fn long(work: &[u8], at: usize) -> u64
+    requires { ⌜ at + 8 ≤ length (now work) ⌝ }
+    ensures { λ r. ⌜ r ≡ numberAt 8 (now (work .entry)) at ⌝ }
+{
+    let low = word(work, at);
+    let high = word(work, at + 4);
+    low + 0x1_0000_0000 * high
 }
 
 // The value of a kind and a payload into the slot of a row.
@@ -57,9 +67,8 @@ fn slot_value(work: &[u8], at: usize) -> Value
     requires { ⌜ at + 9 ≤ length (now work) ⌝ }
     ensures { λ r. ⌜ (r ≡ valueOf (byte (now (work .entry)) at) (numberAt 8 (now (work .entry)) (at + 1))) × Storable r ⌝ }
 {
-    let low = word(work, at + 1);
-    let high = word(work, at + 5);
-    value_of(work[at], low + 0x1_0000_0000 * high)
+    let payload = long(work, at + 1);
+    value_of(work[at], payload)
 }
 
 // The value in the slot of a row.
@@ -76,6 +85,17 @@ pub(crate) fn next_slot(work: &[u8], row: usize) -> Value
     ensures { λ r. ⌜ (r ≡ nextSlot (now (work .entry)) row) × Storable r ⌝ }
 {
     slot_value(work, 7680 + 9 * row)
+}
+
+// The value in the slot of a row of the next frame, into the row's slot of this one.
+pub(crate) fn copy_slot(work: &mut [u8], row: usize)
+    requires { ⌜ (row < 512) × (12288 ≤ length (now work)) ⌝ }
+    ensures { λ _. ⌜ SlotPut (now (work .entry)) row (nextSlot (now (work .entry)) row) (now (work .exit)) ⌝ }
+{
+    let at = 7680 + 9 * row;
+    let kind = work[at];
+    let payload = long(work, at + 1);
+    put_parts(work, row, kind, payload);
 }
 
 // A value as a slot keeps it: the same, where it can be stored.

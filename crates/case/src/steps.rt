@@ -1,32 +1,30 @@
 // WHENs that each compare the numbers of one column with a literal. A row's branch is found from the one number by which its entry is compared:
 // the first WHEN that the number passes.
+use crate::keys::column_keys;
 use crate::rows::row_at;
-use layout::bits::bit_at;
 use layout::number::byte_at;
 use layout::part::part_of;
 use rule::literal::literal_value;
 use rule::types::type_number;
 use rule::walk::children_at;
 use rule::walk::field_end;
-use scalar::negative::sign_turned;
 use scalar::order::Key;
-use scalar::order::float_key;
-use scalar::order::int32_key;
 use scalar::order::key_of;
-use scalar::types::DataType;
-use table::entry::row_u32;
-use table::entry::row_u64;
 use table::entry::valid_at;
 use table::places::ColumnPlace;
 use table::places::Table;
 ghost use mathlib.Core.Path.{_≡_};
-ghost use Prim.Native.Nat.{_+_, _*_, _≤_};
+ghost use Prim.Native.Nat.{_+_, _*_, _<_, _≤_};
 ghost use lib.ListN.{length};
+ghost use Rattle.table.specs.Places.{columnIn};
 ghost use Rattle.case.specs.Frame.{Rows};
-ghost use Rattle.case.specs.Steps.{StepsGive, noStep, stepOf, SidesGive, StepGives, StepsRead, stepPasses, stepIndex, KeyAt, RowIndex, RowsIndexed, ColumnGives, StepRows, WhenGives};
+ghost use Rattle.case.specs.Steps.{StepsGive, noStep, stepOf, SidesGive, StepGives, StepsRead, stepLow, stepHigh, SpansOf, inSpan, spanIndex, rowSpan, RowIndex, RowsIndexed, ColumnGives, StepRows, WhenGives};
 
 // Most branches of a CASE.
 const BRANCHES_MOST: u8 = 32;
+
+// The greatest number of 64 bits.
+const NUMBER_MOST: u64 = 0xffff_ffff_ffff_ffff;
 
 // A column compared with a literal: equal (23), less (24), or the literal less than the column (26, the tag of no node); the column, and the kind
 // and the key of the literal. Tag 0 is any other node.
@@ -139,27 +137,64 @@ fn read_steps(
     true
 }
 
-// Whether a number passes a step.
-fn passes(tag: u8, key: u64, x: u64) -> bool
-    ensures { λ r. ⌜ r ≡ stepPasses tag key x ⌝ }
+// The least number that passes a step; 1 where none does.
+fn low_of(tag: u8, key: u64) -> u64
+    ensures { λ r. ⌜ r ≡ stepLow tag key ⌝ }
 {
     if tag == 24 {
-        return x < key;
+        return if key == 0 { 1 } else { 0 };
     }
-    if tag == 26 { key < x } else { x == key }
+    if tag == 26 {
+        return if key < NUMBER_MOST { key + 1 } else { 1 };
+    }
+    key
 }
 
-// The index of the first step that a number passes, from 1, or the ELSE index.
-fn step_index(tags: &[u8], keys: &[u64], count: usize, x: u64) -> u16
+// The greatest number that passes a step; 0 where none does.
+fn high_of(tag: u8, key: u64) -> u64
+    ensures { λ r. ⌜ r ≡ stepHigh tag key ⌝ }
+{
+    if tag == 24 {
+        return if key == 0 { 0 } else { key - 1 };
+    }
+    if tag == 26 {
+        return if key < NUMBER_MOST { NUMBER_MOST } else { 0 };
+    }
+    key
+}
+
+// The least and the greatest number that pass each of so many steps.
+fn fill_spans(tags: &[u8], keys: &[u64], count: usize, lows: &mut [u64], highs: &mut [u64])
     requires { ⌜ (length (now tags) ≡ 32) × (length (now keys) ≡ 32) × (count ≤ 32) ⌝ }
-    ensures { λ r. ⌜ r ≡ stepIndex (now (tags .entry)) (now (keys .entry)) count x ⌝ }
+    requires { ⌜ (length (now lows) ≡ 32) × (length (now highs) ≡ 32) ⌝ }
+    ensures { λ _. ⌜ SpansOf (now (tags .entry)) (now (keys .entry)) count (now (lows .exit)) (now (highs .exit)) ⌝ }
+{
+    let mut k = 0;
+    while k < count {
+        lows[k] = low_of(tags[k], keys[k]);
+        highs[k] = high_of(tags[k], keys[k]);
+        k += 1;
+    }
+}
+
+// Whether a number lies between two.
+fn in_span(low: u64, high: u64, x: u64) -> bool
+    ensures { λ r. ⌜ r ≡ inSpan low high x ⌝ }
+{
+    if x < low { false } else { x <= high }
+}
+
+// The index of the first span that a number lies in, from 1, or the ELSE index.
+fn span_index(lows: &[u64], highs: &[u64], count: usize, x: u64) -> u16
+    requires { ⌜ (length (now lows) ≡ 32) × (length (now highs) ≡ 32) × (count ≤ 32) ⌝ }
+    ensures { λ r. ⌜ r ≡ spanIndex (now (lows .entry)) (now (highs .entry)) count x ⌝ }
 {
     let mut k = 0;
     let index = loop {
         if k == count {
             break count + 1;
         }
-        if passes(tags[k], keys[k], x) {
+        if in_span(lows[k], highs[k], x) {
             break k + 1;
         }
         k += 1;
@@ -167,43 +202,54 @@ fn step_index(tags: &[u8], keys: &[u64], count: usize, x: u64) -> u16
     index as u16
 }
 
-// The number by which a row's value is compared.
-fn key_at(kind: DataType, values: &[u8], row: usize) -> u64
-    ensures { λ r. ⌜ KeyAt kind (now (values .entry)) row r ⌝ }
-{
-    match kind {
-        DataType::Boolean => if bit_at(values, row) { 1 } else { 0 },
-        DataType::Int32 => int32_key(row_u32(values, row)),
-        DataType::Int64 => sign_turned(row_u64(values, row)),
-        DataType::Float64 => float_key(row_u64(values, row)),
-        DataType::Utf8 => 0,
-    }
-}
-
-// The index of a row: of a null the ELSE index.
+// The index of a row by its number: of a null the ELSE index.
 fn row_index(
-    kind: DataType,
-    values: &[u8],
+    numbers: &[u64],
     validity: &[u8],
-    tags: &[u8],
-    keys: &[u64],
+    lows: &[u64],
+    highs: &[u64],
     count: usize,
     row: usize,
 ) -> u16
-    requires { ⌜ (length (now tags) ≡ 32) × (length (now keys) ≡ 32) × (count ≤ 32) ⌝ }
-    ensures { λ r. ⌜ RowIndex kind (now (values .entry)) (now (validity .entry)) (now (tags .entry)) (now (keys .entry)) count row r ⌝ }
+    requires { ⌜ (length (now lows) ≡ 32) × (length (now highs) ≡ 32) × (count ≤ 32) ⌝ }
+    requires { ⌜ row < length (now numbers) ⌝ }
+    ensures { λ r. ⌜ r ≡ rowSpan (now (numbers .entry)) (now (validity .entry)) (now (lows .entry)) (now (highs .entry)) count row ⌝ }
 {
     if !valid_at(validity, row) {
         return (count + 1) as u16;
     }
-    step_index(tags, keys, count, key_at(kind, values, row))
+    span_index(lows, highs, count, numbers[row])
 }
 
 // The index of each row of the list at a place.
 fn index_rows(
-    kind: DataType,
-    values: &[u8],
+    numbers: &[u64],
     validity: &[u8],
+    lows: &[u64],
+    highs: &[u64],
+    count: usize,
+    work: &[u8],
+    at: usize,
+    n: usize,
+    indices: &mut [u16],
+)
+    requires { ⌜ (length (now lows) ≡ 32) × (length (now highs) ≡ 32) × (count ≤ 32) ⌝ }
+    requires { ⌜ Rows (now work) at n 512 × (at + 2 * n ≤ length (now work)) ⌝ }
+    requires { ⌜ (length (now indices) ≡ 512) × (length (now numbers) ≡ 512) ⌝ }
+    ensures { λ _. ⌜ RowsIndexed (λ r c. c ≡ rowSpan (now (numbers .entry)) (now (validity .entry)) (now (lows .entry)) (now (highs .entry)) count r) (now (work .entry)) at n (now (indices .exit)) ⌝ }
+{
+    let mut i = 0;
+    while i < n {
+        let r = row_at(work, at, i);
+        indices[r] = row_index(numbers, validity, lows, highs, count, r);
+        i += 1;
+    }
+}
+
+// The index of each row of the list at a place, by so many steps on the column at a place of the table, whose type is the steps'.
+fn index_column(
+    table: &[u8],
+    place: ColumnPlace,
     tags: &[u8],
     keys: &[u64],
     count: usize,
@@ -215,14 +261,27 @@ fn index_rows(
     requires { ⌜ (length (now tags) ≡ 32) × (length (now keys) ≡ 32) × (count ≤ 32) ⌝ }
     requires { ⌜ Rows (now work) at n 512 × (at + 2 * n ≤ length (now work)) ⌝ }
     requires { ⌜ length (now indices) ≡ 512 ⌝ }
-    ensures { λ _. ⌜ RowsIndexed (RowIndex kind (now (values .entry)) (now (validity .entry)) (now (tags .entry)) (now (keys .entry)) count) (now (work .entry)) at n (now (indices .exit)) ⌝ }
+    ensures { λ _. ⌜ RowsIndexed (RowIndex (place .«data_type») (columnIn (now (table .entry)) place .values) (columnIn (now (table .entry)) place .validity) (now (tags .entry)) (now (keys .entry)) count) (now (work .entry)) at n (now (indices .exit)) ⌝ }
 {
-    let mut i = 0;
-    while i < n {
-        let r = row_at(work, at, i);
-        indices[r] = row_index(kind, values, validity, tags, keys, count, r);
-        i += 1;
-    }
+    let values = part_of(table, place.values_start, place.values_end);
+    let validity = part_of(table, place.validity_start, place.validity_end);
+    let mut numbers = [0u64; 512];
+    let kind = place.data_type;
+    column_keys(kind, values, 512, &mut numbers);
+    let mut lows = [0u64; 32];
+    let mut highs = [0u64; 32];
+    fill_spans(tags, keys, count, &mut lows, &mut highs);
+    index_rows(
+        &numbers,
+        validity,
+        &lows,
+        &highs,
+        count,
+        work,
+        at,
+        n,
+        indices,
+    );
 }
 
 // The index of each listed row by steps on a column at a place, where every WHEN is one.
@@ -255,20 +314,7 @@ fn column_steps(
     if !read_steps(rule, at, whens, column, code, &mut tags, &mut keys) {
         return false;
     }
-    let values = part_of(table, place.values_start, place.values_end);
-    let validity = part_of(table, place.validity_start, place.validity_end);
-    index_rows(
-        kind,
-        values,
-        validity,
-        &tags,
-        &keys,
-        whens,
-        work,
-        0,
-        n,
-        indices,
-    );
+    index_column(table, place, &tags, &keys, whens, work, 0, n, indices);
     true
 }
 
@@ -326,20 +372,7 @@ fn column_step(
     let mut keys = [0u64; 32];
     tags[0] = s.tag;
     keys[0] = s.key;
-    let values = part_of(table, place.values_start, place.values_end);
-    let validity = part_of(table, place.validity_start, place.validity_end);
-    index_rows(
-        kind,
-        values,
-        validity,
-        &tags,
-        &keys,
-        1,
-        work,
-        at,
-        n,
-        indices,
-    );
+    index_column(table, place, &tags, &keys, 1, work, at, n, indices);
     true
 }
 

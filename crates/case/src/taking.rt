@@ -1,8 +1,7 @@
 // Taking: the rows of an index go to the next frame's list, and their slots there come back.
 use crate::rows::put_row;
 use crate::rows::row_at;
-use crate::slot::next_slot;
-use crate::slot::put_slot;
+use crate::slot::copy_slot;
 ghost use mathlib.Core.Path.{_≡_};
 ghost use Prim.Native.Nat.{_≤_};
 ghost use lib.ListN.{length};
@@ -37,8 +36,7 @@ pub(crate) fn copy_slots(work: &mut [u8], m: usize)
     let mut i = 0;
     while i < m {
         let r = row_at(work, 6656, i);
-        let v = next_slot(work, r);
-        put_slot(work, r, v);
+        copy_slot(work, r);
         i += 1;
     }
 }

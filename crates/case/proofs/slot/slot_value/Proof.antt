@@ -1,7 +1,7 @@
 -- `slot_value` reads a kind and a payload.
-use borrow.Author.Needs.{needs}
 use denote.Ref.{now}
 use Rattle.case.proofs.SlotLaws.{slot-got}
+use borrow.Author.Needs.{needs}
 use Rattle.case.proofs.slot.slot_value.Statement.{statement}
 use Rattle.case.proofs.slot.slot_value.Tie as tie
 
@@ -13,8 +13,4 @@ slot-value-spec =
     (λ c κs. search needs)
     (λ c. search needs)
     (λ c κs. search needs)
-    (λ c. search needs)
-    (λ c. search needs)
-    (λ c. search needs)
-    (λ c κs. search needs)
-    (λ c. slot-got (now (c .before .before .before .before .before .args .work)) (c .before .before .before .before .before .args .at) (c .before .before .before .word .result) (c .before .before .word2 .result) (c .value-of .result) (c .before .before .before .word .ensures) (c .before .before .word2 .ensures) (c .value-of .ensures)))
+    (λ c. slot-got (now (c .before .before .before .before .args .work)) (c .before .before .before .before .args .at) (c .before .before .long .result) (c .value-of .result) (c .before .before .long .ensures) (c .before .before .long .ok) (c .value-of .ensures)))

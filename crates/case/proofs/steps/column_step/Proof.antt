@@ -1,9 +1,8 @@
 -- Each row has its index by the one step; or no row has one.
-use mathlib.Core.Path.{refl, sym}
+use mathlib.Core.Path.{refl}
 use native.Mathlib.Omega.{arith}
-use lib.ListN.{length-set}
-use borrow.Author.Needs.{needs}
 use Rattle.case.proofs.StepLaws.{step-refused, step-gives}
+use borrow.Author.Needs.{needs}
 use Rattle.case.proofs.steps.column_step.Statement.{statement}
 use Rattle.case.proofs.steps.column_step.Tie as tie
 
@@ -16,10 +15,8 @@ column-step-spec =
     (λ c. step-refused (c .before .before .before .before .before .before .before .pre .1))
     (λ c. omega arith)
     (λ c. omega arith)
-    (λ c κs. search needs)
-    (λ c κs. search needs)
     (λ c. search needs)
     (λ c. search needs)
-    (λ c κs. let p = c .before .before .before .before .before .before .before .before .before .before .before .before .pre in ((refl, refl, omega arith), ((p .0 .0, p .0 .1), p .1)))
+    (λ c κs. ((refl, refl, omega arith), ((c .before .before .before .before .before .before .before .before .before .before .pre .0 .0, c .before .before .before .before .before .before .before .before .before .before .pre .0 .1), c .before .before .before .before .before .before .before .before .before .before .pre .1)))
     (λ c. search needs)
-    (λ c. step-gives (c .before .before .before .before .before .before .before .before .before .before .before .type-number .ensures) (omega (arith, c .before .before .before .before .before .before .before .before .before .before .if1 .left)) (c .before .before .before .before .before .before .before .before .if2 .left) refl refl (c .before .before .before .before .before .before .before .part-of .ensures) (c .before .before .before .before .before .before .part-of2 .ensures) (c .before .before .index-rows .ensures)))
+    (λ c. step-gives (c .before .before .before .before .before .before .before .before .before .type-number .ensures) (omega (arith, c .before .before .before .before .before .before .before .before .if1 .left)) (c .before .before .before .before .before .before .if2 .left) refl refl (c .before .before .index-column .ensures)))

@@ -1,8 +1,8 @@
 -- The steps are read, and each row has its index; or no row has one.
 use native.Mathlib.Omega.{arith}
-use borrow.Author.Needs.{needs}
 use borrow.Author.Tests.{not-false}
 use Rattle.case.proofs.StepLaws.{column-refused, column-gives}
+use borrow.Author.Needs.{needs}
 use Rattle.case.proofs.steps.column_steps.Statement.{statement}
 use Rattle.case.proofs.steps.column_steps.Tie as tie
 
@@ -17,10 +17,8 @@ column-steps-spec =
     (λ c. search needs)
     (λ c κs. search needs)
     (λ c. column-refused (c .before .before .before .before .before .before .before .before .before .before .before .before .before .pre .1))
-    (λ c κs. search needs)
-    (λ c κs. search needs)
     (λ c. search needs)
     (λ c. search needs)
-    (λ c κs. let p = c .before .before .before .before .before .before .before .before .before .before .before .before .before .before .before .before .before .before .pre in let r = c .before .before .before .before .before .before .before .before .read-steps .ensures in ((r .tags-long, r .keys-long, omega arith), ((p .0 .0, omega (arith, p .0 .1)), p .1)))
+    (λ c κs. ((c .before .before .before .before .before .before .read-steps .ensures .tags-long, c .before .before .before .before .before .before .read-steps .ensures .keys-long, omega arith), ((c .before .before .before .before .before .before .before .before .before .before .before .before .before .before .before .before .pre .0 .0, omega (arith, c .before .before .before .before .before .before .before .before .before .before .before .before .before .before .before .before .pre .0 .1)), c .before .before .before .before .before .before .before .before .before .before .before .before .before .before .before .before .pre .1)))
     (λ c. search needs)
-    (λ c. column-gives (c .before .before .before .before .before .before .before .before .before .before .before .before .before .before .before .type-number .ensures) (omega (arith, c .before .before .before .before .before .before .before .before .before .before .before .before .before .before .if2 .left)) (c .before .before .before .before .before .before .before .before .before .before .before .read-steps .ensures) (not-false _ (c .before .before .before .before .before .before .before .before .if3 .left)) (c .before .before .before .before .before .before .before .part-of .ensures) (c .before .before .before .before .before .before .part-of2 .ensures) (c .before .before .index-rows .ensures)))
+    (λ c. column-gives (c .before .before .before .before .before .before .before .before .before .before .before .before .before .type-number .ensures) (omega (arith, c .before .before .before .before .before .before .before .before .before .before .before .before .if2 .left)) (c .before .before .before .before .before .before .before .before .before .read-steps .ensures) (not-false _ (c .before .before .before .before .before .before .if3 .left)) (c .before .before .index-column .ensures)))

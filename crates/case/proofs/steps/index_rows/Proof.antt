@@ -1,17 +1,17 @@
 -- `index_rows` gives each row its index. The loop's invariant: the first rows have theirs.
-use mathlib.Core.Path.{sym, _∙_}
-use Prim.Native.Nat.{_-_}
+use mathlib.Core.Path.{_≡_, sym, _∙_}
+use Prim.Native.Nat.{ℕ, _-_}
 use native.Mathlib.Omega.{arith}
-use Rattle.case.specs.Steps.{RowIndex, RowsIndexed}
+use Rattle.case.specs.Steps.{rowSpan, RowsIndexed}
 use Rattle.case.proofs.StepLaws.{indices-none, indices-room, indices-more, indices-all}
 use Rattle.case.proofs.steps.index_rows.Statement.{statement}
 use Rattle.case.proofs.steps.index_rows.Tie as tie
 
 abbrev Inv-loop : tie.InvT-loop
-Inv-loop kind values validity tags keys count work at n indices₀ i₀ indices i = RowsIndexed (RowIndex kind values validity tags keys count) work at i indices
+Inv-loop numbers validity lows highs count work at n indices₀ i₀ indices i = RowsIndexed (λ (r c : ℕ). c ≡ rowSpan numbers validity lows highs count r) work at i indices
 
 abbrev μ-loop : tie.MeasureT-loop
-μ-loop kind values validity tags keys count work at n indices₀ i₀ indices i = n - i
+μ-loop numbers validity lows highs count work at n indices₀ i₀ indices i = n - i
 
 pub index-rows-spec : {M : Type 1} → statement M
 index-rows-spec =
@@ -19,13 +19,13 @@ index-rows-spec =
     (tie.spec
     Inv-loop
     μ-loop
-    (λ c. indices-none (c .before .before .before .before .before .before .pre .1 .1))
+    (λ c. indices-none (c .before .before .before .before .before .before .pre .1 .1 .0))
     (λ c κs. omega (arith, c .before .before .before .before .before .before .before .before .pre .1 .0 .1, c .loop-test .taken))
-    (λ c κs. c .before .before .before .before .before .before .before .before .before .pre .0)
+    (λ c κs. (c .before .before .before .before .before .before .before .before .before .pre .0, omega (arith, indices-room (c .before .before .loop .inv) (c .before .before .before .before .before .before .before .before .before .pre .1 .0 .0) (c .before .loop-test .taken) (c .row-at .ensures), c .before .before .loop .inv .long, c .before .before .before .before .before .before .before .before .before .pre .1 .1 .1)))
     (λ c. omega (arith, indices-room (c .before .before .before .loop .inv) (c .before .before .before .before .before .before .before .before .before .before .pre .1 .0 .0) (c .before .before .loop-test .taken) (c .before .row-at .ensures), c .before .before .before .loop .inv .long))
     (λ c. indices-room (c .before .before .before .loop .inv) (c .before .before .before .before .before .before .before .before .before .before .pre .1 .0 .0) (c .before .before .loop-test .taken) (c .before .row-at .ensures))
     (λ c. omega (arith, c .before .before .before .before .before .before .before .before .before .before .pre .1 .0 .0 .few, c .before .before .loop-test .taken))
     (λ c. omega (arith, c .before .before .loop-test .taken))
     (λ c. indices-more (c .before .before .before .loop .inv) (c .before .before .before .before .before .before .before .before .before .before .pre .1 .0 .0) (c .before .before .loop-test .taken) (c .before .row-at .ensures) (c .row-index .ensures))
-    (λ c. c .before .loop .inv .long ∙ sym (c .before .before .before .before .before .before .before .before .pre .1 .1))
+    (λ c. c .before .loop .inv .long ∙ sym (c .before .before .before .before .before .before .before .before .pre .1 .1 .0))
     (λ c. indices-all (c .before .loop .inv) (omega arith)))

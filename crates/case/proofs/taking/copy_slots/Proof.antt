@@ -1,6 +1,6 @@
 -- `copy_slots` puts the next frame's values in the slots of its listed rows. The loop's invariant: so far it is there.
 use Prim.Native.Nat.{ℕ, _-_}
-use mathlib.Core.Path.{_≡_, _∙_}
+use mathlib.Core.Path.{_≡_}
 use native.Mathlib.Omega.{arith}
 use Rattle.case.proofs.RowsLaws.{FilledFromSoFar, none-yet, ends, row-in-from, row-fits-from, next-fresh-from, next-from}
 use Rattle.case.specs.Frame.{nextSlot}
@@ -23,9 +23,8 @@ copy-slots-spec =
     (λ c. none-yet)
     (λ c κs. row-in-from (c .before .before .loop .inv) (c .before .before .before .before .pre .0) (c .before .loop-test .taken))
     (λ c κs. (row-fits-from (c .before .before .before .before .loop .inv) (c .before .before .before .before .before .before .pre .0) (c .before .before .before .loop-test .taken) (c .before .row-at .ensures) .0, omega (arith, c .before .before .before .before .loop .inv .done .long, c .before .before .before .before .before .before .pre .1)))
-    (λ c κs. (row-fits-from (c .before .before .before .before .before .before .loop .inv) (c .before .before .before .before .before .before .before .before .pre .0) (c .before .before .before .before .before .loop-test .taken) (c .before .before .before .row-at .ensures), c .before .next-slot .ensures .1))
     (λ c. omega arith)
     (λ c. omega arith)
-    (λ c. next-from (c .before .before .before .before .before .before .before .before .before .loop .inv) (c .before .before .before .before .before .before .before .before .before .before .before .pre .0) (c .before .before .before .before .before .before .before .before .loop-test .taken) (c .before .before .before .before .before .before .row-at .ensures) (c .before .before .put-slot .ensures) (c .before .before .before .before .next-slot .ensures .0 ∙ next-fresh-from (c .before .before .before .before .before .before .before .before .before .loop .inv) (c .before .before .before .before .before .before .before .before .before .before .before .pre .0) (c .before .before .before .before .before .before .before .before .loop-test .taken) (c .before .before .before .before .before .before .row-at .ensures)))
+    (λ c. next-from (c .before .before .before .before .before .before .before .loop .inv) (c .before .before .before .before .before .before .before .before .before .pre .0) (c .before .before .before .before .before .before .loop-test .taken) (c .before .before .before .before .row-at .ensures) (c .before .before .copy-slot .ensures) (next-fresh-from (c .before .before .before .before .before .before .before .loop .inv) (c .before .before .before .before .before .before .before .before .before .pre .0) (c .before .before .before .before .before .before .loop-test .taken) (c .before .before .before .before .row-at .ensures)))
     (λ c. c .before .loop .inv .done .long)
     (λ c. ends (c .before .loop .inv) (omega arith)))

@@ -2,9 +2,9 @@
 use mathlib.Core.Path.{sym, ap}
 use borrow.Author.Needs.{needs}
 use Rattle.scalar.specs.Types.{markNumber}
-use Rattle.case.proofs.StepLaws.{key-boolean, key-int32, key-int64, key-float64, key-utf8}
-use Rattle.case.proofs.steps.key_at.Statement.{statement}
-use Rattle.case.proofs.steps.key_at.Tie as tie
+use Rattle.case.proofs.KeyLaws.{key-boolean, key-int32, key-int64, key-float64, key-utf8}
+use Rattle.case.proofs.keys.key_at.Statement.{statement}
+use Rattle.case.proofs.keys.key_at.Tie as tie
 
 pub key-at-spec : {M : Type 1} → statement M
 key-at-spec =
