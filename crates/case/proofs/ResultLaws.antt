@@ -1,7 +1,8 @@
 -- The literals among a CASE's THENs and its ELSE: how they are read, and that a row's literal is what its index stands for. Assumes nothing.
 use mathlib.Core.Path.{_≡_, refl, sym, ap, ap₂, subst, subst₂, _∙_}
-use mathlib.Core.Bool.{true}
+use mathlib.Core.Bool.{Bool, true}
 use mathlib.Core.List.{List, [], _∷_, _++_}
+use mathlib.Core.Logic.{inl, inr, ⊎-elim}
 use Prim.Native.Nat.{ℕ, zero, suc, _+_, _-_, _*_, _<_, _≤_}
 use native.Mathlib.Decide.{ℕ-discrete, decLt}
 use native.Mathlib.Omega.{arith}
@@ -24,7 +25,7 @@ use Rattle.rule.proofs.WalkLaws.{node-of-tag, first-two, branches-length}
 use Rattle.case.specs.Frame.{rowAt, Filled, Fillable, SlotPut}
 use Rattle.case.specs.LookUpTables.{valueAt}
 use Rattle.case.specs.Evaluation.{resultAt, indexed}
-use Rattle.case.specs.Results.{elseKnown, resultKnown, indexKnown, StartRight, EmptyArrays, ThensRead, ResultsRead, PutBy}
+use Rattle.case.specs.Results.{elseKnown, resultKnown, indexKnown, StartRight, Held, EmptyArrays, ThensRead, ResultsRead, PutBy}
 use Rattle.case.proofs.CaseLaws.{is-literal, result-else, result-failed}
 use Rattle.case.proofs.CellLaws.{filled-as}
 use Rattle.case.proofs.RowsLaws.{FilledSoFar, next}
@@ -55,6 +56,10 @@ stored-at : (kinds payloads : List ℕ) (k : ℕ) {kind payload : ℕ} (v : Valu
     → valueAt (set kinds k kind) (set payloads k payload) k ≡ v
 stored-at kinds payloads k {kind} {payload} v a b small p q stores =
     ap₂ valueOf (getD-set-same kinds k kind 0 (omega arith) ∙ p) (getD-set-same payloads k payload 0 (omega arith) ∙ q) ∙ payload-back v stores
+
+-- whether a result is there, said of the same in other words
+held-as : {a b : Bool} {x y : ℕ} → b ≡ a → x ≡ y → Held a x → Held b y
+held-as p q = ⊎-elim (λ k. inl (p ∙ k)) (λ d. inr (λ z. d (q ∙ z)))
 
 -- ---- the THENs
 
@@ -100,7 +105,7 @@ module _ {rule : List ℕ} {at count : ℕ} {kinds payloads : List ℕ} {place k
       -- one more, where what the arrays have at its index is right
       then-by : {kinds′ payloads′ : List ℕ} → length kinds′ ≡ 258 → length payloads′ ≡ 258 → ((j : ℕ) → (j ≡ k → ⊥) → getD kinds′ j 0 ≡ getD kinds j 0)
           → ((j : ℕ) → (j ≡ k → ⊥) → getD payloads′ j 0 ≡ getD payloads j 0)
-          → ((e : Expr) (depth : ℕ) (row : Row) (table : List ℕ) → NodeAt rule then next e depth → isLiteral e ≡ true → meaning rule table (valueAt kinds′ payloads′ k) ≡ eval e row)
+          → ((e : Expr) (depth : ℕ) (row : Row) (table : List ℕ) → NodeAt rule then next e depth → Held (isLiteral e) (getD kinds′ k 0) → meaning rule table (valueAt kinds′ payloads′ k) ≡ eval e row)
           → ThensSoFar rule at count kinds′ payloads′ next (k + 1)
       then-by {kinds′} {payloads′} a b same same′ right = record {
         first = omega arith;
@@ -117,13 +122,13 @@ module _ {rule : List ℕ} {at count : ℕ} {kinds payloads : List ℕ} {place k
       }
         where
           held-at : (bs : Branches) (els : Optional) (rest : List Expr) (end depth : ℕ) (row : Row) (o : Outcome) (table : List ℕ) → TreesAt rule at end (branchTrees bs ++ rest) depth
-              → branchCount bs ≡ count → (j : ℕ) → j < k + 1 - 1 → resultKnown bs els j ≡ true → Dec (j ≡ k - 1)
+              → branchCount bs ≡ count → (j : ℕ) → j < k + 1 - 1 → Held (resultKnown bs els j) (getD kinds′ (suc j) 0) → Dec (j ≡ k - 1)
               → meaning rule table (valueAt kinds′ payloads′ (suc j)) ≡ resultAt bs row o j
           held-at bs els rest end depth row o table trees n j h known (yes e) =
               let q = s .first in
               let index-is : suc j ≡ k = omega arith in
               let x = branch-at (k - 1) bs (omega arith) in
-              let literal-is = sym (known-then (k - 1) bs els (x .here)) ∙ ap (resultKnown bs els) (sym e) ∙ known in
+              let literal-is = held-as (sym (known-then (k - 1) bs els (x .here)) ∙ ap (resultKnown bs els) (sym e)) (ap (λ (i : ℕ). getD kinds′ i 0) index-is) known in
               ap (λ (i : ℕ). meaning rule table (valueAt kinds′ payloads′ i)) index-is
               ∙ right (x .then-is) depth row table (then-here bs rest end depth x trees) literal-is
               ∙ sym (x .result row o) ∙ ap (resultAt bs row o) (sym e)
@@ -131,7 +136,7 @@ module _ {rule : List ℕ} {at count : ℕ} {kinds payloads : List ℕ} {place k
               let q = s .first in
               let other : suc j ≡ k → ⊥ = λ d. e (omega arith) in
               ap₂ (λ (x y : ℕ). meaning rule table (valueOf x y)) (same (suc j) other) (same′ (suc j) other)
-              ∙ s .read .held bs els rest end depth row o table trees n j (omega arith) known
+              ∙ s .read .held bs els rest end depth row o table trees n j (omega arith) (held-as refl (same (suc j) other) known)
 
       -- a literal
       pub then-literal : {kind payload : ℕ} (v : Value) {ks ps : List ℕ} → byte rule then ≡ 17 → LiteralGives rule then next v → kind ≡ kindOf v → payload ≡ payloadOf v
@@ -148,7 +153,7 @@ module _ {rule : List ℕ} {at count : ℕ} {kinds payloads : List ℕ} {place k
       pub then-other : {ks ps : List ℕ} → (byte rule then ≡ 17 → ⊥) → ks ≡ kinds → ps ≡ payloads → ThensSoFar rule at count ks ps next (k + 1)
       then-other other c d =
           subst₂ (λ (x y : List ℕ). ThensSoFar rule at count x y next (k + 1)) (sym c) (sym d)
-          (then-by (s .read .kinds-long) (s .read .payloads-long) (λ j n. refl) (λ j n. refl) (λ e depth row table node is. absurd (no-literal other e node is)))
+          (then-by (s .read .kinds-long) (s .read .payloads-long) (λ j n. refl) (λ j n. refl) (λ e depth row table node is. absurd (⊎-elim (no-literal other e node) (λ d. d (s .read .unread k (omega (arith, s .first)))) is)))
 
 -- ---- ELSE
 
@@ -170,7 +175,7 @@ module _ {rule : List ℕ} {at end count : ℕ} (to : DataType) {kinds payloads 
   -- the THENs, where what the arrays have behind them is right
   else-by : {kinds′ payloads′ : List ℕ} → length kinds′ ≡ 258 → length payloads′ ≡ 258 → ((j : ℕ) → j ≤ count → getD kinds′ j 0 ≡ getD kinds j 0)
       → ((j : ℕ) → j ≤ count → getD payloads′ j 0 ≡ getD payloads j 0) → getD kinds′ (count + 2) 0 ≡ 7
-      → ((els : Optional) (depth : ℕ) (row : Row) (table : List ℕ) → TreesAt rule place end (optionalTrees els) depth → elseKnown els ≡ true
+      → ((els : Optional) (depth : ℕ) (row : Row) (table : List ℕ) → TreesAt rule place end (optionalTrees els) depth → Held (elseKnown els) (getD kinds′ (count + 1) 0)
       → meaning rule table (valueAt kinds′ payloads′ (count + 1)) ≡ evalElse els row to)
       → ResultsRead rule at end count to kinds′ payloads′
   else-by {kinds′} {payloads′} a b same same′ last right = record {
@@ -182,16 +187,16 @@ module _ {rule : List ℕ} {at end count : ℕ} (to : DataType) {kinds payloads 
   }
     where
       held-at : (bs : Branches) (els : Optional) (depth : ℕ) (row : Row) (table : List ℕ) → TreesAt rule at end (branchTrees bs ++ optionalTrees els) depth → branchCount bs ≡ count
-          → (j : ℕ) → j ≤ count → resultKnown bs els j ≡ true → Dec (j < count) → meaning rule table (valueAt kinds′ payloads′ (suc j)) ≡ resultAt bs row (evalElse els row to) j
+          → (j : ℕ) → j ≤ count → Held (resultKnown bs els j) (getD kinds′ (suc j) 0) → Dec (j < count) → meaning rule table (valueAt kinds′ payloads′ (suc j)) ≡ resultAt bs row (evalElse els row to) j
       held-at bs els depth row table trees n j h known (yes l) =
           ap₂ (λ (x y : ℕ). meaning rule table (valueOf x y)) (same (suc j) (omega arith)) (same′ (suc j) (omega arith))
-          ∙ s .held bs els (optionalTrees els) end depth row (evalElse els row to) table trees n j l known
+          ∙ s .held bs els (optionalTrees els) end depth row (evalElse els row to) table trees n j l (held-as refl (same (suc j) (omega arith)) known)
       held-at bs els depth row table trees n j h known (no l) =
           let is : j ≡ branchCount bs = omega arith in
           let index-is : suc j ≡ count + 1 = omega arith in
           let else-trees = s .behind .stand end (branchTrees bs) (optionalTrees els) depth (let q = branches-length bs in omega arith) trees in
           ap (λ (i : ℕ). meaning rule table (valueAt kinds′ payloads′ i)) index-is
-          ∙ right els depth row table else-trees (sym (known-else bs els) ∙ ap (resultKnown bs els) (sym is) ∙ known)
+          ∙ right els depth row table else-trees (held-as (sym (known-else bs els) ∙ ap (resultKnown bs els) (sym is)) (ap (λ (i : ℕ). getD kinds′ i 0) index-is) known)
           ∙ sym (result-else bs row (evalElse els row to)) ∙ ap (resultAt bs row (evalElse els row to)) (sym is)
 
   -- no ELSE
@@ -228,10 +233,13 @@ module _ {rule : List ℕ} {at end count : ℕ} (to : DataType) {kinds payloads 
     pub else-other : (byte rule place ≡ 17 → ⊥) → ResultsRead rule at end count to (set kinds (count + 2) 7) payloads
     else-other other = else-by (failed-long small s) (s .payloads-long) (λ j h. failed-other small s j (omega arith)) (λ j h. refl) (failed-at small s) (λ els depth row table trees known. go els row table trees known)
       where
-        go : (els : Optional) {depth : ℕ} (row : Row) (table : List ℕ) → TreesAt rule place end (optionalTrees els) depth → elseKnown els ≡ true
+        unread : getD (set kinds (count + 2) 7) (count + 1) 0 ≡ 0
+        unread = failed-other small s (count + 1) (omega arith) ∙ s .unread (count + 1) (omega arith)
+
+        go : (els : Optional) {depth : ℕ} (row : Row) (table : List ℕ) → TreesAt rule place end (optionalTrees els) depth → Held (elseKnown els) (getD (set kinds (count + 2) 7) (count + 1) 0)
             → meaning rule table (valueAt (set kinds (count + 2) 7) payloads (count + 1)) ≡ evalElse els row to
         go absent row table trees known = absurd (there (trees-none trees))
-        go (present e) row table trees known = absurd (no-literal other e (trees-one trees) known)
+        go (present e) row table trees known = absurd (⊎-elim (no-literal other e (trees-one trees)) (λ d. d unread) known)
 
 -- ---- rows
 
@@ -268,4 +276,4 @@ start-right {rule} {at} {end} {count} {to} {kinds} {payloads} {values} s d = fil
             ap (λ (i : ℕ). meaning rule table (valueOf (getD kinds i 0) (getD payloads (suc j) 0))) index-is
             ∙ ap (λ (x : ℕ). meaning rule table (valueOf x (getD payloads (suc j) 0))) (s .failed)
             ∙ sym (result-failed bs row (evalElse els row to)) ∙ ap (resultAt bs row (evalElse els row to)) (sym is)
-        by (no l) = s .held bs els depth row table trees n j (omega arith) known
+        by (no l) = s .held bs els depth row table trees n j (omega arith) (inl known)

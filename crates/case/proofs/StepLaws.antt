@@ -227,6 +227,19 @@ module _ {rule : List ℕ} {at count column kind place i : ℕ} {tags keys : Lis
 index-small : (tags keys : List ℕ) (count x : ℕ) → stepIndex tags keys count x ≤ count + 1
 index-small tags keys count x = found-below (λ k. stepPasses (getD tags k 0) (getD keys k 0) x) (λ k. k + 1) (count + 1) count 0 (λ i h. omega arith)
 
+-- and is none of no branch
+index-some : (tags keys : List ℕ) (count x : ℕ) → 0 < stepIndex tags keys count x
+unfolding found
+index-some tags keys count x = go (λ k. stepPasses (getD tags k 0) (getD keys k 0) x) count 0
+  where
+    go : (same : ℕ → Bool) (n k : ℕ) → 0 < found same (λ i. i + 1) k n (count + 1)
+    go same zero k = omega arith
+    go same (suc n) k = by (same k) (go same n (suc k))
+      where
+        by : (t : Bool) → 0 < found same (λ i. i + 1) (suc k) n (count + 1) → 0 < cond t (k + 1) (found same (λ i. i + 1) (suc k) n (count + 1))
+        by true later = omega arith
+        by false later = later
+
 -- the index of a null, and of a value
 module _ {kind : DataType} {values : List ℕ} {row : ℕ} where
   module _ {validity tags keys : List ℕ} {count : ℕ} {b : Bool} (valid : b ≡ validIn validity row) where
@@ -371,6 +384,10 @@ module _ {rule : List ℕ} {at count column kind : ℕ} {tags keys : List ℕ} (
   index-few e c (inl (null-is, c-is)) = omega arith
   index-few e c (inr (x, n, c-is)) = omega (arith, index-small tags keys count x)
 
+  index-one : (e : Entry) (c : ℕ) → EntryIndex tags keys count kind e c → 0 < c
+  index-one e c (inl (null-is, c-is)) = omega arith
+  index-one e c (inr (x, n, c-is)) = omega (arith, index-some tags keys count x)
+
 -- ---- a column
 
 module _ {rule : List ℕ} {at : ℕ} {table : List ℕ} {column : ℕ} {place : ColumnPlace} {count : ℕ} {w : List ℕ} {n : ℕ} where
@@ -389,6 +406,7 @@ module _ {rule : List ℕ} {at : ℕ} {table : List ℕ} {column : ℕ} {place :
         right .is (omega arith) (columnIn table place .offsets) in
         let read-steps = subst (λ (y : ℕ). StepsAt rule at count column y tags keys) code-is (steps .steps all) in
         record {
+          some = index-one read-steps (entryAt (columnIn table place) q) (getD indices q 0) index;
           few = index-few read-steps (entryAt (columnIn table place) q) (getD indices q 0) index;
           is = λ bs rest end depth row els trees counted p. branch-found read-steps bs rest end depth row els trees counted (entryAt (columnIn table place) q) (getD indices q 0) p index;
         };
@@ -406,7 +424,7 @@ module _ {rule : List ℕ} {at : ℕ} {table : List ℕ} {t : Table} {count : �
     long = g .long;
     each = λ h q l.
         let x = g .each h q l in
-        record { few = x .few; is = λ bs rest end depth els trees counted. x .is bs rest end depth (rowIn table t q) els trees counted (cell-found f table t long c there q) };
+        record { some = x .some; few = x .few; is = λ bs rest end depth els trees counted. x .is bs rest end depth (rowIn table t q) els trees counted (cell-found f table t long c there q) };
   }
 
 -- ---- one WHEN

@@ -2,6 +2,7 @@
 use mathlib.Core.Path.{_≡_}
 use mathlib.Core.Bool.{Bool, true}
 use mathlib.Core.List.{List, _++_}
+use mathlib.Core.Logic.{_⊎_}
 use Prim.Native.Nat.{ℕ, zero, suc, _+_, _*_, _<_, _≤_}
 use lib.ListN.{length, getD}
 use Rattle.scalar.specs.declared.types.DataType.{DataType}
@@ -41,6 +42,10 @@ pub record StartRight (rule : List ℕ) (at end count : ℕ) (to : DataType) (va
 
 -- ---- the arrays: null at 0, the literals at their indices, and null where there is none
 
+-- a result is there by its index: it is known without the row, or the arrays have a kind for it
+abbrev pub Held : Bool → ℕ → Type 0
+Held known kind = (known ≡ true) ⊎ (kind ≡ 0 → ⊥)
+
 -- what the reading asks: room, and nothing in it
 pub record EmptyArrays (count : ℕ) (kinds payloads : List ℕ) : Type 0 where
   pub kinds-long : length kinds ≡ 258
@@ -56,7 +61,7 @@ pub record ThensRead (rule : List ℕ) (at count i : ℕ) (kinds payloads : List
   pub unread : (j : ℕ) → i < j → getD kinds j 0 ≡ 0
   pub behind : BehindGives rule at (2 * i) place
   pub held : (bs : Branches) (els : Optional) (rest : List Expr) (end depth : ℕ) (row : Row) (o : Outcome) (table : List ℕ) → TreesAt rule at end (branchTrees bs ++ rest) depth → branchCount bs ≡ count
-      → (j : ℕ) → j < i → resultKnown bs els j ≡ true → meaning rule table (valueAt kinds payloads (suc j)) ≡ resultAt bs row o j
+      → (j : ℕ) → j < i → Held (resultKnown bs els j) (getD kinds (suc j) 0) → meaning rule table (valueAt kinds payloads (suc j)) ≡ resultAt bs row o j
 
 -- those of all and of ELSE behind them, and a failure
 pub record ResultsRead (rule : List ℕ) (at end count : ℕ) (to : DataType) (kinds payloads : List ℕ) : Type 0 where
@@ -65,7 +70,7 @@ pub record ResultsRead (rule : List ℕ) (at end count : ℕ) (to : DataType) (k
   pub null-first : getD kinds 0 0 ≡ 0
   pub failed : getD kinds (count + 2) 0 ≡ 7
   pub held : (bs : Branches) (els : Optional) (depth : ℕ) (row : Row) (table : List ℕ) → TreesAt rule at end (branchTrees bs ++ optionalTrees els) depth → branchCount bs ≡ count
-      → (j : ℕ) → j ≤ count → resultKnown bs els j ≡ true → meaning rule table (valueAt kinds payloads (suc j)) ≡ resultAt bs row (evalElse els row to) j
+      → (j : ℕ) → j ≤ count → Held (resultKnown bs els j) (getD kinds (suc j) 0) → meaning rule table (valueAt kinds payloads (suc j)) ≡ resultAt bs row (evalElse els row to) j
 
 -- the value of a row has the kind and the payload at the row's index
 abbrev pub PutBy : List ℕ → List ℕ → List ℕ → ℕ → Value → Type 0

@@ -30,6 +30,7 @@ use Rattle.case.specs.Evaluation.{rowIn, indexed}
 
 -- the index that whatever branches stand at a place give a row: from 1, ELSE's behind them
 pub record StepIndex (rule : List ℕ) (at : ℕ) (table : List ℕ) (t : Table) (count : ℕ) (q : ℕ) (c : ℕ) : Type 0 where
+  pub some : 0 < c
   pub few : c ≤ count + 1
   pub is : (bs : Branches) (rest : List Expr) (end depth : ℕ) (els : Outcome) → TreesAt rule at end (branchTrees bs ++ rest) depth → branchCount bs ≡ count
       → evalBranches bs (rowIn table t q) isTrueTest els ≡ indexed bs (rowIn table t q) els c
@@ -161,6 +162,7 @@ pub record RowsIndexed (right : ℕ → ℕ → Type 0) (w : List ℕ) (at n : �
 
 -- the index that whatever branches stand at a place give a row that has in a column what the table has there
 pub record ColumnIndex (rule : List ℕ) (at : ℕ) (table : List ℕ) (column : ℕ) (place : ColumnPlace) (count q c : ℕ) : Type 0 where
+  pub some : 0 < c
   pub few : c ≤ count + 1
   pub is : (bs : Branches) (rest : List Expr) (end depth : ℕ) (row : Row) (els : Outcome) → TreesAt rule at end (branchTrees bs ++ rest) depth → branchCount bs ≡ count
       → row column ≡ entry (entryAt (columnIn table place) q) → evalBranches bs row isTrueTest els ≡ indexed bs row els c
