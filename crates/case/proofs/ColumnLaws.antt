@@ -1,4 +1,4 @@
--- The rows' slots as a column: what is written row by row is the answer's column. Assumes nothing.
+-- The rows as a column: what is written row by row is the answer's column. Assumes nothing.
 use mathlib.Core.Path.{_≡_, refl, sym, ap, ap₂, _∙_}
 use mathlib.Core.Bool.{Bool, true, false, cond, not, _||_, false≢true}
 use mathlib.Core.List.{List, [], _∷_, _++_, map, map-append, append-nil, append-assoc}
@@ -20,11 +20,10 @@ use Rattle.scalar.specs.Value.{meaning, kindOf}
 use Rattle.scalar.specs.Order.{textIn}
 use Rattle.scalar.specs.TryCast.{orNull}
 use Rattle.scalar.specs.Types.{typeNumber, markNumber}
-use Rattle.case.specs.Frame.{slotAt}
 use Rattle.case.specs.Run.{rowsFrom}
 use Rattle.case.specs.Answer as answer
 use Rattle.case.specs.Answer.{someNull, validityOf, numberIn, numbersOf, textsOf, offsetsFrom, offsetsOf, valuesOf, columnOf, offsetsField, columnBytes}
-use Rattle.case.specs.Writing.{rowBytes, anyRow, someOfKind, slotEntry, slotEntries, trueOf, numberOf, widthOf, flagAt, bitsFrom, slotBits, slotNumbers, slotText, slotOffset, slotValidity, slotValues, slotColumn}
+use Rattle.case.specs.Writing.{rowBytes, anyRow, someOfKind, rowEntry, rowEntries, trueOf, numberOf, widthOf, flagAt, bitsFrom, rowBits, rowNumbers, rowText, rowOffset, rowValidity, rowValues, rowColumn}
 use Rattle.case.proofs.RowKindLaws.{none-at}
 use Rattle.case.proofs.RowBitLaws.{flag-out, bits-lt}
 
@@ -133,35 +132,35 @@ null-of rule table Failed h = absurd (false≢true (sym h))
 
 -- ---- the rows' numbers, texts and offsets
 
-module _ (rule table w : List ℕ) where
+module _ (rule table : List ℕ) (v : ℕ → Value) where
   -- the numbers are those of the entries
-  numbers-rows : (wide : Bool) (n : ℕ) → rowBytes (slotNumbers wide w) n ≡ numbersOf (widthOf wide) (slotEntries rule table w n)
+  numbers-rows : (wide : Bool) (n : ℕ) → rowBytes (rowNumbers wide v) n ≡ numbersOf (widthOf wide) (rowEntries rule table v n)
   unfolding rowBytes numbersOf rowsFrom
   numbers-rows wide zero = refl
   numbers-rows wide (suc n) =
-      ap₂ _++_ (numbers-rows wide n) (ap (numberBytes (widthOf wide)) (sym (number-of rule table (slotAt w n))))
-      ∙ sym (numbers-snoc (widthOf wide) (slotEntries rule table w n) (slotEntry rule table w n))
-      ∙ ap (numbersOf (widthOf wide)) (sym (entries-snoc (slotEntry rule table w) n))
+      ap₂ _++_ (numbers-rows wide n) (ap (numberBytes (widthOf wide)) (sym (number-of rule table (v n))))
+      ∙ sym (numbers-snoc (widthOf wide) (rowEntries rule table v n) (rowEntry rule table v n))
+      ∙ ap (numbersOf (widthOf wide)) (sym (entries-snoc (rowEntry rule table v) n))
 
   -- so are the texts
-  pub texts-rows : (n : ℕ) → rowBytes (slotText rule table w) n ≡ textsOf (slotEntries rule table w n)
+  pub texts-rows : (n : ℕ) → rowBytes (rowText rule table v) n ≡ textsOf (rowEntries rule table v n)
   unfolding rowBytes textsOf rowsFrom
   texts-rows zero = refl
   texts-rows (suc n) =
-      ap₂ _++_ (texts-rows n) (sym (text-of rule table (slotAt w n)))
-      ∙ sym (texts-snoc (slotEntries rule table w n) (slotEntry rule table w n))
-      ∙ ap textsOf (sym (entries-snoc (slotEntry rule table w) n))
+      ap₂ _++_ (texts-rows n) (sym (text-of rule table (v n)))
+      ∙ sym (texts-snoc (rowEntries rule table v n) (rowEntry rule table v n))
+      ∙ ap textsOf (sym (entries-snoc (rowEntry rule table v) n))
 
   -- and the offsets
-  offsets-rows : (n : ℕ) → rowBytes (slotOffset rule table w) (suc n) ≡ offsetsFrom 0 (slotEntries rule table w n)
+  offsets-rows : (n : ℕ) → rowBytes (rowOffset rule table v) (suc n) ≡ offsetsFrom 0 (rowEntries rule table v n)
   unfolding rowBytes offsetsFrom rowsFrom
   offsets-rows zero = refl
   offsets-rows (suc n) =
-      let es = slotEntries rule table w n in
-      let e = slotEntry rule table w n in
-      let size : length (rowBytes (slotText rule table w) n ++ slotText rule table w n) ≡ 0 + length (textsOf es) + length (answer.textIn e) =
-      omega (arith, length-append (rowBytes (slotText rule table w) n) (slotText rule table w n), ap length (texts-rows n), ap length (text-of rule table (slotAt w n))) in
-      ap₂ _++_ (offsets-rows n) (ap (numberBytes 4) size) ∙ sym (offsets-snoc 0 es e) ∙ ap (offsetsFrom 0) (sym (entries-snoc (slotEntry rule table w) n))
+      let es = rowEntries rule table v n in
+      let e = rowEntry rule table v n in
+      let size : length (rowBytes (rowText rule table v) n ++ rowText rule table v n) ≡ 0 + length (textsOf es) + length (answer.textIn e) =
+      omega (arith, length-append (rowBytes (rowText rule table v) n) (rowText rule table v n), ap length (texts-rows n), ap length (text-of rule table (v n))) in
+      ap₂ _++_ (offsets-rows n) (ap (numberBytes 4) size) ∙ sym (offsets-snoc 0 es e) ∙ ap (offsetsFrom 0) (sym (entries-snoc (rowEntry rule table v) n))
 
 -- ---- the rows' bits
 
@@ -242,63 +241,63 @@ abbrev entryFlag : Bool → Entry → Bool
 entryFlag true e = isTrue e
 entryFlag false e = not (isNull e)
 
-module _ (rule table w : List ℕ) (rows : ℕ) (fine : someOfKind w 7 rows ≡ false) where
-  -- no row's slot failed
-  fine-at : (i : ℕ) → i < rows → eqb (kindOf (slotAt w i)) 7 ≡ false
-  fine-at i h = none-at (λ i. eqb (kindOf (slotAt w i)) 7) rows i fine h
+module _ (rule table : List ℕ) (v : ℕ → Value) (rows : ℕ) (fine : someOfKind v 7 rows ≡ false) where
+  -- no row failed
+  fine-at : (i : ℕ) → i < rows → eqb (kindOf (v i)) 7 ≡ false
+  fine-at i h = none-at (λ i. eqb (kindOf (v i)) 7) rows i fine h
 
-  -- an entry's bit is its slot's
-  flag-same : (truth : Bool) (i : ℕ) → i < rows → entryFlag truth (slotEntry rule table w i) ≡ flagAt truth w rows i
-  flag-same true i h = rw (lt-ltb i rows h) (true-of rule table (slotAt w i))
-  flag-same false i h = rw (lt-ltb i rows h) (ap not (null-of rule table (slotAt w i) (fine-at i h)))
+  -- an entry's bit is its row's
+  flag-same : (truth : Bool) (i : ℕ) → i < rows → entryFlag truth (rowEntry rule table v i) ≡ flagAt truth v rows i
+  flag-same true i h = rw (lt-ltb i rows h) (true-of rule table (v i))
+  flag-same false i h = rw (lt-ltb i rows h) (ap not (null-of rule table (v i) (fine-at i h)))
 
   -- the entries' bitmap
-  bits-rows : (truth : Bool) → bitmap (map (entryFlag truth) (slotEntries rule table w rows)) ≡ rowBytes (slotBits truth w rows) (bitmapLength rows)
+  bits-rows : (truth : Bool) → bitmap (map (entryFlag truth) (rowEntries rule table v rows)) ≡ rowBytes (rowBits truth v rows) (bitmapLength rows)
   bits-rows truth =
-      let es = slotEntries rule table w rows in
+      let es = rowEntries rule table v rows in
       let k = bitmapLength rows in
-      let size : length (map (entryFlag truth) es) ≡ rows = length-map es (entryFlag truth) ∙ length-map (rowsFrom 0 rows) (slotEntry rule table w) ∙ length-rowsFrom 0 rows in
+      let size : length (map (entryFlag truth) es) ≡ rows = length-map es (entryFlag truth) ∙ length-map (rowsFrom 0 rows) (rowEntry rule table v) ∙ length-rowsFrom 0 rows in
       let far : rows + (8 * k - rows) ≡ 8 * k = omega arith in
-      let spare : bitsFrom (flagAt truth w rows) 0 (8 * k) ≡ bitsFrom (flagAt truth w rows) 0 rows =
-      ap (bitsFrom (flagAt truth w rows) 0) (sym far)
-      ∙ bits-add (flagAt truth w rows) 0 rows (8 * k - rows)
-      ∙ ap (λ (x : ℕ). bitsFrom (flagAt truth w rows) 0 rows + 2 ^ rows * x) (bits-unset (flagAt truth w rows) (0 + rows) (8 * k - rows) (λ i b. flag-out truth w rows i (omega arith)))
+      let spare : bitsFrom (flagAt truth v rows) 0 (8 * k) ≡ bitsFrom (flagAt truth v rows) 0 rows =
+      ap (bitsFrom (flagAt truth v rows) 0) (sym far)
+      ∙ bits-add (flagAt truth v rows) 0 rows (8 * k - rows)
+      ∙ ap (λ (x : ℕ). bitsFrom (flagAt truth v rows) 0 rows + 2 ^ rows * x) (bits-unset (flagAt truth v rows) (0 + rows) (8 * k - rows) (λ i b. flag-out truth v rows i (omega arith)))
       ∙ (omega arith) in
-      ap₂ numberBytes (ap bitmapLength size) (bit-number (entryFlag truth) (slotEntry rule table w) 0 rows ∙ bits-same (λ i. entryFlag truth (slotEntry rule table w i)) (flagAt truth w rows) 0 rows (λ i a b. flag-same truth i (omega arith)) ∙ sym spare)
-      ∙ bytes-of-bits (flagAt truth w rows) k
+      ap₂ numberBytes (ap bitmapLength size) (bit-number (entryFlag truth) (rowEntry rule table v) 0 rows ∙ bits-same (λ i. entryFlag truth (rowEntry rule table v i)) (flagAt truth v rows) 0 rows (λ i a b. flag-same truth i (omega arith)) ∙ sym spare)
+      ∙ bytes-of-bits (flagAt truth v rows) k
 
 -- whether some entry is null
-null-rows : (rule table w : List ℕ) (n : ℕ) → ((i : ℕ) → i < n → eqb (kindOf (slotAt w i)) 7 ≡ false) → someOfKind w 0 n ≡ someNull (slotEntries rule table w n)
+null-rows : (rule table : List ℕ) (v : ℕ → Value) (n : ℕ) → ((i : ℕ) → i < n → eqb (kindOf (v i)) 7 ≡ false) → someOfKind v 0 n ≡ someNull (rowEntries rule table v n)
 unfolding anyRow someNull rowsFrom
-null-rows rule table w zero h = refl
-null-rows rule table w (suc n) h =
-    ap₂ (λ (a b : Bool). cond a true b) (sym (null-of rule table (slotAt w n) (h n (omega arith)))) (null-rows rule table w n (λ i b. h i (omega arith)))
-    ∙ sym (null-snoc (slotEntries rule table w n) (slotEntry rule table w n))
-    ∙ ap someNull (sym (entries-snoc (slotEntry rule table w) n))
+null-rows rule table v zero h = refl
+null-rows rule table v (suc n) h =
+    ap₂ (λ (a b : Bool). cond a true b) (sym (null-of rule table (v n) (h n (omega arith)))) (null-rows rule table v n (λ i b. h i (omega arith)))
+    ∙ sym (null-snoc (rowEntries rule table v n) (rowEntry rule table v n))
+    ∙ ap someNull (sym (entries-snoc (rowEntry rule table v) n))
 
 -- ---- the column
 
-module _ (rule table w : List ℕ) (rows : ℕ) (fine : someOfKind w 7 rows ≡ false) where
+module _ (rule table : List ℕ) (v : ℕ → Value) (rows : ℕ) (fine : someOfKind v 7 rows ≡ false) where
   -- tag 3's content
-  validity-rows : slotValidity (someOfKind w 0 rows) w rows ≡ validityOf (slotEntries rule table w rows)
+  validity-rows : rowValidity (someOfKind v 0 rows) v rows ≡ validityOf (rowEntries rule table v rows)
   validity-rows =
-      ap (λ (b : Bool). slotValidity b w rows) (null-rows rule table w rows (fine-at rule table w rows fine)) ∙ either (someNull (slotEntries rule table w rows))
+      ap (λ (b : Bool). rowValidity b v rows) (null-rows rule table v rows (fine-at rule table v rows fine)) ∙ either (someNull (rowEntries rule table v rows))
     where
-      either : (b : Bool) → slotValidity b w rows ≡ cond b (bitmap (map (λ e. not (isNull e)) (slotEntries rule table w rows))) []
-      either true = sym (bits-rows rule table w rows fine false)
+      either : (b : Bool) → rowValidity b v rows ≡ cond b (bitmap (map (λ e. not (isNull e)) (rowEntries rule table v rows))) []
+      either true = sym (bits-rows rule table v rows fine false)
       either false = refl
 
   -- tags 5 and 4
-  values-rows : (t : DataType) → slotValues rule table w rows t ≡ offsetsField t (offsetsOf t (slotEntries rule table w rows)) ++ fieldBytes 4 (valuesOf t (slotEntries rule table w rows))
-  values-rows DataType.Boolean = ap (fieldBytes 4) (sym (bits-rows rule table w rows fine true))
-  values-rows DataType.Int32 = ap (fieldBytes 4) (numbers-rows rule table w false rows)
-  values-rows DataType.Int64 = ap (fieldBytes 4) (numbers-rows rule table w true rows)
-  values-rows DataType.Float64 = ap (fieldBytes 4) (numbers-rows rule table w true rows)
-  values-rows DataType.Utf8 = ap₂ (λ (a b : List ℕ). fieldBytes 5 a ++ fieldBytes 4 b) (offsets-rows rule table w rows) (texts-rows rule table w rows)
+  values-rows : (t : DataType) → rowValues rule table v rows t ≡ offsetsField t (offsetsOf t (rowEntries rule table v rows)) ++ fieldBytes 4 (valuesOf t (rowEntries rule table v rows))
+  values-rows DataType.Boolean = ap (fieldBytes 4) (sym (bits-rows rule table v rows fine true))
+  values-rows DataType.Int32 = ap (fieldBytes 4) (numbers-rows rule table v false rows)
+  values-rows DataType.Int64 = ap (fieldBytes 4) (numbers-rows rule table v true rows)
+  values-rows DataType.Float64 = ap (fieldBytes 4) (numbers-rows rule table v true rows)
+  values-rows DataType.Utf8 = ap₂ (λ (a b : List ℕ). fieldBytes 5 a ++ fieldBytes 4 b) (offsets-rows rule table v rows) (texts-rows rule table v rows)
 
   -- the answer's bytes
-  pub column-rows : (t : DataType) (nullable : Bool) → slotColumn rule table w rows t nullable (someOfKind w 0 rows) ≡ columnBytes (columnOf t nullable (slotEntries rule table w rows))
+  pub column-rows : (t : DataType) (nullable : Bool) → rowColumn rule table v rows t nullable (someOfKind v 0 rows) ≡ columnBytes (columnOf t nullable (rowEntries rule table v rows))
   unfolding columnBytes
   column-rows t nullable =
-      append-assoc (fieldBytes 2 (typeNumber t ∷ markNumber nullable ∷ [])) (fieldBytes 3 (slotValidity (someOfKind w 0 rows) w rows)) (slotValues rule table w rows t)
+      append-assoc (fieldBytes 2 (typeNumber t ∷ markNumber nullable ∷ [])) (fieldBytes 3 (rowValidity (someOfKind v 0 rows) v rows)) (rowValues rule table v rows t)
       ∙ ap₂ (λ (a b : List ℕ). fieldBytes 2 (typeNumber t ∷ markNumber nullable ∷ []) ++ (fieldBytes 3 a ++ b)) validity-rows (values-rows t)

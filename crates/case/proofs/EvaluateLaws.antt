@@ -1,8 +1,8 @@
 -- A whole evaluation beside its definition. Assumes nothing.
-use mathlib.Core.Path.{_≡_, refl, sym, ap, ap₂, subst, _∙_}
+use mathlib.Core.Path.{_≡_, refl, sym, ap, ap₂, _∙_}
 use mathlib.Core.Bool.{Bool, true, false, cond, not}
-use mathlib.Core.List.{List, [], _∷_, _++_, map}
-use Prim.Native.Nat.{ℕ, zero, suc, _+_, _*_, _^_, _<_, _≤_}
+use mathlib.Core.List.{List, _∷_, map}
+use Prim.Native.Nat.{ℕ, zero, suc, _+_, _<_, _≤_}
 use native.Mathlib.Omega.{arith}
 use lib.Dec.{leb}
 use lib.ListN.{length, replicate}
@@ -10,12 +10,10 @@ use borrow.Author.Tests.{le-leb, lt-leb}
 use Rattle.layout.specs.Bytes.{Bytes}
 use Rattle.layout.specs.Result.{Result, refused, ok, _>>=_, require}
 use Rattle.scalar.specs.declared.types.DataType.{DataType}
+use Rattle.scalar.specs.declared.value.Value.{Value}
 use Rattle.scalar.specs.Entry.{Entry, Outcome, outcomeOfType}
 use Rattle.scalar.specs.Value.{meaning}
 use Rattle.rule.specs.declared.node.NodeRead.{NodeRead}
-use Rattle.rule.specs.Tree.{Expr}
-use Rattle.rule.specs.Typing.{typeOf}
-use Rattle.rule.specs.Row.{eval}
 use Rattle.rule.specs.Reading.{readRule}
 use Rattle.rule.specs.Steps.{RuleRead, Gives}
 use Rattle.rule.specs.Nullable.{nullable}
@@ -26,21 +24,20 @@ use Rattle.rule.proofs.StepLaws.{was-refused, was-read}
 use Rattle.rule.proofs.RefusalLaws.{rule-refusals}
 use Rattle.table.specs.declared.places.Table.{Table as Places}
 use Rattle.table.specs.declared.places.TableAnswer.{TableAnswer}
-use Rattle.table.specs.Reading.{Table, readTable}
 use Rattle.table.specs.Places.{tableIn, readingIn, TableRead}
 use Rattle.table.proofs.TableInversions.{table-inv, table-few}
 use Rattle.table.proofs.RefusalLaws.{table-refusals}
 use Rattle.case.specs.declared.answer.RunAnswer.{RunAnswer}
-use Rattle.case.specs.declared.answer.RunAnswer.the-variants.{Answered, Refused}
-use Rattle.case.specs.Fits.{fits, rowOf}
+use Rattle.case.specs.declared.answer.RunAnswer.the-variants.{Refused}
+use Rattle.case.specs.Fits.{fits}
 use Rattle.case.specs.Fitting.{FitsGives}
 use Rattle.case.specs.Answer.{columnOf, columnBytes, textLength}
-use Rattle.case.specs.Run.{rowsFrom, outcomes, entriesOf, workLeast, textMost, written, writtenAs, runRead, run, zeros, workAfter, outputAfter}
+use Rattle.case.specs.Run.{rowsFrom, outcomes, entriesOf, textMost, written, writtenAs, runRead, run, zeros, workAfter, outputAfter}
 use Rattle.case.specs.Promise.{runAnswer, callRun, Evaluated}
-use Rattle.case.specs.Frame.{slotAt, AllRows}
-use Rattle.case.specs.Write.{slotOutcomes, slotRun, WriteAsks, WriteGives}
-use Rattle.case.specs.Evaluation.{Framed, Done, rowIn, ExprRight}
-use Rattle.case.specs.Readings.{ReadAsks, RowsGives}
+use Rattle.case.specs.Frame.{AllRows}
+use Rattle.case.specs.Write.{rowOutcomes, rowsRun, RowsOfType, WriteAsks, WriteGives}
+use Rattle.case.specs.Evaluation.{Framed, Done, ExprRight}
+use Rattle.case.specs.Readings.{ReadAsks, RowsRight, RowsGives}
 use Rattle.case.proofs.RunLaws.{run-is, run-rows, entries-refused}
 use Rattle.case.proofs.RowsTyped.{run-sound}
 use Rattle.case.proofs.RowsLaws.{all-rise, all-listed}
@@ -94,7 +91,7 @@ pub rows-framed : {table : List ℕ} {t : Places} {w w′ : List ℕ} → (t .ro
 rows-framed (few, room, short) all = record { list-ok = all-rise all few; small = few; room = (let l = all .long in omega arith); short = omega arith }
 
 pub rows-given : {rule table : List ℕ} {t : Places} {w w₁ w₂ : List ℕ} → AllRows (t .rows) w w₁ → Done (ExprRight rule 0 (length rule) table t 8) w₁ (t .rows) w₂ → RowsGives rule table t w w₂
-rows-given all d = record { long = d .long ∙ all .long; here = λ e node i h. d .here i (all-listed all i h) .is e node }
+rows-given all d = record { long = d .long ∙ all .long; here = record { right = λ e node i h. d .here i (all-listed all i h) .is e node } }
 
 -- ---- a rule and a table that were read
 
@@ -122,13 +119,13 @@ written-late t n es output k r = go (leb (textLength es) textMost) (leb (length 
     go true false l q = let z : _≡_ {A = ℕ} 17 k = cc in omega arith
     go true true l q = absurd (let z : _≡_ {A = ℕ} 0 1 = cc in omega arith)
 
-slot-run-late : (rule table w : List ℕ) (rows : ℕ) (t : DataType) (n : Bool) (output k : ℕ) → slotRun rule table w rows t n output ≡ refused k → 15 ≤ k
-slot-run-late rule table w rows t n output k r = go (entriesOf (slotOutcomes rule table w rows)) refl r
+rows-run-late : (rule table : List ℕ) (v : ℕ → Value) (rows : ℕ) (t : DataType) (n : Bool) (output k : ℕ) → rowsRun rule table v rows t n output ≡ refused k → 15 ≤ k
+rows-run-late rule table v rows t n output k r = go (entriesOf (rowOutcomes rule table v rows)) refl r
   where
-    go : (m : Result (List Entry)) → entriesOf (slotOutcomes rule table w rows) ≡ m → (m >>= λ es. writtenAs t n es output) ≡ refused k → 15 ≤ k
+    go : (m : Result (List Entry)) → entriesOf (rowOutcomes rule table v rows) ≡ m → (m >>= λ es. writtenAs t n es output) ≡ refused k → 15 ≤ k
     go (refused j) p q =
         let z : j ≡ k = cc in
-        let f = entries-refused (λ i. meaning rule table (slotAt w i)) 0 rows j p .0 in
+        let f = entries-refused (λ i. meaning rule table (v i)) 0 rows j p .0 in
         omega arith
     go (ok es) p q = written-late t n es output k q
 
@@ -161,37 +158,46 @@ module _ {rule table : List ℕ} {a : NodeRead} {t : Places} (bytes : Bytes rule
       unfolding runRead
       too-short {work} {output} less = refused-early (call-is work output ∙ simp (fitting, lt-leb 65536 (length work) less)) (omega arith)
 
-      module _ {w w₁ : List ℕ} (room : 65536 ≤ length w) (rows : RowsGives rule table t w w₁) where
+      module _ {v : ℕ → Value} (rows : RowsRight rule table t v) where
         node : NodeAt rule 0 (length rule) (asks .tree) 8
         node = accepted-node rule (asks .tree) bytes (asks .rule-reads)
 
-        slots-are : slotOutcomes rule table w₁ (t .rows) ≡ outcomes (asks .tree) (tableIn table t)
-        slots-are = map-same _ _ 0 (t .rows) (λ i l h. rows .here (asks .tree) node i (omega arith))
+        rows-are : rowOutcomes rule table v (t .rows) ≡ outcomes (asks .tree) (tableIn table t)
+        rows-are = map-same _ _ 0 (t .rows) (λ i l h. rows .right (asks .tree) node i (omega arith))
 
-        pub write-asks : WriteAsks rule table w₁ (t .rows) (a .result)
-        write-asks = record {
-          few = table-few table (tableIn table t) (asks .table-reads);
-          room = (let l = rows .long in omega arith);
-          rule-short = node .few;
-          table-short = table-inv table (tableIn table t) (asks .table-reads) .few-bytes;
+        -- each row's outcome is of the rule's type
+        pub rows-typed : RowsOfType rule table v (t .rows) (a .result)
+        rows-typed = record {
           typed = λ i h.
-              ap₂ outcomeOfType (asks .rule-is .type-is) (rows .here (asks .tree) node i h)
+              ap₂ outcomeOfType (asks .rule-is .type-is) (rows .right (asks .tree) node i h)
               ∙ run-sound rule table (asks .tree) (tableIn table t) i bytes table-bytes (asks .rule-reads) (asks .table-reads) fitting;
         }
 
-        module _ {null : Bool} (null-is : RuleNullableGives rule null) {output output′ : List ℕ} {r : RunAnswer} (wrote : WriteGives rule table w₁ (t .rows) (a .result) null output r output′) where
-          run-slots : callRun rule table w output ≡ slotRun rule table w₁ (t .rows) (a .result) null (length output)
-          run-slots =
+        module _ {null : Bool} (null-is : RuleNullableGives rule null) {output output′ : List ℕ} {r : RunAnswer}
+            (wrote : WriteGives rule table v (t .rows) (a .result) null output r output′) where
+          run-rows-are : (w : List ℕ) → 65536 ≤ length w → callRun rule table w output ≡ rowsRun rule table v (t .rows) (a .result) null (length output)
+          run-rows-are w room =
               call-is w output ∙ run-rows (asks .tree) (tableIn table t) (length w) (length output) fitting room
-              ∙ ap₂ (λ (os : List Outcome) (d : DataType). entriesOf os >>= λ es. writtenAs d (nullable (asks .tree)) es (length output)) (sym slots-are) (sym (asks .rule-is .type-is))
-              ∙ ap (λ (b : Bool). slotRun rule table w₁ (t .rows) (a .result) b (length output)) (sym (null-is .is (asks .tree) node))
+              ∙ ap₂ (λ (os : List Outcome) (d : DataType). entriesOf os >>= λ es. writtenAs d (nullable (asks .tree)) es (length output)) (sym rows-are) (sym (asks .rule-is .type-is))
+              ∙ ap (λ (b : Bool). rowsRun rule table v (t .rows) (a .result) b (length output)) (sym (null-is .is (asks .tree) node))
 
-          pub evaluated : {w₂ : List ℕ} → w₂ ≡ zeros w₁ → Evaluated rule table w output r w₂ output′
-          evaluated {w₂} cleared = record {
-            says = wrote .says ∙ ap runAnswer (sym run-slots);
+          -- the rows were written, and the work buffer was cleared
+          pub evaluated : {w w′ : List ℕ} {k : ℕ} → 65536 ≤ length w → k ≡ length w → w′ ≡ replicate k 0 → Evaluated rule table w output r w′ output′
+          evaluated {w} room long cleared = record {
+            says = wrote .says ∙ ap runAnswer (sym (run-rows-are w room));
             work-is =
-                cleared ∙ ap (λ (k : ℕ). replicate k 0) (rows .long)
-                ∙ sym (ap (λ (x : Result (List ℕ)). workAfter x w) run-slots
-                ∙ late-work (slotRun rule table w₁ (t .rows) (a .result) null (length output)) w (slot-run-late rule table w₁ (t .rows) (a .result) null (length output)));
-            output-is = wrote .output-is ∙ ap (λ (x : Result (List ℕ)). outputAfter x output) (sym run-slots);
+                cleared ∙ ap (λ (k : ℕ). replicate k 0) long
+                ∙ sym (ap (λ (x : Result (List ℕ)). workAfter x w) (run-rows-are w room)
+                ∙ late-work (rowsRun rule table v (t .rows) (a .result) null (length output)) w (rows-run-late rule table v (t .rows) (a .result) null (length output)));
+            output-is = wrote .output-is ∙ ap (λ (x : Result (List ℕ)). outputAfter x output) (sym (run-rows-are w room));
           }
+
+      -- what writing asks of the slots
+      pub write-asks : {w w₁ : List ℕ} → 65536 ≤ length w → RowsGives rule table t w w₁ → WriteAsks rule table w₁ (t .rows) (a .result)
+      write-asks room rows = record {
+        few = table-few table (tableIn table t) (asks .table-reads);
+        room = (let l = rows .long in omega arith);
+        rule-short = accepted-node rule (asks .tree) bytes (asks .rule-reads) .few;
+        table-short = table-inv table (tableIn table t) (asks .table-reads) .few-bytes;
+        each = rows-typed (rows .here);
+      }

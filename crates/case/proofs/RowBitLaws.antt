@@ -1,23 +1,21 @@
--- The bits of the rows' slots, eight to a byte. Assumes nothing.
+-- The rows' bits, eight to a byte. Assumes nothing.
 use mathlib.Core.Path.{_≡_, refl, sym, ap, ap₂, _∙_}
 use mathlib.Core.Bool.{Bool, true, false, cond}
-use mathlib.Core.List.{List}
 use Prim.Native.Nat.{ℕ, zero, suc, _+_, _-_, _*_, _^_, _<_, _≤_}
 use native.Mathlib.Nat.{pow-suc}
 use native.Mathlib.Omega.{arith}
 use lib.Pow.{pow-mono}
 use borrow.Author.Tests.{lt-ltb, le-ltb}
 use Rattle.scalar.specs.declared.value.Value.{Value}
-use Rattle.case.specs.Frame.{slotAt}
 use Rattle.case.specs.Writing.{flagOf, flagAt, bitsFrom}
 
 -- the bit of a row
-pub flag-in : (truth : Bool) (w : List ℕ) (rows row : ℕ) {v : Value} {f b : Bool} → row < rows → v ≡ slotAt w row → f ≡ flagOf truth v → f ≡ b → flagAt truth w rows row ≡ b
-flag-in truth w rows row h e p q = rw (lt-ltb row rows h) (sym (p ∙ ap (flagOf truth) e) ∙ q)
+pub flag-in : (truth : Bool) (v : ℕ → Value) (rows row : ℕ) {x : Value} {f b : Bool} → row < rows → x ≡ v row → f ≡ flagOf truth x → f ≡ b → flagAt truth v rows row ≡ b
+flag-in truth v rows row h e p q = rw (lt-ltb row rows h) (sym (p ∙ ap (flagOf truth) e) ∙ q)
 
 -- behind the last row
-pub flag-out : (truth : Bool) (w : List ℕ) (rows row : ℕ) → rows ≤ row → flagAt truth w rows row ≡ false
-flag-out truth w rows row h = rw (le-ltb row rows h)
+pub flag-out : (truth : Bool) (v : ℕ → Value) (rows row : ℕ) → rows ≤ row → flagAt truth v rows row ≡ false
+flag-out truth v rows row h = rw (le-ltb row rows h)
 
 -- a bit is 0 or 1
 pub bit-one : {b : Bool} → b ≡ true → _≡_ {A = ℕ} 1 (cond b 1 0)

@@ -1,7 +1,6 @@
--- Whether some row's slot has a value of a kind. Assumes nothing.
+-- Whether some row has a value of a kind. Assumes nothing.
 use mathlib.Core.Path.{_≡_, refl, sym, ap, _∙_}
 use mathlib.Core.Bool.{Bool, true, false, cond, false≢true}
-use mathlib.Core.List.{List}
 use Prim.Native.Nat.{ℕ, zero, suc, _+_, _-_, _<_, _≤_}
 use native.Mathlib.Numerals.{add-one}
 use native.Mathlib.Decide.{decLt}
@@ -10,7 +9,6 @@ use lib.Dec.{eqb}
 use borrow.Author.Tests.{eq-eqb, ne-eqb}
 use Rattle.scalar.specs.declared.value.Value.{Value}
 use Rattle.scalar.specs.Value.{kindOf}
-use Rattle.case.specs.Frame.{slotAt}
 use Rattle.case.specs.Writing.{anyRow, someOfKind}
 
 -- where the loop stands: none of i rows passes
@@ -38,16 +36,16 @@ any-found f (suc n) i h e = go (decLt i n) (λ p. any-found f n i p e)
         let k : i ≡ n = omega arith in
         rw (sym (ap f k) ∙ e)
 
-pub kind-found : (w : List ℕ) (k n i : ℕ) {kd : ℕ} {v : Value} → i < n → kd ≡ kindOf v → v ≡ slotAt w i → kd ≡ k → true ≡ someOfKind w k n
-kind-found w k n i h p q e =
-    sym (any-found (λ i. eqb (kindOf (slotAt w i)) k) n i h (eq-eqb (kindOf (slotAt w i)) k (sym (p ∙ ap kindOf q) ∙ e)))
+pub kind-found : (v : ℕ → Value) (k n i : ℕ) {kd : ℕ} {x : Value} → i < n → kd ≡ kindOf x → x ≡ v i → kd ≡ k → true ≡ someOfKind v k n
+kind-found v k n i h p q e =
+    sym (any-found (λ i. eqb (kindOf (v i)) k) n i h (eq-eqb (kindOf (v i)) k (sym (p ∙ ap kindOf q) ∙ e)))
 
-pub kind-more : (w : List ℕ) (k : ℕ) {n i kd : ℕ} {v : Value} → NoneSoFar (λ i. eqb (kindOf (slotAt w i)) k) n i → i < n → kd ≡ kindOf v → v ≡ slotAt w i → (kd ≡ k → ⊥)
-    → NoneSoFar (λ i. eqb (kindOf (slotAt w i)) k) n (i + 1)
+pub kind-more : (v : ℕ → Value) (k : ℕ) {n i kd : ℕ} {x : Value} → NoneSoFar (λ i. eqb (kindOf (v i)) k) n i → i < n → kd ≡ kindOf x → x ≡ v i → (kd ≡ k → ⊥)
+    → NoneSoFar (λ i. eqb (kindOf (v i)) k) n (i + 1)
 unfolding anyRow
-kind-more w k {n} {i} s h p q e = record {
+kind-more v k {n} {i} s h p q e = record {
   few = omega arith;
-  none = rw (add-one i, ne-eqb (kindOf (slotAt w i)) k (λ x. e (p ∙ ap kindOf q ∙ x))) (s .none);
+  none = rw (add-one i, ne-eqb (kindOf (v i)) k (λ x. e (p ∙ ap kindOf q ∙ x))) (s .none);
 }
 
 pub kind-none : {f : ℕ → Bool} {n i : ℕ} → NoneSoFar f n i → n ≤ i → false ≡ anyRow f n

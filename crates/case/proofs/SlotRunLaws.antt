@@ -1,4 +1,4 @@
--- Writing the answer: which of 15, 16, 17 and the answer the rows' slots give. Assumes nothing.
+-- Writing the answer: which of 15, 16, 17 and the answer the rows give. Assumes nothing.
 use mathlib.Core.Path.{_≡_, refl, sym, ap, _∙_}
 use mathlib.Core.Bool.{Bool, true, false, false≢true}
 use mathlib.Core.List.{List, [], _∷_, _++_, map}
@@ -22,18 +22,17 @@ use Rattle.scalar.specs.TryCast.{orNull}
 use Rattle.scalar.specs.Types.{typeNumber, markNumber}
 use Rattle.case.specs.declared.answer.RunAnswer.{RunAnswer}
 use Rattle.case.specs.declared.answer.RunAnswer.the-variants.{Answered, Refused}
-use Rattle.case.specs.Frame.{slotAt}
 use Rattle.case.specs.Answer.{columnOf, columnBytes, textLength}
 use Rattle.case.specs.Run.{rowsFrom, entriesOf, textMost, writtenAs, outputAfter}
 use Rattle.case.specs.Promise.{runAnswer}
-use Rattle.case.specs.Write.{slotOutcomes, slotRun, WriteAsks, WriteGives}
-use Rattle.case.specs.Writing.{wrote, Wrote, rowBytes, someOfKind, slotEntries, slotText, slotOffset, slotValidity, slotValues, slotColumn, validitySize, valuesSize}
+use Rattle.case.specs.Write.{rowOutcomes, rowsRun, RowsOfType, WriteGives}
+use Rattle.case.specs.Writing.{wrote, Wrote, rowBytes, someOfKind, rowEntries, rowText, rowOffset, rowValidity, rowValues, rowColumn, validitySize, valuesSize}
 use Rattle.case.proofs.WroteLaws.{length-field, wrote-as}
 use Rattle.case.proofs.ColumnPutLaws.{bits-size, numbers-size, offsets-size, rows-empty, validity-size}
 use Rattle.case.proofs.RowKindLaws.{none-at, some-at}
 use Rattle.case.proofs.ColumnLaws.{texts-rows, column-rows}
 
--- ---- the outcomes of the slots
+-- ---- the outcomes of the rows
 
 -- a value fails just where its kind is 7
 failed-of : (rule table : List ℕ) (v : Value) → eqb (kindOf v) 7 ≡ true → meaning rule table v ≡ unfit
@@ -89,41 +88,41 @@ entries-fail f a (suc n) (suc i) h e =
     let z : suc a + i ≡ a + suc i = omega arith in
     entries-one (f a) (map f (rowsFrom (suc a) n)) (entries-fail f (suc a) n i (omega arith) (ap f z ∙ e))
 
-module _ (rule table w : List ℕ) (rows : ℕ) where
-  -- a slot that failed
-  slots-fail : someOfKind w 7 rows ≡ true → entriesOf (slotOutcomes rule table w rows) ≡ refused 15
-  slots-fail h =
-      let s = some-at (λ i. eqb (kindOf (slotAt w i)) 7) rows h in
+module _ (rule table : List ℕ) (v : ℕ → Value) (rows : ℕ) where
+  -- a row that failed
+  rows-fail : someOfKind v 7 rows ≡ true → entriesOf (rowOutcomes rule table v rows) ≡ refused 15
+  rows-fail h =
+      let s = some-at (λ i. eqb (kindOf (v i)) 7) rows h in
       let z : 0 + s .0 ≡ s .0 = omega arith in
-      entries-fail (λ i. meaning rule table (slotAt w i)) 0 rows (s .0) (s .1)
-      (ap (λ (i : ℕ). meaning rule table (slotAt w i)) z ∙ failed-of rule table (slotAt w (s .0)) (s .2))
+      entries-fail (λ i. meaning rule table (v i)) 0 rows (s .0) (s .1)
+      (ap (λ (i : ℕ). meaning rule table (v i)) z ∙ failed-of rule table (v (s .0)) (s .2))
 
   -- none that did
-  slots-entries : someOfKind w 7 rows ≡ false → entriesOf (slotOutcomes rule table w rows) ≡ ok (slotEntries rule table w rows)
-  slots-entries h =
-      entries-all (λ i. meaning rule table (slotAt w i)) 0 rows
-      (λ i a b. entry-of rule table (slotAt w i) (none-at (λ i. eqb (kindOf (slotAt w i)) 7) rows i h (omega arith)))
+  entries-are : someOfKind v 7 rows ≡ false → entriesOf (rowOutcomes rule table v rows) ≡ ok (rowEntries rule table v rows)
+  entries-are h =
+      entries-all (λ i. meaning rule table (v i)) 0 rows
+      (λ i a b. entry-of rule table (v i) (none-at (λ i. eqb (kindOf (v i)) 7) rows i h (omega arith)))
 
 -- ---- how long the answer is
 
 -- the bytes of tag 4, with tag 5 for text
-values-size : (rule table w : List ℕ) (rows : ℕ) (t : DataType) → length (slotValues rule table w rows t) ≡ valuesSize t rows (length (rowBytes (slotText rule table w) rows))
-values-size rule table w rows DataType.Boolean = length-field 4 _ ∙ ap (λ (n : ℕ). 3 + n) (bits-size true w rows (bitmapLength rows))
-values-size rule table w rows DataType.Int32 = length-field 4 _ ∙ ap (λ (n : ℕ). 3 + n) (numbers-size false w rows)
-values-size rule table w rows DataType.Int64 = length-field 4 _ ∙ ap (λ (n : ℕ). 3 + n) (numbers-size true w rows)
-values-size rule table w rows DataType.Float64 = length-field 4 _ ∙ ap (λ (n : ℕ). 3 + n) (numbers-size true w rows)
-values-size rule table w rows DataType.Utf8 =
-    let os = rowBytes (slotOffset rule table w) (suc rows) in
-    let ts = rowBytes (slotText rule table w) rows in
-    omega (arith, length-append (fieldBytes 5 os) (fieldBytes 4 ts), length-field 5 os, length-field 4 ts, offsets-size rule table w (suc rows))
+values-size : (rule table : List ℕ) (v : ℕ → Value) (rows : ℕ) (t : DataType) → length (rowValues rule table v rows t) ≡ valuesSize t rows (length (rowBytes (rowText rule table v) rows))
+values-size rule table v rows DataType.Boolean = length-field 4 _ ∙ ap (λ (n : ℕ). 3 + n) (bits-size true v rows (bitmapLength rows))
+values-size rule table v rows DataType.Int32 = length-field 4 _ ∙ ap (λ (n : ℕ). 3 + n) (numbers-size false v rows)
+values-size rule table v rows DataType.Int64 = length-field 4 _ ∙ ap (λ (n : ℕ). 3 + n) (numbers-size true v rows)
+values-size rule table v rows DataType.Float64 = length-field 4 _ ∙ ap (λ (n : ℕ). 3 + n) (numbers-size true v rows)
+values-size rule table v rows DataType.Utf8 =
+    let os = rowBytes (rowOffset rule table v) (suc rows) in
+    let ts = rowBytes (rowText rule table v) rows in
+    omega (arith, length-append (fieldBytes 5 os) (fieldBytes 4 ts), length-field 5 os, length-field 4 ts, offsets-size rule table v (suc rows))
 
 -- the bytes of the column
-column-size : (rule table w : List ℕ) (rows : ℕ) (t : DataType) (nullable null : Bool)
-    → length (slotColumn rule table w rows t nullable null) ≡ 8 + validitySize rows null + valuesSize t rows (length (rowBytes (slotText rule table w) rows))
-column-size rule table w rows t nullable null =
+column-size : (rule table : List ℕ) (v : ℕ → Value) (rows : ℕ) (t : DataType) (nullable null : Bool)
+    → length (rowColumn rule table v rows t nullable null) ≡ 8 + validitySize rows null + valuesSize t rows (length (rowBytes (rowText rule table v) rows))
+column-size rule table v rows t nullable null =
     let a = fieldBytes 2 (typeNumber t ∷ markNumber nullable ∷ []) in
-    let b = fieldBytes 3 (slotValidity null w rows) in
-    omega (arith, length-append (a ++ b) (slotValues rule table w rows t), length-append a b, length-field 2 (typeNumber t ∷ markNumber nullable ∷ []), length-field 3 (slotValidity null w rows), validity-size null w rows, values-size rule table w rows t)
+    let b = fieldBytes 3 (rowValidity null v rows) in
+    omega (arith, length-append (a ++ b) (rowValues rule table v rows t), length-append a b, length-field 2 (typeNumber t ∷ markNumber nullable ∷ []), length-field 3 (rowValidity null v rows), validity-size null v rows, values-size rule table v rows t)
 
 -- ---- what is written
 
@@ -143,58 +142,58 @@ module _ (t : DataType) (n : Bool) (es : List Entry) (output : ℕ) where
   unfolding writtenAs
   written-all h k = rw (le-leb (textLength es) textMost h, le-leb (length (columnBytes (columnOf t n es))) output k)
 
-module _ (rule table w : List ℕ) (rows : ℕ) (t : DataType) (n : Bool) (output : List ℕ) where
+module _ (rule table : List ℕ) (v : ℕ → Value) (rows : ℕ) (t : DataType) (n : Bool) (output : List ℕ) where
   -- what a run that is known promises
-  gives-as : {r : RunAnswer} {output′ : List ℕ} (x : Result (List ℕ)) → slotRun rule table w rows t n (length output) ≡ x → r ≡ runAnswer x → output′ ≡ outputAfter x output
-      → WriteGives rule table w rows t n output r output′
+  gives-as : {r : RunAnswer} {output′ : List ℕ} (x : Result (List ℕ)) → rowsRun rule table v rows t n (length output) ≡ x → r ≡ runAnswer x → output′ ≡ outputAfter x output
+      → WriteGives rule table v rows t n output r output′
   gives-as x e p q = record { says = p ∙ ap runAnswer (sym e); output-is = q ∙ ap (λ (y : Result (List ℕ)). outputAfter y output) (sym e) }
 
-  -- some slot failed
-  pub gives-15 : {b : Bool} → b ≡ someOfKind w 7 rows → b ≡ true → WriteGives rule table w rows t n output (Refused 15) output
+  -- some row failed
+  pub gives-15 : {b : Bool} → b ≡ someOfKind v 7 rows → b ≡ true → WriteGives rule table v rows t n output (Refused 15) output
   unfolding outputAfter
   gives-15 p q =
-      gives-as (refused 15) (ap (λ (r : Result (List Entry)). r >>= λ es. writtenAs t n es (length output)) (slots-fail rule table w rows (sym p ∙ q))) refl refl
+      gives-as (refused 15) (ap (λ (r : Result (List Entry)). r >>= λ es. writtenAs t n es (length output)) (rows-fail rule table v rows (sym p ∙ q))) refl refl
 
-  module _ {b : Bool} (p : b ≡ someOfKind w 7 rows) (q : b ≡ false) {text : ℕ} (e : text ≡ length (rowBytes (slotText rule table w) rows)) where
+  module _ {b : Bool} (p : b ≡ someOfKind v 7 rows) (q : b ≡ false) {text : ℕ} (e : text ≡ length (rowBytes (rowText rule table v) rows)) where
     -- none failed
-    fine : someOfKind w 7 rows ≡ false
+    fine : someOfKind v 7 rows ≡ false
     fine = sym p ∙ q
 
     -- so the run is the writing of the entries
-    run-is : slotRun rule table w rows t n (length output) ≡ writtenAs t n (slotEntries rule table w rows) (length output)
-    run-is = ap (λ (r : Result (List Entry)). r >>= λ es. writtenAs t n es (length output)) (slots-entries rule table w rows fine)
+    run-is : rowsRun rule table v rows t n (length output) ≡ writtenAs t n (rowEntries rule table v rows) (length output)
+    run-is = ap (λ (r : Result (List Entry)). r >>= λ es. writtenAs t n es (length output)) (entries-are rule table v rows fine)
 
     -- whose text was counted
-    text-is : text ≡ textLength (slotEntries rule table w rows)
-    text-is = e ∙ ap length (texts-rows rule table w rows)
+    text-is : text ≡ textLength (rowEntries rule table v rows)
+    text-is = e ∙ ap length (texts-rows rule table v rows)
 
     -- too much text
-    pub gives-16 : textMost < text → WriteGives rule table w rows t n output (Refused 16) output
+    pub gives-16 : textMost < text → WriteGives rule table v rows t n output (Refused 16) output
     unfolding outputAfter
-    gives-16 h = gives-as (refused 16) (run-is ∙ written-16 t n (slotEntries rule table w rows) (length output) (omega (arith, text-is))) refl refl
+    gives-16 h = gives-as (refused 16) (run-is ∙ written-16 t n (rowEntries rule table v rows) (length output) (omega (arith, text-is))) refl refl
 
-    module _ (few : text ≤ textMost) {null : Bool} (z : null ≡ someOfKind w 0 rows) where
+    module _ (few : text ≤ textMost) {null : Bool} (z : null ≡ someOfKind v 0 rows) where
       -- the column by its bytes
-      column-is : slotColumn rule table w rows t n null ≡ columnBytes (columnOf t n (slotEntries rule table w rows))
-      column-is = ap (slotColumn rule table w rows t n) z ∙ column-rows rule table w rows fine t n
+      column-is : rowColumn rule table v rows t n null ≡ columnBytes (columnOf t n (rowEntries rule table v rows))
+      column-is = ap (rowColumn rule table v rows t n) z ∙ column-rows rule table v rows fine t n
 
       -- and by its size
-      size-is : {size : ℕ} → size ≡ 8 + validitySize rows null + valuesSize t rows text → size ≡ length (columnBytes (columnOf t n (slotEntries rule table w rows)))
-      size-is s = s ∙ ap (λ (k : ℕ). 8 + validitySize rows null + valuesSize t rows k) e ∙ sym (column-size rule table w rows t n null) ∙ ap length column-is
+      size-is : {size : ℕ} → size ≡ 8 + validitySize rows null + valuesSize t rows text → size ≡ length (columnBytes (columnOf t n (rowEntries rule table v rows)))
+      size-is s = s ∙ ap (λ (k : ℕ). 8 + validitySize rows null + valuesSize t rows k) e ∙ sym (column-size rule table v rows t n null) ∙ ap length column-is
 
       -- too short an output
-      pub gives-17 : {size : ℕ} → size ≡ 8 + validitySize rows null + valuesSize t rows text → length output < size → WriteGives rule table w rows t n output (Refused 17) output
+      pub gives-17 : {size : ℕ} → size ≡ 8 + validitySize rows null + valuesSize t rows text → length output < size → WriteGives rule table v rows t n output (Refused 17) output
       unfolding outputAfter
       gives-17 s h =
-          gives-as (refused 17) (run-is ∙ written-17 t n (slotEntries rule table w rows) (length output) (omega (arith, text-is)) (omega (arith, size-is s))) refl refl
+          gives-as (refused 17) (run-is ∙ written-17 t n (rowEntries rule table v rows) (length output) (omega (arith, text-is)) (omega (arith, size-is s))) refl refl
 
       -- the answer
-      pub gives-answer : {end : ℕ} {output′ : List ℕ} → Wrote output 0 (slotColumn rule table w rows t n null) end output′ → WriteGives rule table w rows t n output (Answered end) output′
+      pub gives-answer : {end : ℕ} {output′ : List ℕ} → Wrote output 0 (rowColumn rule table v rows t n null) end output′ → WriteGives rule table v rows t n output (Answered end) output′
       unfolding outputAfter wrote
       gives-answer o =
-          let bytes = columnBytes (columnOf t n (slotEntries rule table w rows)) in
+          let bytes = columnBytes (columnOf t n (rowEntries rule table v rows)) in
           let a : Wrote output 0 bytes _ _ = wrote-as column-is o in
-          gives-as (ok bytes) (run-is ∙ written-all t n (slotEntries rule table w rows) (length output) (omega (arith, text-is)) (omega (arith, a .fits)))
+          gives-as (ok bytes) (run-is ∙ written-all t n (rowEntries rule table v rows) (length output) (omega (arith, text-is)) (omega (arith, a .fits)))
           (ap Answered (a .ends ∙ zero-add (length bytes))) (a .holds ∙ ap (λ (k : ℕ). bytes ++ drop k output) (zero-add (length bytes)))
 
 -- ---- text only in a column of text
@@ -212,24 +211,24 @@ text-typed rule table t (TableText start size) never h = absurd (false≢true (s
 text-typed rule table t Failed never h = refl
 
 -- nor have the rows
-no-texts : (rule table w : List ℕ) (rows : ℕ) (t s : DataType) → WriteAsks rule table w rows t → t ≡ s → ((x : List ℕ) → ofType s (utf8 x) ≡ false) → 0 ≡ length (rowBytes (slotText rule table w) rows)
-no-texts rule table w rows t s ask e never =
-    sym (rows-empty (slotText rule table w) rows (λ i h. text-typed rule table t (slotAt w i) (λ x. ap (λ (d : DataType). ofType d (utf8 x)) e ∙ never x) (ask .typed i h)))
+no-texts : (rule table : List ℕ) (v : ℕ → Value) (rows : ℕ) (t s : DataType) → RowsOfType rule table v rows t → t ≡ s → ((x : List ℕ) → ofType s (utf8 x) ≡ false) → 0 ≡ length (rowBytes (rowText rule table v) rows)
+no-texts rule table v rows t s ask e never =
+    sym (rows-empty (rowText rule table v) rows (λ i h. text-typed rule table t (v i) (λ x. ap (λ (d : DataType). ofType d (utf8 x)) e ∙ never x) (ask .typed i h)))
 
-module _ (rule table w : List ℕ) (rows : ℕ) (t : DataType) (ask : WriteAsks rule table w rows t) where
+module _ (rule table : List ℕ) (v : ℕ → Value) (rows : ℕ) (t : DataType) (ask : RowsOfType rule table v rows t) where
   -- each type that is not text
-  pub boolean-text : t ≡ DataType.Boolean → 0 ≡ length (rowBytes (slotText rule table w) rows)
+  pub boolean-text : t ≡ DataType.Boolean → 0 ≡ length (rowBytes (rowText rule table v) rows)
   unfolding ofType
-  boolean-text e = no-texts rule table w rows t DataType.Boolean ask e (λ x. refl)
+  boolean-text e = no-texts rule table v rows t DataType.Boolean ask e (λ x. refl)
 
-  pub int32-text : t ≡ DataType.Int32 → 0 ≡ length (rowBytes (slotText rule table w) rows)
+  pub int32-text : t ≡ DataType.Int32 → 0 ≡ length (rowBytes (rowText rule table v) rows)
   unfolding ofType
-  int32-text e = no-texts rule table w rows t DataType.Int32 ask e (λ x. refl)
+  int32-text e = no-texts rule table v rows t DataType.Int32 ask e (λ x. refl)
 
-  pub int64-text : t ≡ DataType.Int64 → 0 ≡ length (rowBytes (slotText rule table w) rows)
+  pub int64-text : t ≡ DataType.Int64 → 0 ≡ length (rowBytes (rowText rule table v) rows)
   unfolding ofType
-  int64-text e = no-texts rule table w rows t DataType.Int64 ask e (λ x. refl)
+  int64-text e = no-texts rule table v rows t DataType.Int64 ask e (λ x. refl)
 
-  pub float64-text : t ≡ DataType.Float64 → 0 ≡ length (rowBytes (slotText rule table w) rows)
+  pub float64-text : t ≡ DataType.Float64 → 0 ≡ length (rowBytes (rowText rule table v) rows)
   unfolding ofType
-  float64-text e = no-texts rule table w rows t DataType.Float64 ask e (λ x. refl)
+  float64-text e = no-texts rule table v rows t DataType.Float64 ask e (λ x. refl)

@@ -4,6 +4,7 @@ use mathlib.Core.List.{List}
 use Prim.Native.Nat.{ℕ, _<_}
 use lib.ListN.{length}
 use Rattle.layout.specs.Result.{ok}
+use Rattle.scalar.specs.declared.value.Value.{Value}
 use Rattle.scalar.specs.Value.{meaning}
 use Rattle.rule.specs.declared.node.NodeRead.{NodeRead}
 use Rattle.rule.specs.Tree.{Expr}
@@ -24,7 +25,11 @@ pub record ReadAsks (rule : List ℕ) (a : NodeRead) (table : List ℕ) (t : Tab
   pub rule-is : RuleRead a tree
   pub table-reads : readTable table ≡ ok (tableIn table t)
 
--- the slots of the rows have the outcomes of whatever rule the bytes are
+-- each row of a table has the outcome of whatever rule the bytes are
+pub record RowsRight (rule table : List ℕ) (t : Table) (v : ℕ → Value) : Type 0 where
+  pub right : (e : Expr) → NodeAt rule 0 (length rule) e 8 → (i : ℕ) → i < t .rows → meaning rule table (v i) ≡ eval e (rowIn table t i)
+
+-- the slots of the rows have these outcomes
 pub record RowsGives (rule table : List ℕ) (t : Table) (w w′ : List ℕ) : Type 0 where
   pub long : length w′ ≡ length w
-  pub here : (e : Expr) → NodeAt rule 0 (length rule) e 8 → (i : ℕ) → i < t .rows → meaning rule table (slotAt w′ i) ≡ eval e (rowIn table t i)
+  pub here : RowsRight rule table t (slotAt w′)

@@ -18,7 +18,6 @@ use Rattle.scalar.specs.Value.{meaning, kindOf}
 use Rattle.scalar.specs.Order.{textIn}
 use Rattle.scalar.specs.TryCast.{orNull}
 use Rattle.case.specs.Run.{rowsFrom}
-use Rattle.case.specs.Frame.{slotAt}
 
 -- bytes written over those at a place
 unfoldable pub wrote : List ℕ → ℕ → List ℕ → List ℕ
@@ -40,17 +39,17 @@ unfoldable pub anyRow : (ℕ → Bool) → ℕ → Bool
 anyRow f zero = false
 anyRow f (suc n) = cond (f n) true (anyRow f n)
 
--- some of the first rows' slots has a value of a kind
-abbrev pub someOfKind : List ℕ → ℕ → ℕ → Bool
-someOfKind w k rows = anyRow (λ i. eqb (kindOf (slotAt w i)) k) rows
+-- some of the first rows has a value of a kind
+abbrev pub someOfKind : (ℕ → Value) → ℕ → ℕ → Bool
+someOfKind v k rows = anyRow (λ i. eqb (kindOf (v i)) k) rows
 
--- the entry of a row's slot; null where it failed
-abbrev pub slotEntry : List ℕ → List ℕ → List ℕ → ℕ → Entry
-slotEntry rule table w i = orNull (meaning rule table (slotAt w i))
+-- the entry of a row; null where it failed
+abbrev pub rowEntry : List ℕ → List ℕ → (ℕ → Value) → ℕ → Entry
+rowEntry rule table v i = orNull (meaning rule table (v i))
 
--- the entries of the first rows' slots
-abbrev pub slotEntries : List ℕ → List ℕ → List ℕ → ℕ → List Entry
-slotEntries rule table w rows = map (slotEntry rule table w) (rowsFrom 0 rows)
+-- the entries of the first rows
+abbrev pub rowEntries : List ℕ → List ℕ → (ℕ → Value) → ℕ → List Entry
+rowEntries rule table v rows = map (rowEntry rule table v) (rowsFrom 0 rows)
 
 -- a value that is true
 abbrev pub trueOf : Value → Bool
@@ -81,17 +80,17 @@ abbrev pub widthOf : Bool → ℕ
 widthOf true = 8
 widthOf false = 4
 
--- the bytes of the number of a row's slot
-abbrev pub slotNumbers : Bool → List ℕ → ℕ → List ℕ
-slotNumbers wide w i = numberBytes (widthOf wide) (numberOf (slotAt w i))
+-- the bytes of the number of a row
+abbrev pub rowNumbers : Bool → (ℕ → Value) → ℕ → List ℕ
+rowNumbers wide v i = numberBytes (widthOf wide) (numberOf (v i))
 
--- the text of a row's slot
-abbrev pub slotText : List ℕ → List ℕ → List ℕ → ℕ → List ℕ
-slotText rule table w i = textIn rule table (slotAt w i)
+-- the text of a row
+abbrev pub rowText : List ℕ → List ℕ → (ℕ → Value) → ℕ → List ℕ
+rowText rule table v i = textIn rule table (v i)
 
 -- the bytes of the offset at which the text of a row begins
-abbrev pub slotOffset : List ℕ → List ℕ → List ℕ → ℕ → List ℕ
-slotOffset rule table w i = numberBytes 4 (length (rowBytes (slotText rule table w) i))
+abbrev pub rowOffset : List ℕ → List ℕ → (ℕ → Value) → ℕ → List ℕ
+rowOffset rule table v i = numberBytes 4 (length (rowBytes (rowText rule table v) i))
 
 -- a value's bit: whether it is true, or whether it is not null
 abbrev pub flagOf : Bool → Value → Bool
@@ -99,8 +98,8 @@ flagOf true v = trueOf v
 flagOf false v = not (eqb (kindOf v) 0)
 
 -- a row's bit; spare bits are zero
-abbrev pub flagAt : Bool → List ℕ → ℕ → ℕ → Bool
-flagAt truth w rows i = cond (ltb i rows) (flagOf truth (slotAt w i)) false
+abbrev pub flagAt : Bool → (ℕ → Value) → ℕ → ℕ → Bool
+flagAt truth v rows i = cond (ltb i rows) (flagOf truth (v i)) false
 
 -- the number of so many bits from a row on, lowest first
 unfoldable pub bitsFrom : (ℕ → Bool) → ℕ → ℕ → ℕ
@@ -108,8 +107,8 @@ bitsFrom f from zero = 0
 bitsFrom f from (suc n) = cond (f from) 1 0 + 2 * bitsFrom f (suc from) n
 
 -- the byte of eight rows' bits
-abbrev pub slotBits : Bool → List ℕ → ℕ → ℕ → List ℕ
-slotBits truth w rows j = bitsFrom (flagAt truth w rows) (8 * j) 8 ∷ []
+abbrev pub rowBits : Bool → (ℕ → Value) → ℕ → ℕ → List ℕ
+rowBits truth v rows j = bitsFrom (flagAt truth v rows) (8 * j) 8 ∷ []
 
 -- what reading the slots of the first rows asks
 pub record RowsAsk (w : List ℕ) (rows : ℕ) : Type 0 where
@@ -129,20 +128,20 @@ valuesSize DataType.Float64 rows text = 3 + 8 * rows
 valuesSize DataType.Utf8 rows text = 10 + 4 * rows + text
 
 -- tag 3's content, where some row is null and where none is
-abbrev pub slotValidity : Bool → List ℕ → ℕ → List ℕ
-slotValidity true w rows = rowBytes (slotBits false w rows) (bitmapLength rows)
-slotValidity false w rows = []
+abbrev pub rowValidity : Bool → (ℕ → Value) → ℕ → List ℕ
+rowValidity true v rows = rowBytes (rowBits false v rows) (bitmapLength rows)
+rowValidity false v rows = []
 
 -- tag 4, and before it tag 5 for text
-abbrev pub slotValues : List ℕ → List ℕ → List ℕ → ℕ → DataType → List ℕ
-slotValues rule table w rows DataType.Boolean = fieldBytes 4 (rowBytes (slotBits true w rows) (bitmapLength rows))
-slotValues rule table w rows DataType.Int32 = fieldBytes 4 (rowBytes (slotNumbers false w) rows)
-slotValues rule table w rows DataType.Int64 = fieldBytes 4 (rowBytes (slotNumbers true w) rows)
-slotValues rule table w rows DataType.Float64 = fieldBytes 4 (rowBytes (slotNumbers true w) rows)
-slotValues rule table w rows DataType.Utf8 =
-    fieldBytes 5 (rowBytes (slotOffset rule table w) (suc rows)) ++ fieldBytes 4 (rowBytes (slotText rule table w) rows)
+abbrev pub rowValues : List ℕ → List ℕ → (ℕ → Value) → ℕ → DataType → List ℕ
+rowValues rule table v rows DataType.Boolean = fieldBytes 4 (rowBytes (rowBits true v rows) (bitmapLength rows))
+rowValues rule table v rows DataType.Int32 = fieldBytes 4 (rowBytes (rowNumbers false v) rows)
+rowValues rule table v rows DataType.Int64 = fieldBytes 4 (rowBytes (rowNumbers true v) rows)
+rowValues rule table v rows DataType.Float64 = fieldBytes 4 (rowBytes (rowNumbers true v) rows)
+rowValues rule table v rows DataType.Utf8 =
+    fieldBytes 5 (rowBytes (rowOffset rule table v) (suc rows)) ++ fieldBytes 4 (rowBytes (rowText rule table v) rows)
 
--- the column of the rows' slots
-abbrev pub slotColumn : List ℕ → List ℕ → List ℕ → ℕ → DataType → Bool → Bool → List ℕ
-slotColumn rule table w rows t nullable null =
-    fieldBytes 2 (typeNumber t ∷ markNumber nullable ∷ []) ++ fieldBytes 3 (slotValidity null w rows) ++ slotValues rule table w rows t
+-- the column of the rows
+abbrev pub rowColumn : List ℕ → List ℕ → (ℕ → Value) → ℕ → DataType → Bool → Bool → List ℕ
+rowColumn rule table v rows t nullable null =
+    fieldBytes 2 (typeNumber t ∷ markNumber nullable ∷ []) ++ fieldBytes 3 (rowValidity null v rows) ++ rowValues rule table v rows t

@@ -9,7 +9,8 @@ ghost use mathlib.Core.Bool.{cond};
 ghost use Prim.Native.Nat.{_+_, _*_, _<_, _≤_};
 ghost use lib.ListN.{length};
 ghost use Rattle.layout.specs.Bytes.{bitmapLength};
-ghost use Rattle.case.specs.Writing.{Wrote, RowsAsk, rowBytes, trueOf, flagOf, flagAt, bitsFrom, slotBits};
+ghost use Rattle.case.specs.Frame.{slotAt};
+ghost use Rattle.case.specs.Writing.{Wrote, RowsAsk, rowBytes, trueOf, flagOf, flagAt, bitsFrom, rowBits};
 
 // Whether a value is true.
 fn is_true(v: Value) -> bool
@@ -38,7 +39,7 @@ fn flag(truth: bool, v: Value) -> bool
 // A row's bit; behind the last row it is 0.
 fn bit(work: &[u8], rows: usize, truth: bool, row: usize) -> usize
     requires { ⌜ RowsAsk (now work) rows ⌝ }
-    ensures { λ r. ⌜ r ≡ cond (flagAt truth (now (work .entry)) rows row) 1 0 ⌝ }
+    ensures { λ r. ⌜ r ≡ cond (flagAt truth (slotAt (now (work .entry))) rows row) 1 0 ⌝ }
 {
     if row < rows {
         if flag(truth, get_slot(work, row)) {
@@ -51,7 +52,7 @@ fn bit(work: &[u8], rows: usize, truth: bool, row: usize) -> usize
 // The byte of eight rows' bits.
 fn bits_byte(work: &[u8], rows: usize, truth: bool, j: usize) -> u8
     requires { ⌜ RowsAsk (now work) rows × (j < 64) ⌝ }
-    ensures { λ r. ⌜ r ≡ bitsFrom (flagAt truth (now (work .entry)) rows) (8 * j) 8 ⌝ }
+    ensures { λ r. ⌜ r ≡ bitsFrom (flagAt truth (slotAt (now (work .entry))) rows) (8 * j) 8 ⌝ }
 {
     let mut n: usize = 0;
     let mut k: usize = 8;
@@ -64,8 +65,8 @@ fn bits_byte(work: &[u8], rows: usize, truth: bool, j: usize) -> u8
 
 // The bitmap of the rows' bits.
 pub(crate) fn put_bits(work: &[u8], rows: usize, truth: bool, at: usize, output: &mut [u8]) -> usize
-    requires { ⌜ RowsAsk (now work) rows × (at + length (rowBytes (slotBits truth (now work) rows) (bitmapLength rows)) ≤ length (now output)) ⌝ }
-    ensures { λ r. ⌜ Wrote (now (output .entry)) at (rowBytes (slotBits truth (now (work .entry)) rows) (bitmapLength rows)) r (now (output .exit)) ⌝ }
+    requires { ⌜ RowsAsk (now work) rows × (at + length (rowBytes (rowBits truth (slotAt (now work)) rows) (bitmapLength rows)) ≤ length (now output)) ⌝ }
+    ensures { λ r. ⌜ Wrote (now (output .entry)) at (rowBytes (rowBits truth (slotAt (now (work .entry))) rows) (bitmapLength rows)) r (now (output .exit)) ⌝ }
 {
     let size = bitmap_length(rows);
     let mut p = at;

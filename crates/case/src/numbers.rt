@@ -6,7 +6,8 @@ use scalar::value::float_bits;
 ghost use mathlib.Core.Path.{_≡_};
 ghost use Prim.Native.Nat.{_+_, _≤_};
 ghost use lib.ListN.{length};
-ghost use Rattle.case.specs.Writing.{Wrote, RowsAsk, rowBytes, numberOf, slotNumbers};
+ghost use Rattle.case.specs.Frame.{slotAt};
+ghost use Rattle.case.specs.Writing.{Wrote, RowsAsk, rowBytes, numberOf, rowNumbers};
 
 // The number of a value; 0 where it is none.
 fn number_of(v: Value) -> u64
@@ -33,8 +34,8 @@ pub(crate) fn put_numbers(
     at: usize,
     output: &mut [u8],
 ) -> usize
-    requires { ⌜ RowsAsk (now work) rows × (at + length (rowBytes (slotNumbers wide (now work)) rows) ≤ length (now output)) ⌝ }
-    ensures { λ r. ⌜ Wrote (now (output .entry)) at (rowBytes (slotNumbers wide (now (work .entry))) rows) r (now (output .exit)) ⌝ }
+    requires { ⌜ RowsAsk (now work) rows × (at + length (rowBytes (rowNumbers wide (slotAt (now work))) rows) ≤ length (now output)) ⌝ }
+    ensures { λ r. ⌜ Wrote (now (output .entry)) at (rowBytes (rowNumbers wide (slotAt (now (work .entry)))) rows) r (now (output .exit)) ⌝ }
 {
     let mut p = at;
     let mut i = 0;

@@ -8,7 +8,8 @@ ghost use mathlib.Core.Path.{_≡_};
 ghost use Prim.Native.Nat.{suc, _+_, _≤_};
 ghost use lib.ListN.{length};
 ghost use Rattle.scalar.specs.Order.{textIn};
-ghost use Rattle.case.specs.Writing.{Wrote, RowsAsk, rowBytes, slotText, slotOffset};
+ghost use Rattle.case.specs.Frame.{slotAt};
+ghost use Rattle.case.specs.Writing.{Wrote, RowsAsk, rowBytes, rowText, rowOffset};
 
 // How long the text of a value is; 0 where it is none.
 fn text_size(rule: &[u8], table: &[u8], v: Value) -> usize
@@ -42,7 +43,7 @@ fn put_text_of(rule: &[u8], table: &[u8], v: Value, at: usize, output: &mut [u8]
 // How long the rows' texts are in all.
 pub(crate) fn text_length(rule: &[u8], table: &[u8], work: &[u8], rows: usize) -> usize
     requires { ⌜ RowsAsk (now work) rows × (length (now rule) ≤ 65536) × (length (now table) ≤ 65536) ⌝ }
-    ensures { λ r. ⌜ r ≡ length (rowBytes (slotText (now (rule .entry)) (now (table .entry)) (now (work .entry))) rows) ⌝ }
+    ensures { λ r. ⌜ r ≡ length (rowBytes (rowText (now (rule .entry)) (now (table .entry)) (slotAt (now (work .entry)))) rows) ⌝ }
 {
     let mut sum: usize = 0;
     let mut i = 0;
@@ -62,8 +63,8 @@ pub(crate) fn put_offsets(
     at: usize,
     output: &mut [u8],
 ) -> usize
-    requires { ⌜ RowsAsk (now work) rows × (length (rowBytes (slotText (now rule) (now table) (now work)) rows) ≤ 65535) × (at + length (rowBytes (slotOffset (now rule) (now table) (now work)) (suc rows)) ≤ length (now output)) ⌝ }
-    ensures { λ r. ⌜ Wrote (now (output .entry)) at (rowBytes (slotOffset (now (rule .entry)) (now (table .entry)) (now (work .entry))) (suc rows)) r (now (output .exit)) ⌝ }
+    requires { ⌜ RowsAsk (now work) rows × (length (rowBytes (rowText (now rule) (now table) (slotAt (now work))) rows) ≤ 65535) × (at + length (rowBytes (rowOffset (now rule) (now table) (slotAt (now work))) (suc rows)) ≤ length (now output)) ⌝ }
+    ensures { λ r. ⌜ Wrote (now (output .entry)) at (rowBytes (rowOffset (now (rule .entry)) (now (table .entry)) (slotAt (now (work .entry)))) (suc rows)) r (now (output .exit)) ⌝ }
 {
     let mut sum: usize = 0;
     let mut p = at;
@@ -85,8 +86,8 @@ pub(crate) fn put_texts(
     at: usize,
     output: &mut [u8],
 ) -> usize
-    requires { ⌜ RowsAsk (now work) rows × (at + length (rowBytes (slotText (now rule) (now table) (now work)) rows) ≤ length (now output)) ⌝ }
-    ensures { λ r. ⌜ Wrote (now (output .entry)) at (rowBytes (slotText (now (rule .entry)) (now (table .entry)) (now (work .entry))) rows) r (now (output .exit)) ⌝ }
+    requires { ⌜ RowsAsk (now work) rows × (at + length (rowBytes (rowText (now rule) (now table) (slotAt (now work))) rows) ≤ length (now output)) ⌝ }
+    ensures { λ r. ⌜ Wrote (now (output .entry)) at (rowBytes (rowText (now (rule .entry)) (now (table .entry)) (slotAt (now (work .entry)))) rows) r (now (output .exit)) ⌝ }
 {
     let mut p = at;
     let mut i = 0;

@@ -17,8 +17,9 @@ ghost use Prim.Native.Nat.{suc, _+_, _<_, _≤_};
 ghost use lib.ListN.{length};
 ghost use Rattle.layout.specs.Bytes.{bitmapLength};
 ghost use Rattle.layout.specs.Field.{fieldBytes};
+ghost use Rattle.case.specs.Frame.{slotAt};
 ghost use Rattle.case.specs.Write.{WriteAsks, WriteGives};
-ghost use Rattle.case.specs.Writing.{Wrote, RowsAsk, someOfKind, rowBytes, slotNumbers, slotBits, slotText, slotOffset, slotValidity, slotValues, slotColumn, validitySize, valuesSize};
+ghost use Rattle.case.specs.Writing.{Wrote, RowsAsk, someOfKind, rowBytes, rowNumbers, rowBits, rowText, rowOffset, rowValidity, rowValues, rowColumn, validitySize, valuesSize};
 
 // Most bytes of the answer's text.
 const TEXT_MOST: usize = 65535;
@@ -46,7 +47,7 @@ pub(crate) fn write_answer(
     output: &mut [u8],
 ) -> RunAnswer
     requires { ⌜ WriteAsks (now rule) (now table) (now work) rows t ⌝ }
-    ensures { λ r. ⌜ WriteGives (now (rule .entry)) (now (table .entry)) (now (work .entry)) rows t nullable (now (output .entry)) r (now (output .exit)) ⌝ }
+    ensures { λ r. ⌜ WriteGives (now (rule .entry)) (now (table .entry)) (slotAt (now (work .entry))) rows t nullable (now (output .entry)) r (now (output .exit)) ⌝ }
 {
     if some_of_kind(work, rows, FAILED) {
         return RunAnswer::Refused(15);
@@ -67,7 +68,7 @@ pub(crate) fn write_answer(
 // Whether some row's slot has a value of a kind.
 fn some_of_kind(work: &[u8], rows: usize, k: u8) -> bool
     requires { ⌜ RowsAsk (now work) rows ⌝ }
-    ensures { λ r. ⌜ r ≡ someOfKind (now (work .entry)) k rows ⌝ }
+    ensures { λ r. ⌜ r ≡ someOfKind (slotAt (now (work .entry))) k rows ⌝ }
 {
     let mut i = 0;
     while i < rows {
@@ -82,7 +83,7 @@ fn some_of_kind(work: &[u8], rows: usize, k: u8) -> bool
 // How long the answer's text is; only an answer of text has any.
 fn answer_text(rule: &[u8], table: &[u8], work: &[u8], rows: usize, t: DataType) -> usize
     requires { ⌜ WriteAsks (now rule) (now table) (now work) rows t ⌝ }
-    ensures { λ r. ⌜ r ≡ length (rowBytes (slotText (now (rule .entry)) (now (table .entry)) (now (work .entry))) rows) ⌝ }
+    ensures { λ r. ⌜ r ≡ length (rowBytes (rowText (now (rule .entry)) (now (table .entry)) (slotAt (now (work .entry)))) rows) ⌝ }
 {
     match t {
         DataType::Boolean => 0,
@@ -132,7 +133,7 @@ fn put_bit_field(
     output: &mut [u8],
 ) -> usize
     requires { ⌜ RowsAsk (now work) rows × (at + 3 + bitmapLength rows ≤ length (now output)) ⌝ }
-    ensures { λ r. ⌜ Wrote (now (output .entry)) at (fieldBytes tag (rowBytes (slotBits truth (now (work .entry)) rows) (bitmapLength rows))) r (now (output .exit)) ⌝ }
+    ensures { λ r. ⌜ Wrote (now (output .entry)) at (fieldBytes tag (rowBytes (rowBits truth (slotAt (now (work .entry))) rows) (bitmapLength rows))) r (now (output .exit)) ⌝ }
 {
     let p = put_header(output, at, tag, bitmap_length(rows));
     put_bits(work, rows, truth, p, output)
@@ -147,8 +148,8 @@ fn put_number_field(
     at: usize,
     output: &mut [u8],
 ) -> usize
-    requires { ⌜ RowsAsk (now work) rows × (size ≡ length (rowBytes (slotNumbers wide (now work)) rows)) × (size < 65536) × (at + 3 + size ≤ length (now output)) ⌝ }
-    ensures { λ r. ⌜ Wrote (now (output .entry)) at (fieldBytes 4 (rowBytes (slotNumbers wide (now (work .entry))) rows)) r (now (output .exit)) ⌝ }
+    requires { ⌜ RowsAsk (now work) rows × (size ≡ length (rowBytes (rowNumbers wide (slotAt (now work))) rows)) × (size < 65536) × (at + 3 + size ≤ length (now output)) ⌝ }
+    ensures { λ r. ⌜ Wrote (now (output .entry)) at (fieldBytes 4 (rowBytes (rowNumbers wide (slotAt (now (work .entry)))) rows)) r (now (output .exit)) ⌝ }
 {
     let p = put_header(output, at, VALUES, size);
     put_numbers(work, rows, wide, p, output)
@@ -164,8 +165,8 @@ fn put_text_fields(
     at: usize,
     output: &mut [u8],
 ) -> usize
-    requires { ⌜ RowsAsk (now work) rows × (text ≡ length (rowBytes (slotText (now rule) (now table) (now work)) rows)) × (text ≤ 65535) × (at + valuesSize DataType.Utf8 rows text ≤ length (now output)) ⌝ }
-    ensures { λ r. ⌜ Wrote (now (output .entry)) at (fieldBytes 5 (rowBytes (slotOffset (now (rule .entry)) (now (table .entry)) (now (work .entry))) (suc rows)) ++ fieldBytes 4 (rowBytes (slotText (now (rule .entry)) (now (table .entry)) (now (work .entry))) rows)) r (now (output .exit)) ⌝ }
+    requires { ⌜ RowsAsk (now work) rows × (text ≡ length (rowBytes (rowText (now rule) (now table) (slotAt (now work))) rows)) × (text ≤ 65535) × (at + valuesSize DataType.Utf8 rows text ≤ length (now output)) ⌝ }
+    ensures { λ r. ⌜ Wrote (now (output .entry)) at (fieldBytes 5 (rowBytes (rowOffset (now (rule .entry)) (now (table .entry)) (slotAt (now (work .entry)))) (suc rows)) ++ fieldBytes 4 (rowBytes (rowText (now (rule .entry)) (now (table .entry)) (slotAt (now (work .entry)))) rows)) r (now (output .exit)) ⌝ }
 {
     let p = put_header(output, at, OFFSETS, 4 * rows + 4);
     let q = put_offsets(rule, table, work, rows, p, output);
@@ -176,7 +177,7 @@ fn put_text_fields(
 // Tag 3: the bits of validity where some row is null, else nothing.
 fn put_validity(work: &[u8], rows: usize, null: bool, at: usize, output: &mut [u8]) -> usize
     requires { ⌜ RowsAsk (now work) rows × (at + 3 + validitySize rows null ≤ length (now output)) ⌝ }
-    ensures { λ r. ⌜ Wrote (now (output .entry)) at (fieldBytes 3 (slotValidity null (now (work .entry)) rows)) r (now (output .exit)) ⌝ }
+    ensures { λ r. ⌜ Wrote (now (output .entry)) at (fieldBytes 3 (rowValidity null (slotAt (now (work .entry))) rows)) r (now (output .exit)) ⌝ }
 {
     if null {
         return put_bit_field(work, rows, false, VALIDITY, at, output);
@@ -195,8 +196,8 @@ fn put_values(
     at: usize,
     output: &mut [u8],
 ) -> usize
-    requires { ⌜ RowsAsk (now work) rows × (text ≡ length (rowBytes (slotText (now rule) (now table) (now work)) rows)) × (text ≤ 65535) × (at + valuesSize t rows text ≤ length (now output)) ⌝ }
-    ensures { λ r. ⌜ Wrote (now (output .entry)) at (slotValues (now (rule .entry)) (now (table .entry)) (now (work .entry)) rows t) r (now (output .exit)) ⌝ }
+    requires { ⌜ RowsAsk (now work) rows × (text ≡ length (rowBytes (rowText (now rule) (now table) (slotAt (now work))) rows)) × (text ≤ 65535) × (at + valuesSize t rows text ≤ length (now output)) ⌝ }
+    ensures { λ r. ⌜ Wrote (now (output .entry)) at (rowValues (now (rule .entry)) (now (table .entry)) (slotAt (now (work .entry))) rows t) r (now (output .exit)) ⌝ }
 {
     match t {
         DataType::Boolean => put_bit_field(work, rows, true, VALUES, at, output),
@@ -219,8 +220,8 @@ fn put_column(
     text: usize,
     output: &mut [u8],
 ) -> usize
-    requires { ⌜ RowsAsk (now work) rows × (text ≡ length (rowBytes (slotText (now rule) (now table) (now work)) rows)) × (text ≤ 65535) × (8 + validitySize rows null + valuesSize t rows text ≤ length (now output)) ⌝ }
-    ensures { λ r. ⌜ Wrote (now (output .entry)) 0 (slotColumn (now (rule .entry)) (now (table .entry)) (now (work .entry)) rows t nullable null) r (now (output .exit)) ⌝ }
+    requires { ⌜ RowsAsk (now work) rows × (text ≡ length (rowBytes (rowText (now rule) (now table) (slotAt (now work))) rows)) × (text ≤ 65535) × (8 + validitySize rows null + valuesSize t rows text ≤ length (now output)) ⌝ }
+    ensures { λ r. ⌜ Wrote (now (output .entry)) 0 (rowColumn (now (rule .entry)) (now (table .entry)) (slotAt (now (work .entry))) rows t nullable null) r (now (output .exit)) ⌝ }
 {
     let p = put_type(output, 0, t, nullable);
     let q = put_validity(work, rows, null, p, output);

@@ -1,13 +1,14 @@
 -- `bits_byte` takes the bits from the last to the first. The loop's invariant: the bits from k on.
 use native.Mathlib.Omega.{arith}
 use Prim.Native.Nat.{_*_}
+use Rattle.case.specs.Frame.{slotAt}
 use Rattle.case.specs.Writing.{flagAt}
 use Rattle.case.proofs.RowBitLaws.{BitsSoFar, bits-none, bits-more, bits-end}
 use Rattle.case.proofs.bitmap.bits_byte.Statement.{statement}
 use Rattle.case.proofs.bitmap.bits_byte.Tie as tie
 
 abbrev Inv-loop : tie.InvT-loop
-Inv-loop work rows truth j n₀ k₀ n k = BitsSoFar (flagAt truth work rows) (8 * j) k n
+Inv-loop work rows truth j n₀ k₀ n k = BitsSoFar (flagAt truth (slotAt work) rows) (8 * j) k n
 
 abbrev μ-loop : tie.MeasureT-loop
 μ-loop work rows truth j n₀ k₀ n k = k

@@ -3,13 +3,14 @@ use borrow.Author.Needs.{needs}
 use native.Mathlib.Omega.{arith}
 use Prim.Native.Nat.{_-_}
 use Rattle.layout.specs.Bytes.{bitmapLength}
-use Rattle.case.specs.Writing.{slotBits}
+use Rattle.case.specs.Frame.{slotAt}
+use Rattle.case.specs.Writing.{rowBits}
 use Rattle.case.proofs.WroteLaws.{SoFar, so-far-none, so-far-room, so-far-more, so-far-ends, wrote-byte, wrote-long}
 use Rattle.case.proofs.bitmap.put_bits.Statement.{statement}
 use Rattle.case.proofs.bitmap.put_bits.Tie as tie
 
 abbrev Inv-loop : tie.InvT-loop
-Inv-loop work rows truth at output₀ size p₀ j₀ output p j = SoFar (slotBits truth work rows) output₀ at (bitmapLength rows) j p output
+Inv-loop work rows truth at output₀ size p₀ j₀ output p j = SoFar (rowBits truth (slotAt work) rows) output₀ at (bitmapLength rows) j p output
 
 abbrev μ-loop : tie.MeasureT-loop
 μ-loop work rows truth at output₀ size p₀ j₀ output p j = bitmapLength rows - j

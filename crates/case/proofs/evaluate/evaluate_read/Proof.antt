@@ -1,7 +1,6 @@
 -- 13 and 14 touch nothing; behind them the slots have the outcomes, which are written, and the work buffer is cleared.
 use native.Mathlib.Omega.{arith}
-use mathlib.Core.Path.{_∙_, ap}
-use lib.ListN.{length}
+use mathlib.Core.Path.{_∙_}
 use denote.Ref.{now}
 use Rattle.case.proofs.EvaluateLaws.{read-asks, not-fitting, too-short, write-asks, evaluated}
 use borrow.Author.Needs.{needs}
@@ -21,4 +20,4 @@ evaluate-read-spec =
     (λ c κs. search needs)
     (λ c. c .before .before .clear .kept .0 ∙ c .before .before .before .before .before .before .before .before .before .before .before .before .evaluate-rows .ensures .long)
     (λ c. search needs)
-    (λ c. evaluated (λ i. omega (arith, c .before .before .before .before .before .before .before .before .before .before .before .before .before .before .before .before .before .before .before .before .before .shared-slice-known .given i)) (λ i. omega (arith, c .before .before .before .before .before .before .before .before .before .before .before .before .before .before .before .before .before .before .before .before .shared-slice-known2 .given i)) (c .before .before .before .before .before .before .before .before .before .before .before .before .before .before .before .before .before .before .before .before .before .before .pre) (c .before .before .before .before .before .before .before .before .before .before .before .before .before .before .before .before .fits-table .ensures) (c .before .before .before .before .before .before .before .before .before .before .before .before .before .before .before .if1 .left) (omega arith) (c .before .before .before .before .before .before .before .before .before .before .before .before .evaluate-rows .ensures) (c .before .before .before .before .before .before .before .before .nullable-of .ensures) (c .before .before .before .before .before .before .write-answer .ensures) (c .before .before .clear .ensures)))
+    (λ c. evaluated (λ i. omega (arith, c .before .before .before .before .before .before .before .before .before .before .before .before .before .before .before .before .before .before .before .before .before .shared-slice-known .given i)) (λ i. omega (arith, c .before .before .before .before .before .before .before .before .before .before .before .before .before .before .before .before .before .before .before .before .shared-slice-known2 .given i)) (c .before .before .before .before .before .before .before .before .before .before .before .before .before .before .before .before .before .before .before .before .before .before .pre) (c .before .before .before .before .before .before .before .before .before .before .before .before .before .before .before .before .fits-table .ensures) (c .before .before .before .before .before .before .before .before .before .before .before .before .before .before .before .if1 .left) (c .before .before .before .before .before .before .before .before .before .before .before .before .evaluate-rows .ensures .here) (c .before .before .before .before .before .before .before .before .nullable-of .ensures) (c .before .before .before .before .before .before .write-answer .ensures) (omega arith) (c .before .before .before .before .before .before .before .before .before .before .before .before .evaluate-rows .ensures .long) (c .before .before .clear .ensures)))

@@ -3,13 +3,14 @@ use native.Mathlib.Omega.{arith}
 use mathlib.Core.Path.{ap, _∙_}
 use Prim.Native.Nat.{_-_}
 use Rattle.layout.specs.Bytes.{numberBytes}
-use Rattle.case.specs.Writing.{numberOf, widthOf, slotNumbers}
+use Rattle.case.specs.Frame.{slotAt}
+use Rattle.case.specs.Writing.{numberOf, widthOf, rowNumbers}
 use Rattle.case.proofs.WroteLaws.{SoFar, so-far-none, so-far-room, so-far-more, so-far-ends, wrote-as, wrote-long, number-room}
 use Rattle.case.proofs.numbers.put_numbers.Statement.{statement}
 use Rattle.case.proofs.numbers.put_numbers.Tie as tie
 
 abbrev Inv-loop : tie.InvT-loop
-Inv-loop work rows wide at output₀ p₀ i₀ output p i = SoFar (slotNumbers wide work) output₀ at rows i p output
+Inv-loop work rows wide at output₀ p₀ i₀ output p i = SoFar (rowNumbers wide (slotAt work)) output₀ at rows i p output
 
 abbrev μ-loop : tie.MeasureT-loop
 μ-loop work rows wide at output₀ p₀ i₀ output p i = rows - i

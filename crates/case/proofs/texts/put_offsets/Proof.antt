@@ -6,13 +6,14 @@ use Prim.Native.Nat.{_-_}
 use lib.ListN.{length}
 use Rattle.scalar.specs.declared.value.Value.{Value}
 use Rattle.scalar.specs.Order.{textIn}
+use Rattle.case.specs.Frame.{slotAt}
 use Rattle.case.proofs.WroteLaws.{wrote-long}
 use Rattle.case.proofs.RowTextLaws.{OffsetsSoFar, offsets-none, offset-room, offsets-more, offsets-end, text-within}
 use Rattle.case.proofs.texts.put_offsets.Statement.{statement}
 use Rattle.case.proofs.texts.put_offsets.Tie as tie
 
 abbrev Inv-loop : tie.InvT-loop
-Inv-loop rule table work rows at output₀ sum₀ p₀ i₀ output sum p i = OffsetsSoFar rule table work output₀ at rows i sum p output
+Inv-loop rule table work rows at output₀ sum₀ p₀ i₀ output sum p i = OffsetsSoFar rule table (slotAt work) output₀ at rows i sum p output
 
 abbrev μ-loop : tie.MeasureT-loop
 μ-loop rule table work rows at output₀ sum₀ p₀ i₀ output sum p i = rows - i
@@ -27,7 +28,7 @@ put-offsets-spec =
     (λ c κs. offset-room (c .before .before .loop .inv) (c .before .before .before .before .before .before .before .pre .2))
     (λ c κs. (omega (arith, c .before .before .before .before .before .before .before .before .before .before .pre .0 .few, c .before .before .before .before .loop-test .taken), c .before .before .before .before .before .before .before .before .before .before .pre .0 .room))
     (λ c κs. tt)
-    (λ c. omega (arith, text-within (now (c .before .before .before .before .before .before .before .before .before .before .before .before .args .rule)) (now (c .before .before .before .before .before .before .before .before .before .before .before .before .args .table)) (now (c .before .before .before .before .before .before .before .before .before .before .before .before .args .work)) (c .before .before .before .before .before .before .before .loop .inv .counted) (c .before .before .before .before .before .before .loop-test .taken) (c .before .before .before .before .before .before .before .before .before .before .before .before .pre .1) (c .text-size .ensures ∙ ap (λ (v : Value). length (textIn (now (c .before .before .before .before .before .before .before .before .before .before .before .before .args .rule)) (now (c .before .before .before .before .before .before .before .before .before .before .before .before .args .table)) v)) (c .before .get-slot .ensures .0))))
+    (λ c. omega (arith, text-within (now (c .before .before .before .before .before .before .before .before .before .before .before .before .args .rule)) (now (c .before .before .before .before .before .before .before .before .before .before .before .before .args .table)) (slotAt (now (c .before .before .before .before .before .before .before .before .before .before .before .before .args .work))) (c .before .before .before .before .before .before .before .loop .inv .counted) (c .before .before .before .before .before .before .loop-test .taken) (c .before .before .before .before .before .before .before .before .before .before .before .before .pre .1) (c .text-size .ensures ∙ ap (λ (v : Value). length (textIn (now (c .before .before .before .before .before .before .before .before .before .before .before .before .args .rule)) (now (c .before .before .before .before .before .before .before .before .before .before .before .before .args .table)) v)) (c .before .get-slot .ensures .0))))
     (λ c. omega arith)
     (λ c. omega arith)
     (λ c. offsets-more (c .before .before .before .before .before .before .before .loop .inv) (c .before .before .before .before .put-number .ensures) (c .before .before .before .before .before .before .loop-test .taken) (c .text-size .ensures ∙ ap (λ (v : Value). length (textIn (now (c .before .before .before .before .before .before .before .before .before .before .before .before .args .rule)) (now (c .before .before .before .before .before .before .before .before .before .before .before .before .args .table)) v)) (c .before .get-slot .ensures .0)))

@@ -4,13 +4,14 @@ use denote.Ref.{now}
 use mathlib.Core.Path.{ap}
 use Prim.Native.Nat.{_-_}
 use Rattle.scalar.specs.Order.{textIn}
-use Rattle.case.specs.Writing.{slotText}
+use Rattle.case.specs.Frame.{slotAt}
+use Rattle.case.specs.Writing.{rowText}
 use Rattle.case.proofs.WroteLaws.{SoFar, so-far-none, so-far-room, so-far-more, so-far-ends, wrote-as, wrote-long, room-as}
 use Rattle.case.proofs.texts.put_texts.Statement.{statement}
 use Rattle.case.proofs.texts.put_texts.Tie as tie
 
 abbrev Inv-loop : tie.InvT-loop
-Inv-loop rule table work rows at output₀ p₀ i₀ output p i = SoFar (slotText rule table work) output₀ at rows i p output
+Inv-loop rule table work rows at output₀ p₀ i₀ output p i = SoFar (rowText rule table (slotAt work)) output₀ at rows i p output
 
 abbrev μ-loop : tie.MeasureT-loop
 μ-loop rule table work rows at output₀ p₀ i₀ output p i = rows - i

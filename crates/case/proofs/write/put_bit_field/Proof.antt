@@ -3,7 +3,8 @@ use borrow.Author.Needs.{needs}
 use denote.Ref.{now}
 use mathlib.Core.Path.{sym, _∙_}
 use Rattle.layout.specs.Bytes.{bitmapLength}
-use Rattle.case.specs.Writing.{rowBytes, slotBits}
+use Rattle.case.specs.Frame.{slotAt}
+use Rattle.case.specs.Writing.{rowBytes, rowBits}
 use Rattle.case.proofs.WroteLaws.{wrote-field}
 use Rattle.case.proofs.ColumnPutLaws.{bits-size, content-room}
 use Rattle.case.proofs.write.put_bit_field.Statement.{statement}
@@ -15,6 +16,6 @@ put-bit-field-spec =
     (tie.spec
     (λ c κs. search needs)
     (λ c κs. search needs)
-    (λ c κs. (c .before .before .before .before .before .before .before .before .pre .0, content-room (c .before .before .before .before .bitmap-length .result) (bitmapLength (c .before .before .before .before .before .before .before .before .args .rows)) (rowBytes (slotBits (c .before .before .before .before .before .before .before .before .args .truth) (now (c .before .before .before .before .before .before .before .before .args .work)) (c .before .before .before .before .before .before .before .before .args .rows)) (bitmapLength (c .before .before .before .before .before .before .before .before .args .rows))) (c .before .before .before .put-header .ensures) (bits-size (c .before .before .before .before .before .before .before .before .args .truth) (now (c .before .before .before .before .before .before .before .before .args .work)) (c .before .before .before .before .before .before .before .before .args .rows) (bitmapLength (c .before .before .before .before .before .before .before .before .args .rows))) (c .before .before .before .before .before .before .before .before .pre .1)))
+    (λ c κs. (c .before .before .before .before .before .before .before .before .pre .0, content-room (c .before .before .before .before .bitmap-length .result) (bitmapLength (c .before .before .before .before .before .before .before .before .args .rows)) (rowBytes (rowBits (c .before .before .before .before .before .before .before .before .args .truth) (slotAt (now (c .before .before .before .before .before .before .before .before .args .work))) (c .before .before .before .before .before .before .before .before .args .rows)) (bitmapLength (c .before .before .before .before .before .before .before .before .args .rows))) (c .before .before .before .put-header .ensures) (bits-size (c .before .before .before .before .before .before .before .before .args .truth) (slotAt (now (c .before .before .before .before .before .before .before .before .args .work))) (c .before .before .before .before .before .before .before .before .args .rows) (bitmapLength (c .before .before .before .before .before .before .before .before .args .rows))) (c .before .before .before .before .before .before .before .before .pre .1)))
     (λ c. search needs)
-    (λ c. wrote-field (c .before .before .before .before .before .before .before .bitmap-length .ensures ∙ sym (bits-size (c .before .before .before .before .before .before .before .before .before .before .before .args .truth) (now (c .before .before .before .before .before .before .before .before .before .before .before .args .work)) (c .before .before .before .before .before .before .before .before .before .before .before .args .rows) (bitmapLength (c .before .before .before .before .before .before .before .before .before .before .before .args .rows)))) (c .before .before .before .before .before .before .put-header .ensures) (c .before .before .put-bits .ensures)))
+    (λ c. wrote-field (c .before .before .before .before .before .before .before .bitmap-length .ensures ∙ sym (bits-size (c .before .before .before .before .before .before .before .before .before .before .before .args .truth) (slotAt (now (c .before .before .before .before .before .before .before .before .before .before .before .args .work))) (c .before .before .before .before .before .before .before .before .before .before .before .args .rows) (bitmapLength (c .before .before .before .before .before .before .before .before .before .before .before .args .rows)))) (c .before .before .before .before .before .before .put-header .ensures) (c .before .before .put-bits .ensures)))

@@ -2,7 +2,8 @@
 use borrow.Author.Needs.{needs}
 use denote.Ref.{now}
 use mathlib.Core.Path.{sym}
-use Rattle.case.specs.Writing.{rowBytes, slotNumbers}
+use Rattle.case.specs.Frame.{slotAt}
+use Rattle.case.specs.Writing.{rowBytes, rowNumbers}
 use Rattle.case.proofs.WroteLaws.{wrote-field}
 use Rattle.case.proofs.ColumnPutLaws.{content-room}
 use Rattle.case.proofs.write.put_number_field.Statement.{statement}
@@ -13,6 +14,6 @@ put-number-field-spec =
     tie.close
     (tie.spec
     (λ c κs. search needs)
-    (λ c κs. (c .before .before .before .before .before .before .before .pre .0, content-room (c .before .before .before .before .before .before .before .args .size) (c .before .before .before .before .before .before .before .args .size) (rowBytes (slotNumbers (c .before .before .before .before .before .before .before .args .wide) (now (c .before .before .before .before .before .before .before .args .work))) (c .before .before .before .before .before .before .before .args .rows)) (c .before .before .before .put-header .ensures) (sym (c .before .before .before .before .before .before .before .pre .1)) (c .before .before .before .before .before .before .before .pre .3)))
+    (λ c κs. (c .before .before .before .before .before .before .before .pre .0, content-room (c .before .before .before .before .before .before .before .args .size) (c .before .before .before .before .before .before .before .args .size) (rowBytes (rowNumbers (c .before .before .before .before .before .before .before .args .wide) (slotAt (now (c .before .before .before .before .before .before .before .args .work)))) (c .before .before .before .before .before .before .before .args .rows)) (c .before .before .before .put-header .ensures) (sym (c .before .before .before .before .before .before .before .pre .1)) (c .before .before .before .before .before .before .before .pre .3)))
     (λ c. search needs)
     (λ c. wrote-field (c .before .before .before .before .before .before .before .before .before .before .pre .1) (c .before .before .before .before .before .before .put-header .ensures) (c .before .before .put-numbers .ensures)))
