@@ -35,6 +35,7 @@ pub mod ResultLaws
 pub mod StepLaws
 pub mod KeyLaws
 pub mod SpanLaws
+pub mod RootLaws
 pub mod EvaluateLaws
 pub mod AnswerLaws
 pub mod RowsTyped

@@ -19,6 +19,7 @@ pub mod Evaluation
 pub mod Steps
 pub mod Results
 pub mod Readings
+pub mod Classes
 pub mod Writing
 pub mod Cases
 pub mod Demands

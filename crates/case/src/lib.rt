@@ -19,6 +19,7 @@ pub(crate) mod numbers;
 pub(crate) mod primitive_lookup_table;
 pub(crate) mod put;
 pub(crate) mod results;
+pub(crate) mod root;
 pub mod rows;
 pub(crate) mod settle;
 pub mod slot;

@@ -44,7 +44,7 @@ fn read_thens(rule: &[u8], at: usize, count: usize, kinds: &mut [u8], payloads: 
 }
 
 // The literals of so many branches at a place and of ELSE behind them, and a failure.
-fn read_results(
+pub(crate) fn read_results(
     rule: &[u8],
     at: usize,
     end: usize,
