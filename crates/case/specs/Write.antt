@@ -3,16 +3,20 @@ use mathlib.Core.Path.{_≡_}
 use mathlib.Core.Bool.{Bool, true}
 use mathlib.Core.List.{List, map}
 use Prim.Native.Nat.{ℕ, _<_, _≤_}
-use lib.ListN.{length}
+use lib.ListN.{length, getD}
+use Rattle.layout.specs.Bytes.{numberBytes}
 use Rattle.layout.specs.Result.{Result, _>>=_}
 use Rattle.scalar.specs.declared.types.DataType.{DataType}
 use Rattle.scalar.specs.declared.value.Value.{Value}
+use Rattle.scalar.specs.Types.{typeNumber}
 use Rattle.scalar.specs.Entry.{Outcome, outcomeOfType}
 use Rattle.scalar.specs.Value.{meaning}
 use Rattle.case.specs.declared.answer.RunAnswer.{RunAnswer}
 use Rattle.case.specs.Run.{rowsFrom, entriesOf, writtenAs, outputAfter}
 use Rattle.case.specs.Promise.{runAnswer}
 use Rattle.case.specs.Frame.{slotAt}
+use Rattle.case.specs.Writing.{widthOf}
+use Rattle.case.specs.LookUpTables.{valueAt}
 
 -- the outcomes that the first rows have
 abbrev pub rowOutcomes : List ℕ → List ℕ → (ℕ → Value) → ℕ → List Outcome
@@ -37,3 +41,27 @@ pub record WriteAsks (rule table w : List ℕ) (rows : ℕ) (t : DataType) : Typ
 pub record WriteGives (rule table : List ℕ) (v : ℕ → Value) (rows : ℕ) (t : DataType) (n : Bool) (output : List ℕ) (r : RunAnswer) (output′ : List ℕ) : Type 0 where
   pub says : r ≡ runAnswer (rowsRun rule table v rows t n (length output))
   pub output-is : output′ ≡ outputAfter (rowsRun rule table v rows t n (length output)) output
+
+-- the value of a row's class: the literal at its index
+abbrev pub classValue : List ℕ → List ℕ → List ℕ → ℕ → Value
+classValue classes kinds payloads i = valueAt kinds payloads (getD classes i 0)
+
+-- every row's class is a number of the answer's type
+pub record ClassesAsk (rows : ℕ) (t : DataType) (classes kinds payloads : List ℕ) : Type 0 where
+  pub few : rows ≤ 512
+  pub classes-long : length classes ≡ 512
+  pub kinds-long : length kinds ≡ 258
+  pub payloads-long : length payloads ≡ 258
+  pub number : (2 ≤ typeNumber t) × (typeNumber t ≤ 4)
+  pub each : (i : ℕ) → i < rows → (getD classes i 0 < 258) × (getD kinds (getD classes i 0) 0 ≡ typeNumber t)
+
+-- every row's class has a payload
+pub record ClassesIn (rows : ℕ) (classes payloads : List ℕ) : Type 0 where
+  pub few : rows ≤ 512
+  pub classes-long : length classes ≡ 512
+  pub payloads-long : length payloads ≡ 258
+  pub below : (i : ℕ) → i < rows → getD classes i 0 < 258
+
+-- the bytes of the payload of a row's class
+abbrev pub classNumbers : Bool → List ℕ → List ℕ → ℕ → List ℕ
+classNumbers wide classes payloads i = numberBytes (widthOf wide) (getD payloads (getD classes i 0) 0)
