@@ -95,7 +95,7 @@ true-of rule table (TableText start size) = refl
 true-of rule table Failed = refl
 
 -- a value's number is its entry's
-number-of : (rule table : List ℕ) (v : Value) → numberIn (orNull (meaning rule table v)) ≡ numberOf v
+pub number-of : (rule table : List ℕ) (v : Value) → numberIn (orNull (meaning rule table v)) ≡ numberOf v
 number-of rule table Null = refl
 number-of rule table (Boolean b) = refl
 number-of rule table (Int32 n) = refl

@@ -80,7 +80,7 @@ numbers-ask wide w rows at size n ask e h = (ask, e ∙ sym (numbers-size wide (
 -- ---- the parts of a column, one behind the other
 
 -- where a header ends
-header-ends : {out : List ℕ} {at tag p : ℕ} {m : List ℕ} (size : ℕ) → Wrote out at (tag ∷ numberBytes 2 size) p m → p ≡ at + 3
+pub header-ends : {out : List ℕ} {at tag p : ℕ} {m : List ℕ} (size : ℕ) → Wrote out at (tag ∷ numberBytes 2 size) p m → p ≡ at + 3
 header-ends size o = omega (arith, o .ends, length-numberBytes 2 size)
 
 -- behind a header there is room for its content

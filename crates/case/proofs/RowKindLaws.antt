@@ -51,6 +51,12 @@ kind-more v k {n} {i} s h p q e = record {
 pub kind-none : {f : ℕ → Bool} {n i : ℕ} → NoneSoFar f n i → n ≤ i → false ≡ anyRow f n
 kind-none {f} {n} {i} s h = let few = s .few in let e : i ≡ n = omega arith in sym (s .none) ∙ ap (anyRow f) e
 
+-- no row passes
+pub any-none : (f : ℕ → Bool) (n : ℕ) → ((i : ℕ) → i < n → f i ≡ false) → anyRow f n ≡ false
+unfolding anyRow
+any-none f zero h = refl
+any-none f (suc n) h = rw (h n (omega arith)) (any-none f n (λ i b. h i (omega arith)))
+
 -- a row that does not pass
 pub none-at : (f : ℕ → Bool) (n i : ℕ) → anyRow f n ≡ false → i < n → f i ≡ false
 none-at f n i h b = go (f i) refl

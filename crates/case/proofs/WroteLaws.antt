@@ -1,6 +1,6 @@
 -- Bytes written at a place: one run behind another, and row by row. Assumes nothing.
 use mathlib.Core.Path.{_≡_, refl, sym, ap, ap₂, subst, _∙_}
-use mathlib.Core.Bool.{Bool, true, false, cond}
+use mathlib.Core.Bool.{Bool, true, cond}
 use mathlib.Core.List.{List, [], _∷_, _++_, append-nil, append-assoc}
 use Prim.Native.Nat.{ℕ, zero, suc, _+_, _*_, _/_, _%_, _^_, _<_, _≤_}
 use native.Mathlib.Nat.{add-zero, pow-suc}
@@ -72,13 +72,15 @@ pub wrote-sets : {out : List ℕ} {at : ℕ} {p : ℕ} {m : List ℕ} (xs : List
 unfolding wrote
 wrote-sets {out} {at} xs h e s = record { fits = h; ends = e; holds = s ∙ sets-eq xs out at h }
 
+-- a number's bytes, stored one by one
+pub wrote-bytes : {out : List ℕ} {at : ℕ} {m : List ℕ} (k n : ℕ) → at + k ≤ length out → m ≡ sets out at (numberBytes k n) → Wrote out at (numberBytes k n) (at + k) m
+wrote-bytes k n h e = let long = length-numberBytes k n in wrote-sets (numberBytes k n) (omega arith) (omega arith) e
+
 -- a number that was written
 pub wrote-number : {out : List ℕ} {at n : ℕ} {done : Bool} {m : List ℕ} (k : ℕ) → at + k ≤ length out → Written k out at n done m → Wrote out at (numberBytes k n) (at + k) m
-wrote-number {out} {at} {n} {done} {m} k h w =
-    let long = length-numberBytes k n in
+wrote-number {out} {at} {n} {done} k h w =
     let says : done ≡ true = w .says ∙ le-leb (at + k) (length out) h in
-    wrote-sets (numberBytes k n) (omega arith) (omega arith)
-    (w .holds ∙ ap (λ (b : Bool). cond b (sets out at (numberBytes k n)) out) says)
+    wrote-bytes k n h (w .holds ∙ ap (λ (b : Bool). cond b (sets out at (numberBytes k n)) out) says)
 
 -- what lies above k bytes is not in them
 above-bytes : (k n q : ℕ) → numberBytes k (n + 256 ^ k * q) ≡ numberBytes k n
@@ -91,7 +93,7 @@ above-bytes (suc k) n q =
     ap₂ _∷_ low (ap (numberBytes k) high ∙ above-bytes k (n / 256) q)
 
 -- a number's low four bytes are those of its low 32 bits
-low-bytes : (n : ℕ) → numberBytes 4 (n % 4294967296) ≡ numberBytes 4 n
+pub low-bytes : (n : ℕ) → numberBytes 4 (n % 4294967296) ≡ numberBytes 4 n
 low-bytes n =
     let e : n % 4294967296 + 4294967296 * (n / 4294967296) ≡ n = omega arith in
     sym (above-bytes 4 (n % 4294967296) (n / 4294967296)) ∙ ap (numberBytes 4) e
@@ -163,6 +165,12 @@ rows-within f i (suc n) h = go (decLt i n) (λ p. rows-within f i n p)
         let s : length (rowBytes f i) + length (f i) ≡ length (rowBytes f n) + length (f n) = ap (λ (k : ℕ). length (rowBytes f k) + length (f k)) e in
         omega (arith, length-append (rowBytes f n) (f n))
 
+-- the same bytes for each row
+pub rows-same : (f g : ℕ → List ℕ) (n : ℕ) → ((i : ℕ) → i < n → f i ≡ g i) → rowBytes f n ≡ rowBytes g n
+unfolding rowBytes
+rows-same f g zero h = refl
+rows-same f g (suc n) h = ap₂ _++_ (rows-same f g n (λ i b. h i (omega arith))) (h n (omega arith))
+
 -- as many bytes for each row
 pub length-rows : (f : ℕ → List ℕ) (k : ℕ) → ((i : ℕ) → length (f i) ≡ k) → (n : ℕ) → length (rowBytes f n) ≡ k * n
 unfolding rowBytes
@@ -194,15 +202,14 @@ module _ {f : ℕ → List ℕ} {out : List ℕ} {at n i p : ℕ} {m : List ℕ}
 
 -- ---- a number, of eight bytes or of four
 
--- eight
-pub put-eight : {out : List ℕ} {at n : ℕ} {wide done : Bool} {m : List ℕ} → wide ≡ true → at + widthOf wide ≤ length out → Written 8 out at n done m
-    → Wrote out at (numberBytes (widthOf wide) n) (at + 8) m
-put-eight e h w = rw e (wrote-number 8 (rw e at h) w)
+module _ {wide b : Bool} (e : wide ≡ b) where
+  -- its room
+  pub width-room : (at n : ℕ) → at + widthOf wide ≤ n → at + widthOf b ≤ n
+  width-room at n h = rw e at h
 
--- four
-pub put-four : {out : List ℕ} {at : ℕ} (n : ℕ) {wide done : Bool} {m : List ℕ} → wide ≡ false → at + widthOf wide ≤ length out → Written 4 out at (n % 4294967296) done m
-    → Wrote out at (numberBytes (widthOf wide) n) (at + 4) m
-put-four n e h w = rw e (wrote-as (low-bytes n) (wrote-number 4 (rw e at h) w))
+  -- its bytes
+  pub width-bytes : {out : List ℕ} {at p : ℕ} {m : List ℕ} (n : ℕ) → Wrote out at (numberBytes (widthOf b) n) p m → Wrote out at (numberBytes (widthOf wide) n) p m
+  width-bytes n w = rw e w
 
 -- ---- room behind a run
 

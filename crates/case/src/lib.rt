@@ -7,6 +7,7 @@ pub mod builder;
 pub(crate) mod bytes_like_lookup_table;
 pub(crate) mod case;
 pub(crate) mod cells;
+pub(crate) mod classes;
 pub(crate) mod clear;
 pub(crate) mod column;
 pub mod evaluate;

@@ -1,7 +1,5 @@
 // Bytes put at a place of the output. Each function says where they end.
 use layout::number::write_u16;
-use layout::number::write_u32;
-use layout::number::write_u64;
 use rule::types::type_number;
 use scalar::types::DataType;
 ghost use mathlib.Core.Path.{_≡_};
@@ -35,18 +33,44 @@ pub(crate) fn put_text(output: &mut [u8], at: usize, text: &[u8]) -> usize
     at + text.len()
 }
 
+// A number's eight bytes.
+fn put_eight(output: &mut [u8], at: usize, n: u64) -> usize
+    requires { ⌜ at + 8 ≤ length (now output) ⌝ }
+    ensures { λ r. ⌜ Wrote (now (output .entry)) at (numberBytes 8 n) r (now (output .exit)) ⌝ }
+{
+    output[at] = (n % 256) as u8;
+    output[at + 1] = (n / 0x100 % 256) as u8;
+    output[at + 2] = (n / 0x1_0000 % 256) as u8;
+    output[at + 3] = (n / 0x100_0000 % 256) as u8;
+    output[at + 4] = (n / 0x1_0000_0000 % 256) as u8;
+    output[at + 5] = (n / 0x100_0000_0000 % 256) as u8;
+    output[at + 6] = (n / 0x1_0000_0000_0000 % 256) as u8;
+    output[at + 7] = (n / 0x100_0000_0000_0000 % 256) as u8;
+    at + 8
+}
+
+// A number's low four bytes.
+fn put_four(output: &mut [u8], at: usize, n: u64) -> usize
+    requires { ⌜ at + 4 ≤ length (now output) ⌝ }
+    ensures { λ r. ⌜ Wrote (now (output .entry)) at (numberBytes 4 n) r (now (output .exit)) ⌝ }
+{
+    output[at] = (n % 256) as u8;
+    output[at + 1] = (n / 0x100 % 256) as u8;
+    output[at + 2] = (n / 0x1_0000 % 256) as u8;
+    output[at + 3] = (n / 0x100_0000 % 256) as u8;
+    at + 4
+}
+
 // A number, of eight bytes or of four.
 pub(crate) fn put_number(output: &mut [u8], at: usize, wide: bool, n: u64) -> usize
     requires { ⌜ at + widthOf wide ≤ length (now output) ⌝ }
     ensures { λ r. ⌜ Wrote (now (output .entry)) at (numberBytes (widthOf wide) n) r (now (output .exit)) ⌝ }
 {
     if wide {
-        let _done = write_u64(output, at, n);
-        return at + 8;
+        put_eight(output, at, n)
+    } else {
+        put_four(output, at, n)
     }
-    let low = (n % 0x1_0000_0000) as u32;
-    let _done = write_u32(output, at, low);
-    at + 4
 }
 
 // A field's tag and the length of its content.

@@ -30,9 +30,9 @@ const NULL: u8 = 0;
 const FAILED: u8 = 7;
 
 // Tags of a column's fields behind the first.
-const VALIDITY: u8 = 3;
+pub(crate) const VALIDITY: u8 = 3;
 
-const VALUES: u8 = 4;
+pub(crate) const VALUES: u8 = 4;
 
 const OFFSETS: u8 = 5;
 
@@ -116,7 +116,7 @@ fn values_size(rows: usize, t: DataType, text: usize) -> usize
 }
 
 // How many bytes the answer takes.
-fn column_size(rows: usize, t: DataType, null: bool, text: usize) -> usize
+pub(crate) fn column_size(rows: usize, t: DataType, null: bool, text: usize) -> usize
     requires { ⌜ (rows ≤ 512) × (text ≤ 65535) ⌝ }
     ensures { λ r. ⌜ r ≡ 8 + validitySize rows null + valuesSize t rows text ⌝ }
 {
