@@ -31,6 +31,8 @@ pub mod CellLaws
 pub mod ColumnSlotLaws
 pub mod LookUpLaws
 pub mod LookUpTrees
+pub mod LookUpColumnLaws
+pub mod KeyLaws
 pub mod ResultLaws
 pub mod StepLaws
 pub mod EvaluateLaws

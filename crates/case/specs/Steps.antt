@@ -115,6 +115,11 @@ EntryIndex tags keys count kind e c = ((e ≡ null) × (c ≡ count + 1)) ⊎ ((
 pub record KeyAt (kind : DataType) (values : List ℕ) (row x : ℕ) : Type 0 where
   pub is : typeNumber kind ≤ 4 → (offsets : List ℕ) → Numbered (typeNumber kind) x (valueAt kind offsets values row)
 
+-- the numbers of the first rows' values
+pub record KeysAt (kind : DataType) (values : List ℕ) (rows : ℕ) (keys′ : List ℕ) : Type 0 where
+  pub long : length keys′ ≡ 512
+  pub each : (r : ℕ) → r < rows → KeyAt kind values r (getD keys′ r 0)
+
 -- the index of a row's entry
 pub record RowIndex (kind : DataType) (values validity tags keys : List ℕ) (count row c : ℕ) : Type 0 where
   pub is : typeNumber kind ≤ 4 → (offsets : List ℕ) → EntryIndex tags keys count (typeNumber kind) (cond (validIn validity row) (valueAt kind offsets values row) null) c

@@ -168,7 +168,7 @@ fn step_index(tags: &[u8], keys: &[u64], count: usize, x: u64) -> u16
 }
 
 // The number by which a row's value is compared.
-fn key_at(kind: DataType, values: &[u8], row: usize) -> u64
+pub(crate) fn key_at(kind: DataType, values: &[u8], row: usize) -> u64
     ensures { λ r. ⌜ KeyAt kind (now (values .entry)) row r ⌝ }
 {
     match kind {
