@@ -32,6 +32,7 @@ pub mod CellLaws
 pub mod ColumnSlotLaws
 pub mod LookUpLaws
 pub mod LookUpTrees
+pub mod LookUpColumnLaws
 pub mod ResultLaws
 pub mod StepLaws
 pub mod KeyLaws

@@ -2,7 +2,7 @@
 use mathlib.Core.Path.{_≡_, refl, sym, ap, ap₂, subst, _∙_}
 use mathlib.Core.Bool.{Bool, true, false, cond, _&&_}
 use mathlib.Core.List.{List, [], _∷_, _++_}
-use Prim.Native.Nat.{ℕ, zero, suc, _+_, _-_, _*_, _<_, _≤_}
+use Prim.Native.Nat.{ℕ, zero, suc, _+_, _-_, _*_, _/_, _<_, _≤_}
 use native.Mathlib.Nat.{add-zero}
 use native.Mathlib.Decide.{ℕ-discrete, decLt}
 use native.Mathlib.Omega.{arith}
@@ -31,7 +31,12 @@ use Rattle.rule.specs.AnswerWalks.{treesLiteral}
 use Rattle.rule.proofs.NodeLaws.{trees-none, trees-some}
 use Rattle.rule.proofs.WalkLaws.{first-tree, branches-length}
 use Rattle.case.specs.Frame.{slotAt, Filled}
+use Rattle.table.specs.declared.places.ColumnPlace.{ColumnPlace}
+use Rattle.table.specs.Column as columns
+use Rattle.table.specs.Places.{columnIn}
+use Rattle.case.specs.Evaluation.{resultAt, indexed}
 use Rattle.case.specs.LookUp.{LookedUp}
+use Rattle.case.specs.LookUpColumns.{KeyedRow, ColumnKeyed, BaseIndex, BaseGives}
 use Rattle.case.specs.LookUpTables.{sameKey, found, valueAt, keyIndex, whenIndex, baseIndex, TableOf, literalEntry, entryAt, LiteralsRead, MappedBy}
 use Rattle.case.proofs.LookUpLaws.{never, found-same, found-none, found-below, null-first}
 
@@ -283,6 +288,52 @@ branches-found (branch w t bs) rest row b els f otherwise k l e h =
         pick true = ap entry (sym q)
         pick false = later
 
+-- the branch whose WHEN equals a base: which it is, from k on, and what it gives
+record BranchAt (bs : Branches) (row : Row) (b : Entry) (other : Outcome) (f : ℕ → Entry) (otherwise k : ℕ) : Type 0 where
+  first : ℕ
+  index-is : found (λ i. isTrue (equalEntry b (f (2 * i)))) (λ i. 2 * i + 1) k (branchCount bs) otherwise / 2 ≡ k + first
+  result-is : evalBranches bs row (equalsTest b) other ≡ resultAt bs row other first
+
+branch-at : (bs : Branches) (rest : List Expr) (row : Row) (b : Entry) (other : Outcome) (f : ℕ → Entry) (otherwise k : ℕ) → allLiterals bs ≡ true → otherwise ≡ 2 * (k + branchCount bs)
+    → ((j : ℕ) → f (2 * k + j) ≡ entryAt (branchTrees bs ++ rest) j) → BranchAt bs row b other f otherwise k
+unfolding eval found branchCount allLiterals resultAt
+branch-at noMore rest row b other f otherwise k l e h = record { first = 0; index-is = (let z : otherwise / 2 ≡ k + 0 = omega arith in z); result-is = refl }
+branch-at (branch w t bs) rest row b other f otherwise k l e h =
+    let (both, others) = both-hold (isLiteral w && isLiteral t) (allLiterals bs) l in
+    let (first, second) = both-hold (isLiteral w) (isLiteral t) both in
+    go w (literal-told w first)
+    (let z : 2 * k ≡ 2 * k + 0 = omega arith in ap f z ∙ h 0 ∙ entry-first w (t ∷ (branchTrees bs ++ rest)))
+    (branch-at bs rest row b other f otherwise (suc k) others (omega arith)
+    (λ j. let z : 2 * suc k + j ≡ 2 * k + suc (suc j) = omega arith in ap f z ∙ h (suc (suc j)) ∙ entry-later w (t ∷ (branchTrees bs ++ rest)) (suc j) ∙ entry-later t (branchTrees bs ++ rest) j))
+  where
+    go : (u : Expr) → Literal u → f (2 * k) ≡ literalEntry u → BranchAt bs row b other f otherwise (suc k) → BranchAt (branch u t bs) row b other f otherwise k
+    go u (aLiteral tu vu) p later = pick (isTrue (equalEntry b vu)) refl
+      where
+        test-is : isTrue (equalEntry b (f (2 * k))) ≡ isTrue (equalEntry b vu)
+        test-is = ap (λ (v : Entry). isTrue (equalEntry b v)) p
+
+        pick : (x : Bool) → isTrue (equalEntry b vu) ≡ x → BranchAt (branch (literal tu vu) t bs) row b other f otherwise k
+        pick true q = record {
+          first = 0;
+          index-is =
+              ap (λ (x : Bool). cond x (2 * k + 1) (found (λ i. isTrue (equalEntry b (f (2 * i)))) (λ i. 2 * i + 1) (suc k) (branchCount bs) otherwise) / 2) (test-is ∙ q)
+              ∙ (let z : (2 * k + 1) / 2 ≡ k + 0 = omega arith in z);
+          result-is = ap (λ (x : Bool). cond x (eval t row) (evalBranches bs row (equalsTest b) other)) q;
+        }
+        pick false q = record {
+          first = suc (later .first);
+          index-is =
+              ap (λ (x : Bool). cond x (2 * k + 1) (found (λ i. isTrue (equalEntry b (f (2 * i)))) (λ i. 2 * i + 1) (suc k) (branchCount bs) otherwise) / 2) (test-is ∙ q)
+              ∙ later .index-is ∙ (let z : suc k + later .first ≡ k + suc (later .first) = omega arith in z);
+          result-is = ap (λ (x : Bool). cond x (eval t row) (evalBranches bs row (equalsTest b) other)) q ∙ later .result-is;
+        }
+
+-- ELSE stands behind all branches
+behind-all : (bs : Branches) (row : Row) (other : Outcome) → resultAt bs row other (branchCount bs) ≡ other
+unfolding branchCount resultAt
+behind-all noMore row other = refl
+behind-all (branch w t bs) row other = behind-all bs row other
+
 -- all that stand there are literals
 all-literal : (bs : Branches) (es : List Expr) → allLiterals bs ≡ true → treesLiteral es ≡ true → treesLiteral (branchTrees bs ++ es) ≡ true
 unfolding allLiterals
@@ -347,6 +398,30 @@ module _ {rule : List ℕ} (table : List ℕ) {kinds payloads : List ℕ} {at en
     base-found (float64 x) = sym (value-found (float64 x))
     base-found (utf8 x) = sym (value-found (utf8 x))
 
+    -- the branch of a base, by half its index
+    pub index-found : (b : Entry) (other : Outcome) → withBase (entry b) (λ test. evalBranches bs row test other) other ≡ indexed bs row other (index-of bs els count b / 2 + 1)
+    index-found b other = go b (branch-at bs (optionalTrees els) row b other (lits bs els) (2 * count) 0 all (omega arith) (λ j. let z : 2 * 0 + j ≡ j = omega arith in ap (lits bs els) z))
+      where
+        counted-as : (e : Entry) → found (λ i. isTrue (equalEntry e (lits bs els (2 * i)))) (λ i. 2 * i + 1) 0 (branchCount bs) (2 * count) ≡ index-of bs els count e
+        counted-as e = ap (λ (n : ℕ). found (λ i. isTrue (equalEntry e (lits bs els (2 * i)))) (λ i. 2 * i + 1) 0 n (2 * count)) counted
+
+        by : (e : Entry) → BranchAt bs row e other (lits bs els) (2 * count) 0 → evalBranches bs row (equalsTest e) other ≡ indexed bs row other (index-of bs els count e / 2 + 1)
+        by e r =
+            let z : index-of bs els count e / 2 + 1 ≡ suc (r .first) = omega (arith, r .index-is, counted-as e) in
+            r .result-is ∙ sym (ap (indexed bs row other) z)
+
+        go : (e : Entry) → BranchAt bs row e other (lits bs els) (2 * count) 0 → withBase (entry e) (λ test. evalBranches bs row test other) other ≡ indexed bs row other (index-of bs els count e / 2 + 1)
+        go null r =
+            let n : index-of bs els count null ≡ 2 * count =
+            found-none (λ i. isTrue (equalEntry null (lits bs els (2 * i)))) (λ i. 2 * i + 1) (2 * count) count 0 (λ i. null-first (entry (lits bs els (2 * i)))) in
+            let z : index-of bs els count null / 2 + 1 ≡ suc (branchCount bs) = omega arith in
+            sym (ap (indexed bs row other) z ∙ behind-all bs row other)
+        go (boolean x) r = by (boolean x) r
+        go (int32 x) r = by (int32 x) r
+        go (int64 x) r = by (int64 x) r
+        go (float64 x) r = by (float64 x) r
+        go (utf8 x) r = by (utf8 x) r
+
     pub outcome-found : (o : Outcome) → meaning rule table (valueAt kinds payloads (baseIndex (whenIndex rule table kinds payloads count (2 * count)) (2 * count) o))
         ≡ withBase o (λ test. evalBranches bs row test (evalElse els row to)) (evalElse els row to)
     unfolding valueOf
@@ -365,6 +440,23 @@ module _ {rule : List ℕ} (table : List ℕ) {kinds payloads : List ℕ} {at en
       by-table : (o : Outcome) → baseIndex (keyIndex rule table ks ps is size (2 * count)) (2 * count) o ≡ baseIndex (whenIndex rule table kinds payloads count (2 * count)) (2 * count) o
       by-table (entry b) = t .right (entry b)
       by-table unfit = refl
+
+  -- the branch of a row's base, by the table
+  module _ {ks ps is : List ℕ} {size : ℕ} (t : TableOf rule table kinds payloads count (2 * count) ks ps is size) (place : ColumnPlace) where
+    keyed-base : (q c : ℕ) → KeyedRow rule table place ks ps is size (2 * count) q c → BaseIndex rule at end table place count q c
+    keyed-base q c row-is = record {
+      few = omega (arith, found-below (λ k. sameKey (entry e) (meaning rule table (valueAt ks ps k))) (λ k. getD is k 0) (2 * count) size 0 (λ i l. t .arrays .below i (omega arith)));
+      is = λ bs els depth row other trees counted serves.
+          let (all, else-serves) = serves-told bs (dropNull els) serves in
+          index-found bs els row (resultType bs) trees counted all else-serves e other
+          ∙ sym (ap (indexed bs row other) (row-is ∙ ap (λ (x : ℕ). x / 2 + 1) (t .right (entry e) ∙ index-same bs els row (resultType bs) trees counted all else-serves e)));
+    }
+      where
+        e : Entry
+        e = columns.entryAt (columnIn table place) q
+
+    pub based-by : {w : List ℕ} {n : ℕ} {served : Bool} {values : List ℕ} → ColumnKeyed table place ks ps is size (2 * count) w n rule served values → BaseGives rule at end table place count w n served values
+    based-by {values = values} g = record { long = g .long; each = λ s q l. keyed-base q (getD values q 0) (g .each s q l) }
 
 -- what is right for each row
 pub filled-right : {right right′ : ℕ → Value → Type 0} {w : List ℕ} {n : ℕ} {w′ : List ℕ} → ((r : ℕ) (v : Value) → right r v → right′ r v) → Filled right w n w′ → Filled right′ w n w′

@@ -14,6 +14,7 @@ pub mod ColumnSlots
 pub mod LookUp
 pub mod LookUpTables
 pub mod LookUpBooleans
+pub mod LookUpColumns
 pub mod Write
 pub mod Evaluation
 pub mod Steps

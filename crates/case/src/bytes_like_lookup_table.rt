@@ -2,10 +2,13 @@
 use scalar::text::place_text;
 use scalar::text::same_bytes;
 ghost use mathlib.Core.Path.{_≡_};
+ghost use Prim.Native.Nat.{ℕ, _≤_};
+ghost use lib.ListN.{length, getD};
 ghost use Rattle.scalar.specs.Entry.{entry, utf8};
 ghost use Rattle.scalar.specs.Text.{sameBytes};
 ghost use Rattle.scalar.specs.Value.{meaning, placeText, valueOf};
-ghost use Rattle.case.specs.LookUpTables.{Keys, sameKey, keyIndex};
+ghost use Rattle.case.specs.LookUpTables.{Keys, EachOnce, sameKey, keyIndex, valueAt};
+ghost use Rattle.case.specs.LookUpColumns.{textHint, outcomeHint, Hinted};
 
 // Whether a text is the bytes of a place. Where they are all there, the sizes tell most texts apart.
 fn is_place(text: &[u8], bytes: &[u8], start: usize, size: usize) -> bool
@@ -61,4 +64,75 @@ pub(crate) fn find_text(
         k += 1;
     };
     index
+}
+
+// A text's place among the hints.
+fn text_hint(text: &[u8]) -> usize
+    ensures { λ r. ⌜ r ≡ textHint (now (text .entry)) ⌝ }
+{
+    let size = text.len();
+    if size == 0 {
+        return 0;
+    }
+    (size % 256 + 8 * (text[size - 1] as usize)) % 256
+}
+
+// The hint of a key, by its kind and payload.
+fn key_hint(rule: &[u8], table: &[u8], kind: u8, payload: u64) -> usize
+    ensures { λ r. ⌜ r ≡ outcomeHint (meaning (now (rule .entry)) (now (table .entry)) (valueOf kind payload)) ⌝ }
+{
+    let start = (payload % 0x1_0000_0000) as usize;
+    let size = (payload / 0x1_0000_0000) as usize;
+    match kind {
+        5 => text_hint(place_text(rule, start, size)),
+        6 => text_hint(place_text(table, start, size)),
+        _ => 0,
+    }
+}
+
+// At each key's hint one more than the place of a key.
+pub(crate) fn read_hints(
+    rule: &[u8],
+    table: &[u8],
+    kinds: &[u8],
+    keys: &[u64],
+    size: usize,
+    hints: &mut [u8],
+)
+    requires { ⌜ (length (now kinds) ≡ 256) × (length (now keys) ≡ 256) × (size ≤ 255) ⌝ }
+    requires { ⌜ (length (now hints) ≡ 256) × ((h : ℕ) → getD (now hints) h 0 ≡ 0) ⌝ }
+    ensures { λ _. ⌜ Hinted (λ k. outcomeHint (meaning (now (rule .entry)) (now (table .entry)) (valueAt (now (kinds .entry)) (now (keys .entry)) k))) size (now (hints .exit)) ⌝ }
+{
+    let mut k = 0;
+    while k < size {
+        let h = key_hint(rule, table, kinds[k], keys[k]);
+        hints[h] = (k + 1) as u8;
+        k += 1;
+    }
+}
+
+// The index of the first key that is a text of these bytes, or the ELSE index, by the hint first.
+pub(crate) fn text_index(
+    rule: &[u8],
+    table: &[u8],
+    kinds: &[u8],
+    keys: &[u64],
+    indices: &[u16],
+    hints: &[u8],
+    size: usize,
+    otherwise: usize,
+    text: &[u8],
+) -> usize
+    requires { ⌜ Keys (now kinds) (now keys) (now indices) size otherwise × EachOnce (now rule) (now table) (now kinds) (now keys) size ⌝ }
+    requires { ⌜ Hinted (λ k. outcomeHint (meaning (now rule) (now table) (valueAt (now kinds) (now keys) k))) size (now hints) ⌝ }
+    ensures { λ r. ⌜ r ≡ keyIndex (now (rule .entry)) (now (table .entry)) (now (kinds .entry)) (now (keys .entry)) (now (indices .entry)) size otherwise (entry (utf8 (now (text .entry)))) ⌝ }
+{
+    let h = hints[text_hint(text)] as usize;
+    if h == 0 {
+        return otherwise;
+    }
+    if is_text(rule, table, text, kinds[h - 1], keys[h - 1]) {
+        return indices[h - 1] as usize;
+    }
+    find_text(rule, table, kinds, keys, indices, size, otherwise, text)
 }

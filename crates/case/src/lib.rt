@@ -10,6 +10,7 @@ pub(crate) mod cells;
 pub(crate) mod classes;
 pub(crate) mod clear;
 pub(crate) mod column;
+pub(crate) mod column_lookup;
 pub mod evaluate;
 pub(crate) mod fits;
 pub(crate) mod keys;

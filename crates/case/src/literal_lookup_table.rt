@@ -31,7 +31,7 @@ ghost use Rattle.case.specs.LookUpTables.{Keys, EachOnce, TableOf, Added
 const FAILED: u8 = 7;
 
 // The literals at a place, at most so many, and behind them a failure.
-fn read_literals(
+pub(crate) fn read_literals(
     rule: &[u8],
     at: usize,
     end: usize,
@@ -130,7 +130,7 @@ fn add_key(
 }
 
 // The table of so many WHENs: how many keys there are.
-fn fill_table(
+pub(crate) fn fill_table(
     rule: &[u8],
     table: &[u8],
     literal_kinds: &[u8],
