@@ -445,6 +445,7 @@ module _ {rule : List ℕ} (table : List ℕ) {kinds payloads : List ℕ} {at en
   module _ {ks ps is : List ℕ} {size : ℕ} (t : TableOf rule table kinds payloads count (2 * count) ks ps is size) (place : ColumnPlace) where
     keyed-base : (q c : ℕ) → KeyedRow rule table place ks ps is size (2 * count) q c → BaseIndex rule at end table place count q c
     keyed-base q c row-is = record {
+      some = omega arith;
       few = omega (arith, found-below (λ k. sameKey (entry e) (meaning rule table (valueAt ks ps k))) (λ k. getD is k 0) (2 * count) size 0 (λ i l. t .arrays .below i (omega arith)));
       is = λ bs els depth row other trees counted serves.
           let (all, else-serves) = serves-told bs (dropNull els) serves in

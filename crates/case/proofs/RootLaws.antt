@@ -1,7 +1,7 @@
 -- The root CASE's rows by index: the outcome of a row is the literal of its class. Assumes nothing.
 use mathlib.Core.Path.{_≡_, refl, sym, ap, subst, _∙_}
 use mathlib.Core.Bool.{Bool, true, false, cond, false≢true}
-use mathlib.Core.List.{List, _++_}
+use mathlib.Core.List.{List, _∷_, _++_}
 use mathlib.Core.Logic.{inr}
 use Prim.Native.Nat.{ℕ, zero, suc, _+_, _-_, _<_, _≤_}
 use native.Mathlib.Decide.{ℕ-discrete}
@@ -15,25 +15,28 @@ use Rattle.scalar.specs.Types.{typeNumber}
 use Rattle.scalar.specs.Entry.{Outcome}
 use Rattle.scalar.specs.Value.{meaning}
 use Rattle.rule.specs.declared.strategy.Strategy.{Strategy}
-use Rattle.rule.specs.Tree.{Expr, caseWhen, Branches, Optional, absent, branchCount}
+use Rattle.rule.specs.declared.strategy.Strategy.the-variants.{WithExprScalarLookupTable}
+use Rattle.rule.specs.Tree.{Expr, caseWhen, Branches, Optional, absent, present, branchCount}
 use Rattle.rule.specs.Typing.{typeOf}
-use Rattle.rule.specs.Row.{Row, isTrueTest, eval, evalBranches, evalElse}
+use Rattle.rule.specs.Row.{isTrueTest, withBase, eval, evalBranches, evalElse}
 use Rattle.rule.specs.Strategy.{strategy, strategyOf}
 use Rattle.rule.specs.Node.{NodeAt}
-use Rattle.rule.specs.Walks.{branchTrees, optionalTrees, TreesAt, ChildrenGives, TypeGives}
+use Rattle.rule.specs.Walks.{branchTrees, optionalTrees, TreesAt, EndGives, ChildrenGives, TypeGives}
 use Rattle.rule.specs.AnswerWalks.{StrategyGives}
 use Rattle.rule.proofs.NodeLaws.{Tagged, ofCase, node-byte}
-use Rattle.rule.proofs.WalkLaws.{node-of-tag}
+use Rattle.rule.proofs.WalkLaws.{node-of-tag, first-tree}
 use Rattle.table.specs.declared.places.Table.{Table}
 use Rattle.case.specs.Frame.{Rows, Listed}
 use Rattle.case.specs.LookUpTables.{valueAt}
 use Rattle.case.specs.Evaluation.{rowIn, indexed}
 use Rattle.case.specs.Results.{ResultsRead}
+use Rattle.case.specs.LookUp.{KeyedGive}
 use Rattle.case.specs.Steps.{StepsGive}
 use Rattle.case.specs.Write.{ClassesAsk, classValue}
 use Rattle.case.specs.Readings.{RowsRight}
-use Rattle.case.specs.Classes.{RootAsks, RootTree, RootIndex, RootSteps, RootGives, allOfKind, ClassesGive}
+use Rattle.case.specs.Classes.{RootAsks, RootTree, RootIndex, RootSteps, RootKeys, RootGives, allOfKind, ClassesGive}
 use Rattle.case.proofs.ExprLaws.{children-below}
+use Rattle.case.proofs.CaseLaws.{shape-6}
 
 -- ---- the list of all rows
 
@@ -56,10 +59,10 @@ module _ {t : Table} {w table : List ℕ} (a : RootAsks t w table) where
 -- the steps that were read, or none
 pub steps-found : {rule table : List ℕ} {t : Table} {w values : List ℕ} {at count : ℕ} {served : Bool} → count ≡ byte rule 4 → StepsGive rule at table t count w (t .rows) served values → served ≡ true
     → RootSteps rule at table t w values at
-steps-found {rule} {table} {t} {w} {values} {at} counted steps all = record {
+steps-found {rule} {table} {t} {w} {values} {at} {count} counted steps all = record {
   long = steps .long;
   at-is = λ n. refl;
-  steps = λ n. subst (λ (c : ℕ). StepsGive rule at table t c w (t .rows) true values) counted (subst (λ (b : Bool). StepsGive rule at table t _ w (t .rows) b values) all steps);
+  steps = λ n. subst (λ (c : ℕ). StepsGive rule at table t c w (t .rows) true values) counted (subst (λ (b : Bool). StepsGive rule at table t count w (t .rows) b values) all steps);
 }
 
 pub steps-missed : {rule table : List ℕ} {t : Table} {w values : List ℕ} {at : ℕ} → length values ≡ 512 → RootSteps rule at table t w values 0
@@ -100,21 +103,74 @@ root-steps {rule} {table} {t} {w} {values} {at} {place} asks tag gives is shape 
               ∙ steps .steps n .each refl i (root-listed asks i h) .is bs (optionalTrees els) (length rule) 7 (evalElse els row to) trees count-is;
         }
 
+-- the keys that were found, or none
+pub keys-found : {rule table : List ℕ} {t : Table} {w values : List ℕ} {at place count : ℕ} {served : Bool} → count ≡ byte rule 4 → KeyedGive rule at (length rule) table t count w (t .rows) served values
+    → served ≡ true → EndGives rule at place → RootKeys rule at table t w values place
+keys-found {rule} {table} {t} {w} {values} {at} {count = count} counted keys all ends = record {
+  long = keys .long;
+  ends = λ n. ends;
+  keys = λ n. subst (λ (c : ℕ). KeyedGive rule at (length rule) table t c w (t .rows) true values) counted (subst (λ (b : Bool). KeyedGive rule at (length rule) table t count w (t .rows) b values) all keys);
+}
+
+pub keys-missed : {rule table : List ℕ} {t : Table} {w values : List ℕ} {at : ℕ} → length values ≡ 512 → RootKeys rule at table t w values 0
+keys-missed e = record { long = e; ends = λ n. absurd (n refl); keys = λ n. absurd (n refl) }
+
+-- by a table of keys, of a CASE with a base
+pub root-keys : {rule table : List ℕ} {t : Table} {w values : List ℕ} {at place : ℕ} {g : Strategy} → RootAsks t w table → byte rule 0 ≡ 25 → StrategyGives rule 0 (length rule) g
+    → g ≡ WithExprScalarLookupTable → ChildrenGives rule 0 at → RootKeys rule at table t w values place → RootGives rule table t values place
+unfolding eval typeOf strategy
+root-keys {rule} {table} {t} {w} {values} {at} {place} asks tag gives is children keys = record {
+  long = keys .long;
+  each = λ n i h.
+      let x = keys .keys n .each refl i (root-listed asks i h) in
+      record { some = x .some; few = x .few; is = λ e node. go n i h e node (node-of-tag node tag) };
+}
+  where
+    go : (place ≡ 0 → ⊥) → (i : ℕ) → i < t .rows → (e : Expr) → NodeAt rule 0 (length rule) e 8 → Tagged 25 e → RootTree rule table t place i (getD values i 0) e
+    go n i h e node (ofCase b bs els) =
+        let row = rowIn table t i in
+        let (x, base, serves) = shape-6 b bs els (sym is ∙ gives .is (caseWhen b bs els) 8 node) in
+        let same : caseWhen b bs els ≡ caseWhen (present x) bs els = ap (λ (o : Optional). caseWhen o bs els) base in
+        let node′ = subst (λ (y : Expr). NodeAt rule 0 (length rule) y 8) same node in
+        let trees : TreesAt rule at (length rule) (x ∷ (branchTrees bs ++ optionalTrees els)) 7 = children-below children node′ in
+        let count-is : branchCount bs ≡ byte rule 4 = sym (node-byte 1 4 node (omega arith) (omega arith)) in
+        record {
+          bs = bs;
+          els = els;
+          trees = first-tree (keys .ends n) trees .1;
+          counted = count-is;
+          outcome = λ to types.
+              ap (λ (y : Expr). eval y row) same
+              ∙ ap (λ (f : DataType). withBase (eval x row) (λ test. evalBranches bs row test (evalElse els row f)) (evalElse els row f)) (sym (types (length rule) (caseWhen (present x) bs els) 8 node′))
+              ∙ keys .keys n .each refl i (root-listed asks i h) .is x bs els 7 (evalElse els row to) trees count-is serves;
+        }
+
 -- ---- the kinds of the classes
 
--- one that is of another kind
-pub kind-differs : (kinds : List ℕ) (k n : ℕ) → (getD kinds (suc n) 0 ≡ k → ⊥) → false ≡ allOfKind kinds k (suc n)
-unfolding allOfKind
-kind-differs kinds k n d = sym (ap (λ (b : Bool). cond b (allOfKind kinds k n) false) (ne-eqb (getD kinds (suc n) 0) k d))
+-- where the loop stands: what is left gives the answer
+pub record KindsLeft (kinds : List ℕ) (k count left : ℕ) : Type 0 where
+  pub few : left ≤ count
+  pub same : allOfKind kinds k count ≡ allOfKind kinds k left
 
--- one that is of the kind
-pub kind-same : (kinds : List ℕ) (k n : ℕ) → getD kinds (suc n) 0 ≡ k → allOfKind kinds k (suc n) ≡ allOfKind kinds k n
-unfolding allOfKind
-kind-same kinds k n e = ap (λ (b : Bool). cond b (allOfKind kinds k n) false) (eq-eqb (getD kinds (suc n) 0) k e)
+pub kinds-start : {kinds : List ℕ} {k count : ℕ} → KindsLeft kinds k count count
+kinds-start = record { few = omega arith; same = refl }
 
-pub kinds-ended : (kinds : List ℕ) (k : ℕ) → true ≡ allOfKind kinds k 0
-unfolding allOfKind
-kinds-ended kinds k = refl
+module _ {kinds : List ℕ} {k count left : ℕ} (s : KindsLeft kinds k count left) where
+  one-left : 0 < left → allOfKind kinds k count ≡ cond (eqb (getD kinds left 0) k) (allOfKind kinds k (left - 1)) false
+  unfolding allOfKind
+  one-left h =
+      let e : left ≡ suc (left - 1) = omega arith in
+      s .same ∙ ap (allOfKind kinds k) e ∙ ap (λ (n : ℕ). cond (eqb (getD kinds n 0) k) (allOfKind kinds k (left - 1)) false) (sym e)
+
+  pub kinds-differ : 0 < left → (getD kinds left 0 ≡ k → ⊥) → false ≡ allOfKind kinds k count
+  kinds-differ h d = sym (one-left h ∙ ap (λ (b : Bool). cond b (allOfKind kinds k (left - 1)) false) (ne-eqb (getD kinds left 0) k d))
+
+  pub kinds-less : 0 < left → getD kinds left 0 ≡ k → KindsLeft kinds k count (left - 1)
+  kinds-less h e = record { few = (let f = s .few in omega arith); same = one-left h ∙ ap (λ (b : Bool). cond b (allOfKind kinds k (left - 1)) false) (eq-eqb (getD kinds left 0) k e) }
+
+  pub kinds-end : left ≤ 0 → true ≡ allOfKind kinds k count
+  unfolding allOfKind
+  kinds-end h = let e : left ≡ 0 = omega arith in sym (s .same ∙ ap (allOfKind kinds k) e)
 
 -- each of them
 kind-at : (kinds : List ℕ) (k n : ℕ) → allOfKind kinds k n ≡ true → (j : ℕ) → j < n → getD kinds (suc j) 0 ≡ k

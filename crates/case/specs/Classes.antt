@@ -10,10 +10,11 @@ use Rattle.scalar.specs.declared.types.DataType.{DataType}
 use Rattle.rule.specs.Tree.{Expr, Branches, Optional, branchCount}
 use Rattle.rule.specs.Row.{eval, evalElse}
 use Rattle.rule.specs.Node.{NodeAt}
-use Rattle.rule.specs.Walks.{branchTrees, optionalTrees, TreesAt, TypeGives}
+use Rattle.rule.specs.Walks.{branchTrees, optionalTrees, TreesAt, EndGives, TypeGives}
 use Rattle.table.specs.declared.places.Table.{Table}
 use Rattle.case.specs.Frame.{rowAt}
 use Rattle.case.specs.Evaluation.{rowIn, indexed}
+use Rattle.case.specs.LookUp.{KeyedGive}
 use Rattle.case.specs.Steps.{StepsGive}
 use Rattle.case.specs.Readings.{RowsRight}
 use Rattle.case.specs.Write.{classValue, ClassesAsk}
@@ -49,6 +50,12 @@ pub record RootSteps (rule : List ℕ) (at : ℕ) (table : List ℕ) (t : Table)
   pub long : length values ≡ 512
   pub at-is : (place ≡ 0 → ⊥) → place ≡ at
   pub steps : (place ≡ 0 → ⊥) → StepsGive rule at table t (byte rule 4) w (t .rows) true values
+
+-- the index of each row by the keys behind a base at a place; place 0 is none
+pub record RootKeys (rule : List ℕ) (at : ℕ) (table : List ℕ) (t : Table) (w values : List ℕ) (place : ℕ) : Type 0 where
+  pub long : length values ≡ 512
+  pub ends : (place ≡ 0 → ⊥) → EndGives rule at place
+  pub keys : (place ≡ 0 → ⊥) → KeyedGive rule at (length rule) table t (byte rule 4) w (t .rows) true values
 
 -- the first so many classes, from 1, are all of a kind
 unfoldable pub allOfKind : List ℕ → ℕ → ℕ → Bool

@@ -1,5 +1,6 @@
 // The classes of a table's rows by the root CASE, without slots: where every WHEN is a step on one column or a table of keys serves a column, and every
 // result is a number literal.
+use crate::column_lookup::lookup_values;
 use crate::results::read_results;
 use crate::steps::step_values;
 use layout::number::byte_at;
@@ -8,12 +9,13 @@ use rule::strategy::strategy_at;
 use rule::type_of::type_of;
 use rule::types::type_number;
 use rule::walk::children_at;
+use rule::walk::field_end;
 use scalar::types::DataType;
 use table::places::Table;
 ghost use mathlib.Core.Path.{_≡_};
 ghost use Prim.Native.Nat.{ℕ, _≤_, _<_};
 ghost use lib.ListN.{length, getD};
-ghost use Rattle.case.specs.Classes.{RootAsks, RootSteps, RootGives, allOfKind, ClassesGive};
+ghost use Rattle.case.specs.Classes.{RootAsks, RootSteps, RootKeys, RootGives, allOfKind, ClassesGive};
 
 // A CASE's tag.
 const CASE: u8 = 25;
@@ -37,6 +39,35 @@ fn root_steps(
     0
 }
 
+// The index of each row by a table of keys, and where the branches stand; 0 where no table serves a column.
+fn root_keys(
+    rule: &[u8],
+    at: usize,
+    table: &[u8],
+    t: Table,
+    work: &[u8],
+    values: &mut [u16],
+) -> usize
+    requires { ⌜ RootAsks t (now work) (now table) ⌝ }
+    requires { ⌜ length (now values) ≡ 512 ⌝ }
+    ensures { λ r. ⌜ RootKeys (now (rule .entry)) at (now (table .entry)) t (now (work .entry)) (now (values .exit)) r ⌝ }
+{
+    if lookup_values(
+        rule,
+        at,
+        rule.len(),
+        byte_at(rule, 4),
+        table,
+        t,
+        work,
+        t.rows,
+        values,
+    ) {
+        return field_end(rule, at);
+    }
+    0
+}
+
 // The index of each row by the root CASE, and where its branches stand; 0 where no index is found so.
 fn root_values(rule: &[u8], table: &[u8], t: Table, work: &[u8], values: &mut [u16]) -> usize
     requires { ⌜ RootAsks t (now work) (now table) ⌝ }
@@ -53,7 +84,7 @@ fn root_values(rule: &[u8], table: &[u8], t: Table, work: &[u8], values: &mut [u
         Strategy::InfallibleExprOrNull => 0,
         Strategy::ScalarOrScalar => root_steps(rule, at, table, t, work, values),
         Strategy::ExpressionOrExpression => root_steps(rule, at, table, t, work, values),
-        Strategy::WithExprScalarLookupTable => 0,
+        Strategy::WithExprScalarLookupTable => root_keys(rule, at, table, t, work, values),
     }
 }
 

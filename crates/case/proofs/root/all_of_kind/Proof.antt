@@ -1,41 +1,14 @@
+-- `all_of_kind` looks at the classes from the last on. The loop's invariant: what is left gives the answer.
+use native.Mathlib.Omega.{arith}
+use Rattle.case.proofs.RootLaws.{KindsLeft, kinds-start, kinds-differ, kinds-less, kinds-end}
 use Rattle.case.proofs.root.all_of_kind.Statement.{statement}
 use Rattle.case.proofs.root.all_of_kind.Tie as tie
-use Rattle.case.proofs.root.all_of_kind.Reads as reads
-use Rattle.case.proofs.root.all_of_kind.Lts as lts
 
 abbrev Inv-loop : tie.InvT-loop
-Inv-loop kinds count kind left₀ left = ?
+Inv-loop kinds count kind left₀ left = KindsLeft kinds kind count left
 
 abbrev μ-loop : tie.MeasureT-loop
-μ-loop kinds count kind left₀ left = ?
-
--- src/root.rt:66:5
-loop-holds : tie.Need-loop-holds Inv-loop μ-loop
-loop-holds c = ?
-
--- src/root.rt:67:12
-shared-slice-read-if1 : tie.Need-shared-slice-read-if1 Inv-loop μ-loop
-shared-slice-read-if1 c = ?
-
--- src/root.rt:68:13
-returns : tie.Need-returns Inv-loop μ-loop
-returns c = ?
-
--- src/root.rt:70:9
-sub-left : tie.Need-sub-left Inv-loop μ-loop
-sub-left c = ?
-
--- src/root.rt:66:5
-loop-less : tie.Need-loop-less Inv-loop μ-loop
-loop-less c = ?
-
--- src/root.rt:66:5
-loop-again : tie.Need-loop-again Inv-loop μ-loop
-loop-again c = ?
-
--- src/root.rt:61:1
-returns-2 : tie.Need-returns-2 Inv-loop μ-loop
-returns-2 c = ?
+μ-loop kinds count kind left₀ left = left
 
 pub all-of-kind-spec : {M : Type 1} → statement M
 all-of-kind-spec =
@@ -43,10 +16,10 @@ all-of-kind-spec =
     (tie.spec
     Inv-loop
     μ-loop
-    loop-holds
-    shared-slice-read-if1
-    returns
-    sub-left
-    loop-less
-    loop-again
-    returns-2)
+    (λ c. kinds-start)
+    (λ c. omega (arith, c .before .before .loop .inv .few, c .before .before .before .pre .0, c .before .before .before .pre .1))
+    (λ c. kinds-differ (c .before .before .before .loop .inv) (c .before .before .loop-test .taken) (c .if1 .taken))
+    (λ c. omega (arith, c .before .before .loop-test .taken))
+    (λ c. omega (arith, c .before .before .loop-test .taken))
+    (λ c. kinds-less (c .before .before .before .loop .inv) (c .before .before .loop-test .taken) (c .if1 .left))
+    (λ c. kinds-end (c .before .loop .inv) (omega (arith, c .loop-test .left))))
