@@ -189,10 +189,10 @@ module _ {rule table : List ℕ} {t : Table} {result : DataType} {classes kinds 
   pub classes-none : length classes ≡ 512 → length kinds ≡ 258 → length payloads ≡ 258 → ClassesGive rule table t result false classes kinds payloads
   classes-none a b c = record { classes-long = a; kinds-long = b; payloads-long = c; asks = λ h. absurd (false≢true h); right = λ h. absurd (false≢true h) }
 
-  pub classes-found : {place code count : ℕ} {to : DataType} {found : Bool} → t .rows ≤ 512 → code ≡ typeNumber result → 2 ≤ code → code ≤ 4 → RootGives rule table t classes place → (place ≡ 0 → ⊥)
-      → count ≡ byte rule 4 → count ≤ 255 → TypeGives rule 0 to → ResultsRead rule place (length rule) count to kinds payloads → found ≡ allOfKind kinds code (count + 1)
-      → ClassesGive rule table t result found classes kinds payloads
-  classes-found {place} {code} {count} {to} {found} rows code-is low high root there counted small types read found-is = record {
+  pub classes-found : {place at code count : ℕ} {to : DataType} {all : Bool} → t .rows ≤ 512 → code ≡ typeNumber result → 2 ≤ code → code ≤ 4 → RootGives rule table t classes place → (place ≡ 0 → ⊥) → place ≡ at
+      → count ≡ byte rule 4 → count ≤ 255 → TypeGives rule 0 to → ResultsRead rule at (length rule) count to kinds payloads → all ≡ allOfKind kinds code (count + 1) → all ≡ true
+      → ClassesGive rule table t result true classes kinds payloads
+  classes-found {place} {at} {code} {count} {to} {all} rows code-is low high root there at-is counted small types read′ all-is yes-all = record {
     classes-long = root .long;
     kinds-long = read .kinds-long;
     payloads-long = read .payloads-long;
@@ -202,22 +202,25 @@ module _ {rule table : List ℕ} {t : Table} {result : DataType} {classes kinds 
       kinds-long = read .kinds-long;
       payloads-long = read .payloads-long;
       number = (omega arith, omega arith);
-      each = λ i l. let x = root .each there i l in (omega (arith, x .few), of-kind h (getD classes i 0) (x .some) (x .few) ∙ code-is);
+      each = λ i l. let x = root .each there i l in (omega (arith, x .few), of-kind (getD classes i 0) (x .some) (x .few) ∙ code-is);
     };
-    right = λ h. record { right = λ e node i l. means h i l (root .each there i l) e node };
+    right = λ h. record { right = λ e node i l. means i l (root .each there i l) e node };
   }
     where
-      of-kind : found ≡ true → (c : ℕ) → 0 < c → c ≤ byte rule 4 + 1 → getD kinds c 0 ≡ code
-      of-kind h zero a b = absurd (omega arith)
-      of-kind h (suc j) a b = kind-at kinds code (count + 1) (sym found-is ∙ h) j (omega arith)
+      read : ResultsRead rule place (length rule) count to kinds payloads
+      read = subst (λ (x : ℕ). ResultsRead rule x (length rule) count to kinds payloads) (sym at-is) read′
 
-      means : found ≡ true → (i : ℕ) → i < t .rows → RootIndex rule table t place i (getD classes i 0) → (e : Expr) → NodeAt rule 0 (length rule) e 8
+      of-kind : (c : ℕ) → 0 < c → c ≤ byte rule 4 + 1 → getD kinds c 0 ≡ code
+      of-kind zero a b = absurd (omega arith)
+      of-kind (suc j) a b = kind-at kinds code (count + 1) (sym all-is ∙ yes-all) j (omega arith)
+
+      means : (i : ℕ) → i < t .rows → RootIndex rule table t place i (getD classes i 0) → (e : Expr) → NodeAt rule 0 (length rule) e 8
           → meaning rule table (valueAt kinds payloads (getD classes i 0)) ≡ eval e (rowIn table t i)
-      means h i l x e node = by (getD classes i 0) (x .some) (x .few) (x .is e node)
+      means i l x e node = by (getD classes i 0) (x .some) (x .few) (x .is e node)
         where
           by : (c : ℕ) → 0 < c → c ≤ byte rule 4 + 1 → RootTree rule table t place i c e → meaning rule table (valueAt kinds payloads c) ≡ eval e (rowIn table t i)
           by zero a b tree = absurd (omega arith)
           by (suc j) a b tree =
               read .held (tree .bs) (tree .els) 7 (rowIn table t i) table (tree .trees) (tree .counted ∙ sym counted) j (omega arith)
-              (inr (λ z. let k = of-kind h (suc j) a b in omega arith))
+              (inr (λ z. let k = of-kind (suc j) a b in omega arith))
               ∙ sym (tree .outcome to types)

@@ -1,8 +1,10 @@
 // Evaluation of a rule over a table, in a lent work buffer, into a lent output.
 use crate::answer::RunAnswer;
 use crate::case::expr;
+use crate::classes::write_classes;
 use crate::clear::clear;
 use crate::fits::fits_table;
+use crate::root::class_rows;
 use crate::rows::all_rows;
 use crate::write::write_answer;
 use rule::node::NodeRead;
@@ -11,10 +13,8 @@ use rule::read::read_rule;
 use scalar::types::DataType;
 use table::places::Table;
 use table::read::read;
-ghost use Prim.Native.Nat.{_≤_};
-ghost use lib.ListN.{length};
 ghost use Rattle.case.specs.Promise.{Evaluated};
-ghost use Rattle.case.specs.Readings.{ReadAsks, RowsGives};
+ghost use Rattle.case.specs.Readings.{ReadAsks, AnswerAsks, AnswerGives};
 
 // Least length of a full work buffer.
 const WORK_LEAST: usize = 65536;
@@ -55,18 +55,42 @@ pub(crate) fn evaluate_read(
     if work.len() < WORK_LEAST {
         return RunAnswer::Refused(14);
     }
-    evaluate_rows(rule, table, t, work);
     let result = r.result;
-    let answer = write_answer(rule, table, work, t.rows, result, nullable_of(rule), output);
+    let answer = answer_rows(rule, table, t, result, nullable_of(rule), work, output);
     clear(work);
     answer
 }
 
-// The rule's outcome at each row of the table, in the row's slot.
-fn evaluate_rows(rule: &[u8], table: &[u8], t: Table, work: &mut [u8])
-    requires { ⌜ (t .rows ≤ 512) × (65536 ≤ length (now work)) × (length (now table) ≤ 65536) ⌝ }
-    ensures { λ _. ⌜ RowsGives (now (rule .entry)) (now (table .entry)) t (now (work .entry)) (now (work .exit)) ⌝ }
+// The answer of all rows: by their classes where they have them, else by their slots.
+fn answer_rows(
+    rule: &[u8],
+    table: &[u8],
+    t: Table,
+    result: DataType,
+    nullable: bool,
+    work: &mut [u8],
+    output: &mut [u8],
+) -> RunAnswer
+    requires { ⌜ AnswerAsks (now rule) (now table) t result (now work) ⌝ }
+    ensures { λ r. ⌜ AnswerGives (now (rule .entry)) (now (table .entry)) t result nullable (now (work .entry)) (now (output .entry)) r (now (work .exit)) (now (output .exit)) ⌝ }
 {
-    all_rows(work, t.rows);
-    expr(rule, 0, rule.len(), table, t, work, t.rows, 8);
+    let rows = t.rows;
+    all_rows(work, rows);
+    let mut classes = [0u16; 512];
+    let mut kinds = [0u8; 258];
+    let mut payloads = [0u64; 258];
+    if class_rows(
+        rule,
+        table,
+        t,
+        result,
+        work,
+        &mut classes,
+        &mut kinds,
+        &mut payloads,
+    ) {
+        return write_classes(rows, result, nullable, &classes, &kinds, &payloads, output);
+    }
+    expr(rule, 0, rule.len(), table, t, work, rows, 8);
+    write_answer(rule, table, work, rows, result, nullable, output)
 }

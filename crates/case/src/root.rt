@@ -14,7 +14,9 @@ use scalar::types::DataType;
 use table::places::Table;
 ghost use mathlib.Core.Path.{_≡_};
 ghost use Prim.Native.Nat.{ℕ, _≤_, _<_};
+ghost use mathlib.Core.Logic.{_⊎_};
 ghost use lib.ListN.{length, getD};
+ghost use Rattle.rule.specs.Walks.{EndGives};
 ghost use Rattle.case.specs.Classes.{RootAsks, RootSteps, RootKeys, RootGives, allOfKind, ClassesGive};
 
 // A CASE's tag.
@@ -88,6 +90,16 @@ fn root_values(rule: &[u8], table: &[u8], t: Table, work: &[u8], values: &mut [u
     }
 }
 
+// Where the branches of the root CASE stand, whose children stand at a place: behind its base, if it has one.
+fn branches_at(rule: &[u8], at: usize) -> usize
+    ensures { λ r. ⌜ (r ≡ at) ⊎ EndGives (now (rule .entry)) at r ⌝ }
+{
+    if byte_at(rule, 3) % 2 == 1 {
+        return field_end(rule, at);
+    }
+    at
+}
+
 // Whether the first so many classes, from 1, are all of a kind.
 fn all_of_kind(kinds: &[u8], count: usize, kind: u8) -> bool
     requires { ⌜ (length (now kinds) ≡ 258) × (count < 258) ⌝ }
@@ -125,11 +137,19 @@ pub(crate) fn class_rows(
     if 4 < code {
         return false;
     }
-    let place = root_values(rule, table, t, work, classes);
-    if place == 0 {
-        return false;
-    }
+    let at = children_at(rule, 0);
+    let place = branches_at(rule, at);
     let count = byte_at(rule, 4) as usize;
     read_results(rule, place, rule.len(), count, type_of(rule, 0), kinds, payloads);
-    all_of_kind(kinds, count + 1, code)
+    if !all_of_kind(kinds, count + 1, code) {
+        return false;
+    }
+    let found = root_values(rule, table, t, work, classes);
+    if found == 0 {
+        return false;
+    }
+    if found != place {
+        return false;
+    }
+    true
 }
