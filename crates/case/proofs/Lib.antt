@@ -33,6 +33,7 @@ pub mod LookUpLaws
 pub mod LookUpTrees
 pub mod LookUpColumnLaws
 pub mod KeyLaws
+pub mod LookUpCase
 pub mod ResultLaws
 pub mod StepLaws
 pub mod EvaluateLaws
