@@ -33,9 +33,10 @@ pub mod ColumnSlotLaws
 pub mod LookUpLaws
 pub mod LookUpTrees
 pub mod LookUpColumnLaws
+pub mod KeyLaws
+pub mod LookUpCase
 pub mod ResultLaws
 pub mod StepLaws
-pub mod KeyLaws
 pub mod SpanLaws
 pub mod RootLaws
 pub mod EvaluateLaws

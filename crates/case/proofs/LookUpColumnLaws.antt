@@ -43,7 +43,7 @@ use Rattle.case.specs.Choosing.{trueOutcome}
 use Rattle.case.specs.Frame.{Rows}
 use Rattle.case.specs.LookUp.{KeyedGive}
 use Rattle.case.specs.LookUpTables.{sameKey, found, valueAt, keyIndex, Keys, EachOnce}
-use Rattle.case.specs.LookUpColumns.{numberHint, textHint, outcomeHint, Hinted, numberKey, NumberOf, NumbersRead, numberFound, NumberTable, NumberRow, TextRow, ColumnKeyed, BaseGives}
+use Rattle.case.specs.LookUpColumns.{numberHint, textHint, outcomeHint, Hinted, numberKey, NumberOf, NumbersRead, numberFound, NumberTable, NumberRow, TextTable, TextRow, ColumnKeyed, BaseGives}
 use Rattle.case.specs.Steps.{KeyAt, KeysAt, RowsIndexed}
 use Rattle.case.proofs.LookUpLaws.{found-same, found-none, found-below, same-one, null-first}
 use Rattle.case.proofs.CellLaws.{cell-found}
@@ -278,20 +278,19 @@ pub hints-all : {hint : ℕ → ℕ} {k size : ℕ} {hints : List ℕ} → k ≤
 hints-all {hint} {k} {size} {hints} a b s = let z : k ≡ size = omega arith in subst (λ (m : ℕ). Hinted hint m hints) z s
 
 -- the index of a text, by its hint
-module _ (text : List ℕ) {rule table kinds keys indices hints : List ℕ} {size otherwise : ℕ} (t : Keys kinds keys indices size otherwise) (once : EachOnce rule table kinds keys size)
-    (hinted : Hinted (λ k. outcomeHint (meaning rule table (valueAt kinds keys k))) size hints) where
+module _ (text : List ℕ) {rule table kinds keys indices hints : List ℕ} {size otherwise : ℕ} (t : TextTable rule table kinds keys indices hints size otherwise) where
   pub text-found-nowhere : {p h : ℕ} → p ≡ textHint text → h ≡ getD hints p 0 → h ≡ 0 → otherwise ≡ keyIndex rule table kinds keys indices size otherwise (entry (utf8 text))
   text-found-nowhere hint-is is none =
       found-nowhere (λ k. sameKey (entry (utf8 text)) (meaning rule table (valueAt kinds keys k))) (λ k. getD indices k 0) otherwise size
       (λ k l. fails (sameKey (entry (utf8 text)) (meaning rule table (valueAt kinds keys k)))
-      (λ e. hinted .each k l (ap (λ (o : Outcome). getD hints (outcomeHint o) 0) (sym (same-one (entry (utf8 text)) (meaning rule table (valueAt kinds keys k)) e)) ∙ ap (λ (y : ℕ). getD hints y 0) (sym hint-is) ∙ sym is ∙ none)))
+      (λ e. t .hinted .each k l (ap (λ (o : Outcome). getD hints (outcomeHint o) 0) (sym (same-one (entry (utf8 text)) (meaning rule table (valueAt kinds keys k)) e)) ∙ ap (λ (y : ℕ). getD hints y 0) (sym hint-is) ∙ sym is ∙ none)))
 
   pub text-found-here : (p : ℕ) {h : ℕ} {b : Bool} → h ≡ getD hints p 0 → (h ≡ 0 → ⊥) → b ≡ sameKey (entry (utf8 text)) (meaning rule table (valueAt kinds keys (h - 1))) → b ≡ true
       → getD indices (h - 1) 0 ≡ keyIndex rule table kinds keys indices size otherwise (entry (utf8 text))
   text-found-here p {h} is some same holds =
-      let f = hint-few p hinted is in
+      let f = hint-few p (t .hinted) is in
       found-at (λ k. sameKey (entry (utf8 text)) (meaning rule table (valueAt kinds keys k))) (λ k. getD indices k 0) otherwise size (h - 1) (omega arith) (sym same ∙ holds)
-      (λ j l. ap (λ (o : Outcome). sameKey o (meaning rule table (valueAt kinds keys j))) (same-one (entry (utf8 text)) (meaning rule table (valueAt kinds keys (h - 1))) (sym same ∙ holds)) ∙ once .unlike j (h - 1) l (omega arith))
+      (λ j l. ap (λ (o : Outcome). sameKey o (meaning rule table (valueAt kinds keys j))) (same-one (entry (utf8 text)) (meaning rule table (valueAt kinds keys (h - 1))) (sym same ∙ holds)) ∙ t .once .unlike j (h - 1) l (omega arith))
 
 -- the index of a row of text
 module _ {rule table validity offsets texts kinds keys indices : List ℕ} {size otherwise row : ℕ} {b : Bool} (valid : b ≡ validIn validity row) where

@@ -35,9 +35,11 @@ use Rattle.table.specs.declared.places.ColumnPlace.{ColumnPlace}
 use Rattle.table.specs.Column as columns
 use Rattle.table.specs.Places.{columnIn}
 use Rattle.case.specs.Evaluation.{resultAt, indexed}
+use Rattle.case.specs.Results.{elseKnown, resultKnown, indexKnown}
 use Rattle.case.specs.LookUp.{LookedUp}
 use Rattle.case.specs.LookUpColumns.{KeyedRow, ColumnKeyed, BaseIndex, BaseGives}
 use Rattle.case.specs.LookUpTables.{sameKey, found, valueAt, keyIndex, whenIndex, baseIndex, TableOf, literalEntry, entryAt, LiteralsRead, MappedBy}
+use Rattle.case.proofs.CaseLaws.{result-else}
 use Rattle.case.proofs.LookUpLaws.{never, found-same, found-none, found-below, null-first}
 
 -- ---- literals
@@ -328,12 +330,6 @@ branch-at (branch w t bs) rest row b other f otherwise k l e h =
           result-is = ap (λ (x : Bool). cond x (eval t row) (evalBranches bs row (equalsTest b) other)) q ∙ later .result-is;
         }
 
--- ELSE stands behind all branches
-behind-all : (bs : Branches) (row : Row) (other : Outcome) → resultAt bs row other (branchCount bs) ≡ other
-unfolding branchCount resultAt
-behind-all noMore row other = refl
-behind-all (branch w t bs) row other = behind-all bs row other
-
 -- all that stand there are literals
 all-literal : (bs : Branches) (es : List Expr) → allLiterals bs ≡ true → treesLiteral es ≡ true → treesLiteral (branchTrees bs ++ es) ≡ true
 unfolding allLiterals
@@ -354,6 +350,24 @@ serves-told bs els p =
     let (three, else-serves) = both-hold (ltb 1 (branchCount bs) && allLiterals bs && someWhenValue bs) (elseServes (resultType bs) els) p in
     let (two, some) = both-hold (ltb 1 (branchCount bs) && allLiterals bs) (someWhenValue bs) three in
     (both-hold (ltb 1 (branchCount bs)) (allLiterals bs) two .1, else-serves)
+
+-- what stands behind each index is known without the row
+results-known : (bs : Branches) (els : Optional) → allLiterals bs ≡ true → elseKnown els ≡ true → (k : ℕ) → resultKnown bs els k ≡ true
+unfolding allLiterals resultKnown
+results-known noMore els l e zero = e
+results-known noMore els l e (suc k) = refl
+results-known (branch w t bs) els l e zero = both-hold (isLiteral w) (isLiteral t) (both-hold (isLiteral w && isLiteral t) (allLiterals bs) l .0) .1
+results-known (branch w t bs) els l e (suc k) = results-known bs els (both-hold (isLiteral w && isLiteral t) (allLiterals bs) l .1) e k
+
+else-known : (to : DataType) (els : Optional) → elseServes to (dropNull els) ≡ true → elseKnown els ≡ true
+else-known to absent p = refl
+else-known to (present e) p = else-literal to e p
+
+pub served-known : (bs : Branches) (els : Optional) → tableServes bs (dropNull els) ≡ true → (c : ℕ) → indexKnown bs els c ≡ true
+served-known bs els serves zero = refl
+served-known bs els serves (suc k) =
+    let (all, else-serves) = serves-told bs (dropNull els) serves in
+    results-known bs els all (else-known (resultType bs) els else-serves) k
 
 -- the entries of the literals, and a base's index among those of the WHENs
 abbrev lits : Branches → Optional → ℕ → Entry
@@ -415,7 +429,7 @@ module _ {rule : List ℕ} (table : List ℕ) {kinds payloads : List ℕ} {at en
             let n : index-of bs els count null ≡ 2 * count =
             found-none (λ i. isTrue (equalEntry null (lits bs els (2 * i)))) (λ i. 2 * i + 1) (2 * count) count 0 (λ i. null-first (entry (lits bs els (2 * i)))) in
             let z : index-of bs els count null / 2 + 1 ≡ suc (branchCount bs) = omega arith in
-            sym (ap (indexed bs row other) z ∙ behind-all bs row other)
+            sym (ap (indexed bs row other) z ∙ result-else bs row other)
         go (boolean x) r = by (boolean x) r
         go (int32 x) r = by (int32 x) r
         go (int64 x) r = by (int64 x) r

@@ -107,6 +107,11 @@ pub record LiteralsRead (rule : List ℕ) (at end most : ℕ) (kinds payloads : 
   pub held : (es : List Expr) (depth : ℕ) → TreesAt rule at end es depth → treesLiteral es ≡ true → (table : List ℕ) (i : ℕ) → i < most
       → meaning rule table (valueAt kinds payloads i) ≡ entry (entryAt es i)
 
+-- the literals at a place, and the table of the WHENs
+pub record TableRead (rule : List ℕ) (at end : ℕ) (table : List ℕ) (n : ℕ) (kinds payloads key-kinds keys indices : List ℕ) (size : ℕ) : Type 0 where
+  pub literals : LiteralsRead rule at end (2 * n + 1) kinds payloads
+  pub whens : TableOf rule table kinds payloads n (2 * n) key-kinds keys indices size
+
 -- the value of a row has the kind and the payload at the index of the row's base
 abbrev pub MappedBy : List ℕ → List ℕ → List ℕ → List ℕ → (Outcome → ℕ) → ℕ → List ℕ → ℕ → Value → Type 0
 MappedBy rule table kinds payloads search otherwise w r v =

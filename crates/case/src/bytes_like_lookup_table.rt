@@ -7,8 +7,8 @@ ghost use lib.ListN.{length, getD};
 ghost use Rattle.scalar.specs.Entry.{entry, utf8};
 ghost use Rattle.scalar.specs.Text.{sameBytes};
 ghost use Rattle.scalar.specs.Value.{meaning, placeText, valueOf};
-ghost use Rattle.case.specs.LookUpTables.{Keys, EachOnce, sameKey, keyIndex, valueAt};
-ghost use Rattle.case.specs.LookUpColumns.{textHint, outcomeHint, Hinted};
+ghost use Rattle.case.specs.LookUpTables.{Keys, sameKey, keyIndex, valueAt};
+ghost use Rattle.case.specs.LookUpColumns.{textHint, outcomeHint, Hinted, TextTable};
 
 // Whether a text is the bytes of a place. Where they are all there, the sizes tell most texts apart.
 fn is_place(text: &[u8], bytes: &[u8], start: usize, size: usize) -> bool
@@ -123,8 +123,7 @@ pub(crate) fn text_index(
     otherwise: usize,
     text: &[u8],
 ) -> usize
-    requires { ⌜ Keys (now kinds) (now keys) (now indices) size otherwise × EachOnce (now rule) (now table) (now kinds) (now keys) size ⌝ }
-    requires { ⌜ Hinted (λ k. outcomeHint (meaning (now rule) (now table) (valueAt (now kinds) (now keys) k))) size (now hints) ⌝ }
+    requires { ⌜ TextTable (now rule) (now table) (now kinds) (now keys) (now indices) (now hints) size otherwise ⌝ }
     ensures { λ r. ⌜ r ≡ keyIndex (now (rule .entry)) (now (table .entry)) (now (kinds .entry)) (now (keys .entry)) (now (indices .entry)) size otherwise (entry (utf8 (now (text .entry)))) ⌝ }
 {
     let h = hints[text_hint(text)] as usize;

@@ -5,6 +5,7 @@ use crate::binary::compare_value;
 use crate::builder::ResultBuilder;
 use crate::cells::cells_or_null;
 use crate::cells::fill_cells;
+use crate::column_lookup::lookup_values;
 use crate::literal::fill_literal;
 use crate::literal::scalar_rows;
 use crate::literal_lookup_table::look_up;
@@ -398,6 +399,11 @@ fn with_lookup_table(
     let at = children_at(rule, start);
     let first = field_end(rule, at);
     let to = type_of(rule, start);
+    let mut values = [0u16; 512];
+    if lookup_values(rule, at, end, count, table, t, work, n, &mut values) {
+        start_results(rule, first, end, count, to, work, n, &values);
+        return;
+    }
     expr(rule, at, first, table, t, work, n, depth);
     look_up(rule, first, end, count, to, table, work, n);
 }

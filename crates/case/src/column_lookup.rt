@@ -2,8 +2,7 @@
 use crate::bytes_like_lookup_table::read_hints;
 use crate::bytes_like_lookup_table::text_index;
 use crate::keys::column_keys;
-use crate::literal_lookup_table::fill_table;
-use crate::literal_lookup_table::read_literals;
+use crate::literal_lookup_table::read_table;
 use crate::primitive_lookup_table::number_index;
 use crate::primitive_lookup_table::read_numbers;
 use crate::rows::row_at;
@@ -274,23 +273,17 @@ fn base_values(
     let otherwise = 2 * whens;
     let mut literal_kinds = [0u8; 512];
     let mut payloads = [0u64; 512];
-    read_literals(
-        rule,
-        at,
-        end,
-        otherwise + 1,
-        &mut literal_kinds,
-        &mut payloads,
-    );
     let mut kinds = [0u8; 256];
     let mut keys = [0u64; 256];
     let mut indices = [0u16; 256];
-    let size = fill_table(
+    let size = read_table(
         rule,
+        at,
+        end,
         table,
-        &literal_kinds,
-        &payloads,
         whens,
+        &mut literal_kinds,
+        &mut payloads,
         &mut kinds,
         &mut keys,
         &mut indices,

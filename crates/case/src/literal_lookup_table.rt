@@ -25,13 +25,13 @@ ghost use Rattle.scalar.specs.Value.{meaning, valueOf};
 ghost use Rattle.case.specs.Frame.{Fillable, Filled};
 ghost use Rattle.case.specs.LookUp.{LookedUp};
 ghost use Rattle.case.specs.LookUpBooleans.{BooleansOf};
-ghost use Rattle.case.specs.LookUpTables.{Keys, EachOnce, TableOf, Added, LiteralsRead, MappedBy, keyIndex, baseIndex};
+ghost use Rattle.case.specs.LookUpTables.{Keys, EachOnce, TableOf, Added, LiteralsRead, TableRead, MappedBy, keyIndex, baseIndex};
 
 // The kind of a failure.
 const FAILED: u8 = 7;
 
 // The literals at a place, at most so many, and behind them a failure.
-pub(crate) fn read_literals(
+fn read_literals(
     rule: &[u8],
     at: usize,
     end: usize,
@@ -130,7 +130,7 @@ fn add_key(
 }
 
 // The table of so many WHENs: how many keys there are.
-pub(crate) fn fill_table(
+fn fill_table(
     rule: &[u8],
     table: &[u8],
     literal_kinds: &[u8],
@@ -165,6 +165,36 @@ pub(crate) fn fill_table(
         left -= 1;
     }
     size
+}
+
+// The literals at a place, and the table of so many WHENs among them: how many keys there are.
+pub(crate) fn read_table(
+    rule: &[u8],
+    at: usize,
+    end: usize,
+    table: &[u8],
+    count: usize,
+    literal_kinds: &mut [u8],
+    payloads: &mut [u64],
+    kinds: &mut [u8],
+    keys: &mut [u64],
+    indices: &mut [u16],
+) -> usize
+    requires { ⌜ (length (now «literal_kinds») ≡ 512) × (length (now payloads) ≡ 512) × (count < 256) × ((i : ℕ) → getD (now «literal_kinds») i 0 ≡ 0) ⌝ }
+    requires { ⌜ Keys (now kinds) (now keys) (now indices) 0 0 ⌝ }
+    ensures { λ r. ⌜ TableRead (now (rule .entry)) at end (now (table .entry)) count (now («literal_kinds» .exit)) (now (payloads .exit)) (now (kinds .exit)) (now (keys .exit)) (now (indices .exit)) r ⌝ }
+{
+    read_literals(rule, at, end, 2 * count + 1, literal_kinds, payloads);
+    fill_table(
+        rule,
+        table,
+        literal_kinds,
+        payloads,
+        count,
+        kinds,
+        keys,
+        indices,
+    )
 }
 
 // The same index by the tables of Boolean and of number keys, where the value is one.
@@ -250,23 +280,17 @@ pub(crate) fn look_up(
     let otherwise = 2 * whens;
     let mut literal_kinds = [0u8; 512];
     let mut payloads = [0u64; 512];
-    read_literals(
-        rule,
-        at,
-        end,
-        otherwise + 1,
-        &mut literal_kinds,
-        &mut payloads,
-    );
     let mut kinds = [0u8; 256];
     let mut keys = [0u64; 256];
     let mut indices = [0u16; 256];
-    let size = fill_table(
+    let size = read_table(
         rule,
+        at,
+        end,
         table,
-        &literal_kinds,
-        &payloads,
         whens,
+        &mut literal_kinds,
+        &mut payloads,
         &mut kinds,
         &mut keys,
         &mut indices,

@@ -6,6 +6,7 @@ use borrow.Author.Needs.{needs}
 use denote.Ref.{now}
 use Rattle.case.proofs.FrameLaws.{rows-to, rows-small, framed-fillable, framed-kept, framed-below}
 use Rattle.case.proofs.ExprLaws.{expr-none, expr-behind, expr-column, expr-literal, expr-case, expr-unary, expr-binary, unary-gives, binary-gives, against-none, against-value, against-asks, against-next, against-rows, back-long}
+use Rattle.case.proofs.LookUpCase.{keyed-case}
 use Rattle.case.proofs.CaseLaws.{shape-1, shape-2, shape-3, shape-4, shape-5, shape-6, case-none, case-behind, case-by, scalar-gives, column-gives, lookup-gives, no-expr-gives, single-gives, no-expr-steps, single-steps, scalar-steps, with-expr-gives, by-base-gives}
 use Rattle.case.proofs.ChooseLaws.{open-rows, open-self, step-asks, step-turn, turn-room, turn-asks, turn-long, turn-open, turn-gives, Chosen, choose-none, choose-ahead, choose-end, choose-more}
 use Rattle.case.proofs.TakeLaws.{picked-room, picked-asks, picked-next, next-asks, next-fillable, next-room, next-takes, then-known, then-takes, else-none, else-known, else-next, else-again, else-takes, Taken, start-framed, start-done, take-none, take-framed, take-more, take-end}
@@ -73,6 +74,7 @@ use Rattle.case.proofs.cells.cells_or_null.Reads as cells-or-null-reads
 use Rattle.case.proofs.cells.fill_cells.Reads as fill-cells-reads
 use Rattle.case.proofs.literal.fill_literal.Reads as fill-literal-reads
 use Rattle.case.proofs.literal.scalar_rows.Reads as scalar-rows-reads
+use Rattle.case.proofs.column_lookup.lookup_values.Reads as lookup-values-reads
 use Rattle.case.proofs.literal_lookup_table.look_up.Reads as look-up-reads
 use Rattle.case.proofs.merge.else_values.Reads as else-values-reads
 use Rattle.case.proofs.results.start_results.Reads as start-results-reads
@@ -826,6 +828,10 @@ pub +against+binary+branches+by-base+case+case-column-or-null+case-when-no-expr+
       field-end-reads.Learnt,
       type-of-reads.Asked,
       type-of-reads.Learnt,
+      lookup-values-reads.Asked,
+      lookup-values-reads.Learnt,
+      start-results-reads.Asked,
+      start-results-reads.Learnt,
       expr-below t,
       expr.Post,
       look-up-reads.Asked,
@@ -839,7 +845,13 @@ pub +against+binary+branches+by-base+case+case-column-or-null+case-when-no-expr+
     (λ c κs. tt)
     (λ c κs. tt)
     (λ c κs. tt)
-    (λ c κs. let q = c .before .before .before .before .before .before .before .before .before .pre .0 in (omega arith, framed-below (c .before .before .before .before .before .before .before .before .before .pre .1) (c .before .before .before .before .before .before .before .before .before .args .depth) (omega arith)))
-    (λ c κs. framed-fillable (framed-kept (c .before .before .before .before .before .before .before .before .before .before .before .before .before .pre .1) (c .before .before .before .before .before .before .before .before .before .before .before .before .before .args .depth + 1) (omega arith) _ (c .before .before .before .expr .ensures .long) (c .before .before .before .expr .ensures .low)) (omega arith))
+    (λ c. search needs)
+    (λ c κs. let f = c .before .before .before .before .before .before .before .before .before .before .pre .1 in let k = f .list-ok .few in let r = f .room in ((f .list-ok, f .small, omega arith), (refl, f .short)))
+    (λ c. search needs)
+    (λ c κs. let l = c .before .before .before .before .lookup-values .ensures .long in (framed-fillable (c .before .before .before .before .before .before .before .before .before .before .before .before .before .before .before .pre .1) (omega arith), omega arith))
+    (λ c. c .before .before .start-results .ensures .long)
+    (λ c. keyed-case _ (c .before .before .before .before .before .before .before .before .before .before .before .before .before .before .before .before .before .before .pre .1 .list-ok .few) (c .before .before .before .before .before .before .before .before .before .before .before .before .children-at .ensures) (c .before .before .before .before .before .before .before .before .before .before .before .field-end .ensures) (c .before .before .before .before .before .before .before .before .before .before .before .before .before .byte-at .ensures) (c .before .before .before .before .before .before .before .before .before .before .type-of .ensures) (c .before .before .before .before .before .before .before .lookup-values .ensures) (c .before .before .before .before .before .if2 .taken) (c .before .before .start-results .ensures))
+    (λ c κs. let q = c .before .before .before .before .before .before .before .before .before .before .before .before .before .before .pre .0 in (omega arith, framed-below (c .before .before .before .before .before .before .before .before .before .before .before .before .before .before .pre .1) (c .before .before .before .before .before .before .before .before .before .before .before .before .before .before .args .depth) (omega arith)))
+    (λ c κs. framed-fillable (framed-kept (c .before .before .before .before .before .before .before .before .before .before .before .before .before .before .before .before .before .before .pre .1) (c .before .before .before .before .before .before .before .before .before .before .before .before .before .before .before .before .before .before .args .depth + 1) (omega arith) _ (c .before .before .before .expr .ensures .long) (c .before .before .before .expr .ensures .low)) (omega arith))
     (λ c. c .before .before .look-up .ensures .long ∙ c .before .before .before .before .before .before .expr .ensures .long)
-    (λ c. lookup-gives (c .before .before .before .before .before .before .before .before .before .before .before .before .before .before .before .before .pre .1 .list-ok .few) (c .before .before .before .before .before .before .before .before .before .before .children-at .ensures) (c .before .before .before .before .before .before .before .before .before .field-end .ensures) (c .before .before .before .before .before .before .expr .ensures) (c .before .before .before .before .before .before .before .before .before .before .before .byte-at .ensures) (c .before .before .before .before .before .before .before .before .type-of .ensures) (c .before .before .look-up .ensures))
+    (λ c. lookup-gives (c .before .before .before .before .before .before .before .before .before .before .before .before .before .before .before .before .before .before .before .before .before .pre .1 .list-ok .few) (c .before .before .before .before .before .before .before .before .before .before .before .before .before .before .before .children-at .ensures) (c .before .before .before .before .before .before .before .before .before .before .before .before .before .before .field-end .ensures) (c .before .before .before .before .before .before .expr .ensures) (c .before .before .before .before .before .before .before .before .before .before .before .before .before .before .before .before .byte-at .ensures) (c .before .before .before .before .before .before .before .before .before .before .before .before .before .type-of .ensures) (c .before .before .look-up .ensures))
