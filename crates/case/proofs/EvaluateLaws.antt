@@ -34,10 +34,11 @@ use Rattle.case.specs.Fitting.{FitsGives}
 use Rattle.case.specs.Answer.{columnOf, columnBytes, textLength}
 use Rattle.case.specs.Run.{rowsFrom, outcomes, entriesOf, textMost, written, writtenAs, runRead, run, zeros, workAfter, outputAfter}
 use Rattle.case.specs.Promise.{runAnswer, callRun, Evaluated}
-use Rattle.case.specs.Frame.{AllRows}
-use Rattle.case.specs.Write.{rowOutcomes, rowsRun, RowsOfType, WriteAsks, WriteGives}
+use Rattle.case.specs.Frame.{slotAt, AllRows}
+use Rattle.case.specs.Write.{rowOutcomes, rowsRun, RowsOfType, WriteAsks, WriteGives, classValue}
 use Rattle.case.specs.Evaluation.{Framed, Done, ExprRight}
-use Rattle.case.specs.Readings.{ReadAsks, RowsRight, RowsGives}
+use Rattle.case.specs.Readings.{ReadAsks, RowsRight, AnswerAsks, AnswerGives}
+use Rattle.case.specs.Classes.{RootAsks, ClassesGive}
 use Rattle.case.proofs.RunLaws.{run-is, run-rows, entries-refused}
 use Rattle.case.proofs.RowsTyped.{run-sound}
 use Rattle.case.proofs.RowsLaws.{all-rise, all-listed}
@@ -87,11 +88,34 @@ both-read {rule} {table} {a} {b} g zero-a reads zero-b =
 
 -- ---- the rows
 
-pub rows-framed : {table : List ℕ} {t : Places} {w w′ : List ℕ} → (t .rows ≤ 512) × (65536 ≤ length w) × (length table ≤ 65536) → AllRows (t .rows) w w′ → Framed table t w′ (t .rows) 8
-rows-framed (few, room, short) all = record { list-ok = all-rise all few; small = few; room = (let l = all .long in omega arith); short = omega arith }
+module _ {rule table : List ℕ} {t : Places} {result : DataType} {w w₁ : List ℕ} (asks : AnswerAsks rule table t result w) (all : AllRows (t .rows) w w₁) where
+  pub root-asks : RootAsks t w₁ table
+  root-asks = record { few = asks .few; room = (let l = all .long in let r = asks .room in omega arith); short = asks .table-short; rows-are = all .rows-are }
 
-pub rows-given : {rule table : List ℕ} {t : Places} {w w₁ w₂ : List ℕ} → AllRows (t .rows) w w₁ → Done (ExprRight rule 0 (length rule) table t 8) w₁ (t .rows) w₂ → RowsGives rule table t w w₂
-rows-given all d = record { long = d .long ∙ all .long; here = record { right = λ e node i h. d .here i (all-listed all i h) .is e node } }
+  pub rows-framed : Framed table t w₁ (t .rows) 8
+  rows-framed = record { list-ok = all-rise all (asks .few); small = asks .few; room = (let l = all .long in let r = asks .room in omega arith); short = (let s = asks .table-short in omega arith) }
+
+  -- the rows by their classes
+  pub by-classes : {n found : Bool} {classes kinds payloads output output′ : List ℕ} {r : RunAnswer} → ClassesGive rule table t result found classes kinds payloads → found ≡ true
+      → ((rule table : List ℕ) → WriteGives rule table (classValue classes kinds payloads) (t .rows) result n output r output′) → AnswerGives rule table t result n w output r w₁ output′
+  by-classes {classes = classes} {kinds} {payloads} c is wrote = record { long = all .long; value = classValue classes kinds payloads; right = c .right is; wrote = wrote rule table }
+
+  -- the rows by their slots
+  module _ {w₂ : List ℕ} (d : Done (ExprRight rule 0 (length rule) table t 8) w₁ (t .rows) w₂) where
+    slots-right : RowsRight rule table t (slotAt w₂)
+    slots-right = record { right = λ e node i h. d .here i (all-listed all i h) .is e node }
+
+    pub write-asks : WriteAsks rule table w₂ (t .rows) result
+    write-asks = record {
+      few = asks .few;
+      room = (let k = d .long in let l = all .long in let r = asks .room in omega arith);
+      rule-short = asks .rule-short;
+      table-short = asks .table-short;
+      each = asks .typed (slotAt w₂) slots-right;
+    }
+
+    pub by-slots : {n : Bool} {output output′ : List ℕ} {r : RunAnswer} → WriteGives rule table (slotAt w₂) (t .rows) result n output r output′ → AnswerGives rule table t result n w output r w₂ output′
+    by-slots wrote = record { long = d .long ∙ all .long; value = slotAt w₂; right = slots-right; wrote = wrote }
 
 -- ---- a rule and a table that were read
 
@@ -138,9 +162,6 @@ late-work (ok l) work h = refl
 module _ {rule table : List ℕ} {a : NodeRead} {t : Places} (bytes : Bytes rule) (table-bytes : Bytes table) (asks : ReadAsks rule a table t) where
   call-is : (work output : List ℕ) → callRun rule table work output ≡ runRead (asks .tree) (tableIn table t) (length work) (length output)
   call-is work output = run-is rule table (length work) (length output) (asks .tree) (tableIn table t) (asks .rule-reads) (asks .table-reads)
-
-  pub read-asks : (w : List ℕ) → 65536 ≤ length w → (t .rows ≤ 512) × (65536 ≤ length w) × (length table ≤ 65536)
-  read-asks w room = (table-few table (tableIn table t) (asks .table-reads), room, table-inv table (tableIn table t) (asks .table-reads) .few-bytes)
 
   module _ {seen-fits : Bool} (gives : FitsGives (a .seen) t seen-fits) where
     fits-is : seen-fits ≡ fits (asks .tree) (tableIn table t)
@@ -192,12 +213,12 @@ module _ {rule table : List ℕ} {a : NodeRead} {t : Places} (bytes : Bytes rule
             output-is = wrote .output-is ∙ ap (λ (x : Result (List ℕ)). outputAfter x output) (sym (run-rows-are w room));
           }
 
-      -- what writing asks of the slots
-      pub write-asks : {w w₁ : List ℕ} → 65536 ≤ length w → RowsGives rule table t w w₁ → WriteAsks rule table w₁ (t .rows) (a .result)
-      write-asks room rows = record {
+      -- what answering asks
+      pub answer-asks : {w : List ℕ} → 65536 ≤ length w → AnswerAsks rule table t (a .result) w
+      answer-asks room = record {
         few = table-few table (tableIn table t) (asks .table-reads);
-        room = (let l = rows .long in omega arith);
+        room = room;
         rule-short = accepted-node rule (asks .tree) bytes (asks .rule-reads) .few;
         table-short = table-inv table (tableIn table t) (asks .table-reads) .few-bytes;
-        each = rows-typed (rows .here);
+        typed = λ v rows. rows-typed rows;
       }

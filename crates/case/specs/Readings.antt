@@ -1,9 +1,11 @@
 -- A rule and a table that were read, and what their evaluation row by row promises (01, Where a call stops).
 use mathlib.Core.Path.{_≡_}
+use mathlib.Core.Bool.{Bool}
 use mathlib.Core.List.{List}
-use Prim.Native.Nat.{ℕ, _<_}
+use Prim.Native.Nat.{ℕ, _<_, _≤_}
 use lib.ListN.{length}
 use Rattle.layout.specs.Result.{ok}
+use Rattle.scalar.specs.declared.types.DataType.{DataType}
 use Rattle.scalar.specs.declared.value.Value.{Value}
 use Rattle.scalar.specs.Value.{meaning}
 use Rattle.rule.specs.declared.node.NodeRead.{NodeRead}
@@ -15,8 +17,9 @@ use Rattle.rule.specs.Node.{NodeAt}
 use Rattle.table.specs.declared.places.Table.{Table}
 use Rattle.table.specs.Reading.{readTable}
 use Rattle.table.specs.Places.{tableIn}
-use Rattle.case.specs.Frame.{slotAt}
+use Rattle.case.specs.declared.answer.RunAnswer.{RunAnswer}
 use Rattle.case.specs.Evaluation.{rowIn}
+use Rattle.case.specs.Write.{RowsOfType, WriteGives}
 
 -- what was read of a rule's and of a table's bytes
 pub record ReadAsks (rule : List ℕ) (a : NodeRead) (table : List ℕ) (t : Table) : Type 0 where
@@ -29,7 +32,17 @@ pub record ReadAsks (rule : List ℕ) (a : NodeRead) (table : List ℕ) (t : Tab
 pub record RowsRight (rule table : List ℕ) (t : Table) (v : ℕ → Value) : Type 0 where
   pub right : (e : Expr) → NodeAt rule 0 (length rule) e 8 → (i : ℕ) → i < t .rows → meaning rule table (v i) ≡ eval e (rowIn table t i)
 
--- the slots of the rows have these outcomes
-pub record RowsGives (rule table : List ℕ) (t : Table) (w w′ : List ℕ) : Type 0 where
+-- what answering all rows asks: a full work buffer, and that outcomes of whatever rule the bytes are, are of the answer's type
+pub record AnswerAsks (rule table : List ℕ) (t : Table) (result : DataType) (w : List ℕ) : Type 0 where
+  pub few : t .rows ≤ 512
+  pub room : 65536 ≤ length w
+  pub rule-short : length rule ≤ 4096
+  pub table-short : length table ≤ 65536
+  pub typed : (v : ℕ → Value) → RowsRight rule table t v → RowsOfType rule table v (t .rows) result
+
+-- and promises: the rows have these outcomes, and were written
+pub record AnswerGives (rule table : List ℕ) (t : Table) (result : DataType) (n : Bool) (w output : List ℕ) (r : RunAnswer) (w′ output′ : List ℕ) : Type 0 where
   pub long : length w′ ≡ length w
-  pub here : RowsRight rule table t (slotAt w′)
+  pub value : ℕ → Value
+  pub right : RowsRight rule table t value
+  pub wrote : WriteGives rule table value (t .rows) result n output r output′

@@ -13,9 +13,9 @@ use rule::walk::field_end;
 use scalar::types::DataType;
 use table::places::Table;
 ghost use mathlib.Core.Path.{_≡_};
-ghost use Prim.Native.Nat.{ℕ, _≤_, _<_};
-ghost use mathlib.Core.Logic.{_⊎_};
+ghost use Prim.Native.Nat.{ℕ, _%_, _<_};
 ghost use lib.ListN.{length, getD};
+ghost use Rattle.layout.specs.Bytes.{byte};
 ghost use Rattle.rule.specs.Walks.{EndGives};
 ghost use Rattle.case.specs.Classes.{RootAsks, RootSteps, RootKeys, RootGives, allOfKind, ClassesGive};
 
@@ -92,7 +92,7 @@ fn root_values(rule: &[u8], table: &[u8], t: Table, work: &[u8], values: &mut [u
 
 // Where the branches of the root CASE stand, whose children stand at a place: behind its base, if it has one.
 fn branches_at(rule: &[u8], at: usize) -> usize
-    ensures { λ r. ⌜ (r ≡ at) ⊎ EndGives (now (rule .entry)) at r ⌝ }
+    ensures { λ r. ⌜ (byte (now (rule .entry)) 3 % 2 ≡ 1 → EndGives (now (rule .entry)) at r) × ((byte (now (rule .entry)) 3 % 2 ≡ 1 → ⊥) → r ≡ at) ⌝ }
 {
     if byte_at(rule, 3) % 2 == 1 {
         return field_end(rule, at);
