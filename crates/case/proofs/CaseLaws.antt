@@ -27,7 +27,7 @@ use Rattle.rule.specs.AnswerWalks.{StrategyGives}
 use Rattle.rule.proofs.NodeLaws.{node-byte, node-deep, node-children, case-counted, trees-split, trees-one, trees-deeper}
 use Rattle.rule.proofs.WalkLaws.{nothing-behind, first-tree}
 use Rattle.table.specs.declared.places.Table.{Table}
-use Rattle.case.specs.declared.builder.ResultBuilder.{ResultBuilder}
+use Rattle.builder.specs.declared.ResultBuilder.{ResultBuilder}
 use Rattle.case.specs.declared.settle.Leave.{Leave}
 use Rattle.case.specs.declared.settle.Leave.the-variants.{NullBase, TrueWhen, EqualWhen, Rest}
 use Rattle.case.specs.declared.settle.Settled.{Settled}

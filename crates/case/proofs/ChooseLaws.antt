@@ -19,7 +19,7 @@ use Rattle.rule.specs.Node.{NodeAt}
 use Rattle.rule.specs.Walks.{branchTrees, TreesAt, EndGives, BehindGives}
 use Rattle.rule.proofs.WalkLaws.{first-tree}
 use Rattle.table.specs.declared.places.Table.{Table}
-use Rattle.case.specs.declared.builder.ResultBuilder.{ResultBuilder}
+use Rattle.builder.specs.declared.ResultBuilder.{ResultBuilder}
 use Rattle.case.specs.declared.settle.Leave.{Leave}
 use Rattle.case.specs.declared.settle.Leave.the-variants.{NullBase, TrueWhen, EqualWhen, Rest}
 use Rattle.case.specs.declared.settle.Settled.{Settled}

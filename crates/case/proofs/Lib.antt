@@ -2,7 +2,6 @@
 pub mod CasesHold
 pub mod RunLaws
 pub mod FitsLaws
-pub mod BuilderLaws
 pub mod SlotLaws
 pub mod RowsLaws
 pub mod TruthLaws

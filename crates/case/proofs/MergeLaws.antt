@@ -18,11 +18,11 @@ use Rattle.rule.specs.Walks.{branchTrees, optionalTrees, TreesAt, BehindGives}
 use Rattle.rule.proofs.NodeLaws.{trees-some}
 use Rattle.rule.proofs.WalkLaws.{branches-length}
 use Rattle.table.specs.declared.places.Table.{Table}
-use Rattle.case.specs.declared.builder.ResultBuilder.{ResultBuilder}
+use Rattle.builder.specs.declared.ResultBuilder.{ResultBuilder}
+use Rattle.builder.specs.Builder.{orElse}
 use Rattle.case.specs.declared.settle.Leave.{Leave}
 use Rattle.case.specs.declared.settle.Leave.the-variants.{Rest}
 use Rattle.case.specs.declared.settle.Settled.{Settled}
-use Rattle.case.specs.Builder.{orElse}
 use Rattle.case.specs.Frame.{slotAt, Listed}
 use Rattle.case.specs.Choosing.{classAt, heldBy, Open, Settles}
 use Rattle.case.specs.Evaluation.{Framed, Done, Ahead, rowIn, resultAt, indexed, TestFor, Sifts, BranchesIndex, BranchesRight, TakeRight, MergedRight, ElseValues, ElseGives}

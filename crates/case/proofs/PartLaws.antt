@@ -14,13 +14,13 @@ use borrow.Author.Tests.{le-leb, lt-ltb, ltb-true, leb-true, eqb-true}
 use Rattle.layout.specs.Result.{refused, ok}
 use Rattle.layout.proofs.TestLaws.{both-hold}
 use Rattle.layout.proofs.ResultLaws.{ok-injective, refused-not-ok}
-use Rattle.case.specs.declared.builder.ResultBuilder.{ResultBuilder}
-use Rattle.case.specs.declared.builder.BuilderAnswer.{BuilderAnswer}
-use Rattle.case.specs.Builder.{Builder, risingBelow, holds, someHeld, holdAll}
-use Rattle.case.specs.BuilderStruct.{countOf, builderOf, answerOf, AddGives}
+use Rattle.builder.specs.declared.ResultBuilder.{ResultBuilder}
+use Rattle.builder.specs.declared.BuilderAnswer.{BuilderAnswer}
+use Rattle.builder.specs.Builder.{Builder, risingBelow, holds, someHeld, holdAll}
+use Rattle.builder.specs.BuilderStruct.{countOf, builderOf, answerOf, AddGives}
+use Rattle.builder.proofs.BuilderLaws.{rising-length, count-is, add-goes}
 use Rattle.case.specs.Choosing.{heldBy}
 use Rattle.case.specs.Parting.{Among, PartAsks, PartGives}
-use Rattle.case.proofs.BuilderLaws.{rising-length, count-is, add-goes}
 
 -- the place of a row in a list of rows
 abbrev Place : List ℕ → ℕ → Type 0

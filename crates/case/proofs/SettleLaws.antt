@@ -9,11 +9,11 @@ use native.Mathlib.Omega.{arith}
 use lib.ListN.{length, getD, take, replicate, List·getD-map}
 use lib.Seq.{getD-take, length-take-le}
 use borrow.Author.Tests.{le-leb}
-use Rattle.case.specs.declared.builder.ResultBuilder.{ResultBuilder}
-use Rattle.case.specs.declared.builder.BuilderAnswer.{BuilderAnswer}
-use Rattle.case.specs.declared.builder.Finished.{Finished}
-use Rattle.case.specs.Builder.{Builder, holds, orElse}
-use Rattle.case.specs.BuilderStruct.{builderOf, NewGives, FinishGives}
+use Rattle.builder.specs.declared.ResultBuilder.{ResultBuilder}
+use Rattle.builder.specs.declared.BuilderAnswer.{BuilderAnswer}
+use Rattle.builder.specs.declared.Finished.{Finished}
+use Rattle.builder.specs.Builder.{Builder, holds, orElse}
+use Rattle.builder.specs.BuilderStruct.{builderOf, NewGives, FinishGives}
 use Rattle.case.specs.Frame.{rowAt, Rows, Listed}
 use Rattle.case.specs.Choosing.{heldBy, Open, Settles}
 use Rattle.case.specs.Parting.{Among, Parted, PartAsks, PartGives}

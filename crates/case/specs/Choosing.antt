@@ -12,12 +12,12 @@ use Rattle.scalar.specs.declared.value.Value.{Value}
 use Rattle.scalar.specs.Entry.{Outcome, entry, unfit, isNull, isTrue, onEntries}
 use Rattle.scalar.specs.Compare.{equalEntry}
 use Rattle.scalar.specs.Value.{meaning}
-use Rattle.case.specs.declared.builder.ResultBuilder.{ResultBuilder}
+use Rattle.builder.specs.declared.ResultBuilder.{ResultBuilder}
+use Rattle.builder.specs.Builder.{holds}
+use Rattle.builder.specs.BuilderStruct.{builderOf}
 use Rattle.case.specs.declared.settle.Leave.{Leave}
 use Rattle.case.specs.declared.settle.Leave.the-variants.{NullBase, TrueWhen, EqualWhen, Rest}
 use Rattle.case.specs.declared.settle.Settled.{Settled}
-use Rattle.case.specs.Builder.{holds}
-use Rattle.case.specs.BuilderStruct.{builderOf}
 use Rattle.case.specs.Frame.{slotAt, nextSlot, Rows, Listed}
 
 -- a row that failed leaves with one index, a row that passes with another; 0: it stays

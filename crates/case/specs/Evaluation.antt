@@ -20,13 +20,13 @@ use Rattle.rule.specs.Node.{NodeAt}
 use Rattle.rule.specs.Walks.{branchTrees, optionalTrees, TreesAt, BehindGives}
 use Rattle.table.specs.declared.places.Table.{Table}
 use Rattle.table.specs.Places.{tableIn}
+use Rattle.builder.specs.declared.ResultBuilder.{ResultBuilder}
+use Rattle.builder.specs.Builder.{orElse}
 use Rattle.case.specs.declared.rows.Op.{Op}
 use Rattle.case.specs.declared.rows.Op.the-variants.{Not, Negative, IsNotNull, Cast, TryCast}
-use Rattle.case.specs.declared.builder.ResultBuilder.{ResultBuilder}
 use Rattle.case.specs.declared.settle.Leave.{Leave}
 use Rattle.case.specs.declared.settle.Leave.the-variants.{NullBase, TrueWhen, EqualWhen, Rest}
 use Rattle.case.specs.declared.settle.Settled.{Settled}
-use Rattle.case.specs.Builder.{orElse}
 use Rattle.case.specs.Fits.{rowOf}
 use Rattle.case.specs.Frame.{slotAt, Rows, Listed}
 use Rattle.case.specs.Choosing.{leaving, heldBy, Open}

@@ -1,8 +1,6 @@
 -- The definitions of `case`.
 pub mod Fits
 pub mod Fitting
-pub mod Builder
-pub mod BuilderStruct
 pub mod Answer
 pub mod Run
 pub mod Promise

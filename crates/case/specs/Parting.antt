@@ -8,10 +8,10 @@ use Prim.Native.Nat.{ℕ, _+_, _-_, _*_, _<_, _≤_}
 use lib.ListN.{length, getD}
 use Rattle.layout.specs.Bytes.{byte}
 use Rattle.scalar.specs.Entry.{Outcome, entry, unfit, isTrue}
-use Rattle.case.specs.declared.builder.ResultBuilder.{ResultBuilder}
+use Rattle.builder.specs.declared.ResultBuilder.{ResultBuilder}
+use Rattle.builder.specs.Builder.{holds}
 use Rattle.case.specs.declared.truth.Truth.{Truth}
 use Rattle.case.specs.declared.truth.Truth.the-variants.{Yes, No, Unfit}
-use Rattle.case.specs.Builder.{holds}
 use Rattle.case.specs.Choosing.{heldBy}
 use Rattle.case.specs.Frame.{rowAt}
 

@@ -2,7 +2,6 @@
 // of a call is at the front of `work`, and what it calls for other rows works in the part beyond.
 use crate::binary::compare_rows;
 use crate::binary::compare_value;
-use crate::builder::ResultBuilder;
 use crate::cells::cells_or_null;
 use crate::cells::fill_cells;
 use crate::column_lookup::lookup_values;
@@ -25,6 +24,7 @@ use crate::steps::step_values;
 use crate::steps::step_when;
 use crate::taking::copy_slots;
 use crate::taking::pick;
+use builder::ResultBuilder;
 use layout::number::byte_at;
 use rule::literal::literal_value;
 use rule::strategy::Strategy;

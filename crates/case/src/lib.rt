@@ -3,7 +3,6 @@ pub mod answer;
 pub(crate) mod binary;
 pub(crate) mod bitmap;
 pub(crate) mod boolean_lookup_table;
-pub mod builder;
 pub(crate) mod bytes_like_lookup_table;
 pub(crate) mod case;
 pub(crate) mod cells;

@@ -1,8 +1,8 @@
 // The index of each row, once ELSE has taken the rows that no branch took.
-use crate::builder::ResultBuilder;
 use crate::settle::Leave;
 use crate::settle::finished;
 use crate::settle::settle;
+use builder::ResultBuilder;
 use rule::walk::behind_fields;
 ghost use Prim.Native.Nat.{_≤_, _*_};
 ghost use lib.ListN.{length};

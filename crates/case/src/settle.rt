@@ -1,11 +1,11 @@
 // Which rows of a CASE's open list leave it, with the index of the branch that takes them, in the builder.
-use crate::builder::ResultBuilder;
 use crate::rows::put_row;
 use crate::rows::row_at;
 use crate::slot::get_slot;
 use crate::slot::next_slot;
 use crate::truth::Truth;
 use crate::truth::truth_of;
+use builder::ResultBuilder;
 use scalar::compare::equal;
 use scalar::value::Value;
 use scalar::value::kind;
@@ -16,8 +16,8 @@ ghost use mathlib.Core.Option.{none};
 ghost use Prim.Native.Nat.{ℕ, _<_, _≤_};
 ghost use lib.ListN.{length, getD};
 ghost use Rattle.scalar.specs.Value.{meaning};
+ghost use Rattle.builder.specs.Builder.{orElse};
 ghost use Rattle.case.specs.declared.settle.Leave.the-variants.{TrueWhen};
-ghost use Rattle.case.specs.Builder.{orElse};
 ghost use Rattle.case.specs.Frame.{Rows};
 ghost use Rattle.case.specs.Choosing.{leaving, nullOutcome, trueOutcome, classAt, classBy, heldBy, Open, Settles};
 ghost use Rattle.case.specs.Parting.{Parted, PartAsks, PartGives};

@@ -4,9 +4,9 @@ use Prim.Native.Nat.{_-_}
 use native.Mathlib.Omega.{arith}
 use lib.ListN.{length}
 use denote.Ref.{now}
-use Rattle.case.proofs.BuilderLaws.{RisesSoFar, rises-none, rises-more, rises-falls, rises-above, rises-all}
-use Rattle.case.proofs.builder.rising_below.Statement.{statement}
-use Rattle.case.proofs.builder.rising_below.Tie as tie
+use Rattle.builder.proofs.BuilderLaws.{RisesSoFar, rises-none, rises-more, rises-falls, rises-above, rises-all}
+use Rattle.builder.proofs.rising_below.Statement.{statement}
+use Rattle.builder.proofs.rising_below.Tie as tie
 
 abbrev Inv-loop : tie.InvT-loop
 Inv-loop rows count from₀ i₀ from i = RisesSoFar rows count from i

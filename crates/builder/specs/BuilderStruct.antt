@@ -7,10 +7,10 @@ use Prim.Native.Nat.{ℕ, zero, suc, min}
 use lib.Dec.{eqb}
 use lib.ListN.{getD, take}
 use Rattle.layout.specs.Result.{Result, refused, ok}
-use Rattle.case.specs.declared.builder.ResultBuilder.{ResultBuilder}
-use Rattle.case.specs.declared.builder.BuilderAnswer.{BuilderAnswer}
-use Rattle.case.specs.declared.builder.Finished.{Finished}
-use Rattle.case.specs.Builder.{Builder, newBuilder, holdAll, addBranchResult, finish}
+use Rattle.builder.specs.declared.ResultBuilder.{ResultBuilder}
+use Rattle.builder.specs.declared.BuilderAnswer.{BuilderAnswer}
+use Rattle.builder.specs.declared.Finished.{Finished}
+use Rattle.builder.specs.Builder.{Builder, newBuilder, holdAll, addBranchResult, finish}
 
 -- a row holds its value where its mark isn't 0
 abbrev pub marked : ℕ → ℕ → Option ℕ

@@ -3,7 +3,7 @@ use mathlib.Core.Path.{_≡_, refl, sym, ap, ap₂, subst, _∙_}
 use mathlib.Core.Bool.{Bool, true, false, cond, not, _&&_, _||_}
 use mathlib.Core.List.{List, [], _∷_, _++_, map, append-nil}
 use mathlib.Core.Option.{Option, some, none}
-use Prim.Native.Nat.{ℕ, zero, suc, _+_, _-_, _<_, _≤_, min}
+use Prim.Native.Nat.{ℕ, zero, suc, _+_, _<_, _≤_, min}
 use native.Mathlib.Omega.{arith}
 use native.Mathlib.Numerals.{add-one}
 use lib.Dec.{leb, ltb, eqb, eqb·suc-zero}
@@ -13,9 +13,9 @@ use native.Mathlib.Decide.{decLt}
 use borrow.Author.Tests.{le-leb, lt-leb, lt-ltb, le-ltb, ltb-true, leb-true, eqb-true, not-true, not-false, eq-eqb, ne-eqb}
 use Rattle.layout.specs.Result.{Result, refused, ok, _>>=_, require}
 use Rattle.layout.proofs.TestLaws.{both-hold}
-use Rattle.case.specs.Builder.{Builder, risingBelow, isWhole, holds, someHeld, holdAll, heldAfter, addBranchResult, orElse}
-use Rattle.case.specs.BuilderStruct.{marked, heldAll, heldIn, someMarked, countOf, builderOf, NewGives, AddGives, FinishGives, Held}
-use Rattle.case.specs.declared.builder.ResultBuilder.{ResultBuilder}
+use Rattle.builder.specs.Builder.{Builder, risingBelow, isWhole, holds, someHeld, holdAll, heldAfter, addBranchResult, orElse}
+use Rattle.builder.specs.BuilderStruct.{marked, heldAll, heldIn, someMarked, countOf, builderOf, NewGives, AddGives, FinishGives, Held}
+use Rattle.builder.specs.declared.ResultBuilder.{ResultBuilder}
 
 -- ---- rows that rise below a count
 

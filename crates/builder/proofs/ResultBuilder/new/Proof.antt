@@ -1,8 +1,8 @@
 -- `new` gives an empty builder, or 10.
 use mathlib.Core.Path.{refl}
-use Rattle.case.proofs.BuilderLaws.{new-refused, new-given}
-use Rattle.case.proofs.builder.ResultBuilder.new.Statement.{statement}
-use Rattle.case.proofs.builder.ResultBuilder.new.Tie as tie
+use Rattle.builder.proofs.BuilderLaws.{new-refused, new-given}
+use Rattle.builder.proofs.ResultBuilder.new.Statement.{statement}
+use Rattle.builder.proofs.ResultBuilder.new.Tie as tie
 
 pub new-spec : {M : Type 1} → statement M
 new-spec = tie.close (tie.spec

@@ -3,9 +3,9 @@
 ghost use mathlib.Core.Path.{_≡_};
 ghost use mathlib.Core.Bool.{true, not, _&&_, _||_};
 ghost use Prim.Native.Nat.{_≤_, min};
-ghost use lib.ListN.{length, take};
-ghost use Rattle.case.specs.Builder.{risingBelow, orElse};
-ghost use Rattle.case.specs.BuilderStruct.{marked, someMarked, countOf, NewGives, AddGives, FinishGives, Held};
+ghost use lib.ListN.{length};
+ghost use Rattle.builder.specs.Builder.{risingBelow, orElse};
+ghost use Rattle.builder.specs.BuilderStruct.{marked, someMarked, countOf, NewGives, AddGives, FinishGives, Held};
 
 // Most rows of a result.
 const ROWS_MOST: usize = 512;

@@ -2,11 +2,10 @@
 use mathlib.Core.Bool.{Bool, true, false, cond, not, _&&_, _||_}
 use mathlib.Core.List.{List, [], _∷_, map}
 use mathlib.Core.Option.{Option, some, none}
-use Prim.Native.Nat.{ℕ, zero, suc}
+use Prim.Native.Nat.{ℕ, suc}
 use lib.Dec.{eqb, leb, ltb}
 use lib.ListN.{length, getD, set, replicate}
-use Rattle.layout.specs.Result.{Result, refused, ok, _>>=_, require}
-use Rattle.table.specs.Reading.{rowsMost}
+use Rattle.layout.specs.Result.{Result, ok, _>>=_, require}
 
 -- for each row the value that it holds, if any; whether a part or the whole was added
 pub record Builder (A : Type 0) : Type 0 where
@@ -16,7 +15,7 @@ pub record Builder (A : Type 0) : Type 0 where
 
 -- a builder for more than 512 rows is refused with 10
 abbrev pub newBuilder : {A : Type 0} → ℕ → Result (Builder A)
-newBuilder rows = require (leb rows rowsMost) 10 >>= λ _. ok (record { part = false; whole = false; held = replicate rows none })
+newBuilder rows = require (leb rows 512) 10 >>= λ _. ok (record { part = false; whole = false; held = replicate rows none })
 
 -- the rows rise and are below the count; `from` is the least that may come next
 unfoldable pub risingBelow : ℕ → ℕ → List ℕ → Bool

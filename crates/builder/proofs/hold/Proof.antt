@@ -5,10 +5,10 @@ use Prim.Native.Nat.{_-_}
 use native.Mathlib.Omega.{arith}
 use lib.ListN.{length}
 use denote.Ref.{now}
-use Rattle.case.specs.BuilderStruct.{countOf}
-use Rattle.case.proofs.BuilderLaws.{rises-below, count-few, HoldsSoFar, holds-none, holds-more, holds-all}
-use Rattle.case.proofs.builder.hold.Statement.{statement}
-use Rattle.case.proofs.builder.hold.Tie as tie
+use Rattle.builder.specs.BuilderStruct.{countOf}
+use Rattle.builder.proofs.BuilderLaws.{rises-below, count-few, HoldsSoFar, holds-none, holds-more, holds-all}
+use Rattle.builder.proofs.hold.Statement.{statement}
+use Rattle.builder.proofs.hold.Tie as tie
 
 abbrev Inv-loop : tie.InvT-loop
 Inv-loop rows values count out₀ i₀ out i = (out .rows ≡ out₀ .rows) × ((length (out₀ .held) ≡ 512) × (length (out₀ .values) ≡ 512)) × HoldsSoFar (countOf out₀) (out₀ .held) (out₀ .values) rows values i (out .held) (out .values)

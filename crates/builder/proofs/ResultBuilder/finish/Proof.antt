@@ -1,12 +1,12 @@
 -- `finish` gives each row's value, 0 where none is held. The loop's invariant: the rows before i have theirs.
-use Rattle.case.proofs.BuilderLaws.{finish-gives, FinishedSoFar, finished-none, finished-more}
+use Rattle.builder.proofs.BuilderLaws.{finish-gives, FinishedSoFar, finished-none, finished-more}
 use borrow.Author.Needs.{needs}
 use mathlib.Core.Path.{_≡_, refl}
 use Prim.Native.Nat.{_-_, _≤_}
 use native.Mathlib.Omega.{arith}
 use lib.ListN.{length}
-use Rattle.case.proofs.builder.ResultBuilder.finish.Statement.{statement}
-use Rattle.case.proofs.builder.ResultBuilder.finish.Tie as tie
+use Rattle.builder.proofs.ResultBuilder.finish.Statement.{statement}
+use Rattle.builder.proofs.ResultBuilder.finish.Tie as tie
 
 abbrev Inv-loop : tie.InvT-loop
 Inv-loop self count out₀ i₀ out i = ((length (self .held) ≡ 512) × (length (self .values) ≡ 512)) × (i ≤ count) × FinishedSoFar (self .held) (self .values) i out

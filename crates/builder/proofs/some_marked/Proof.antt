@@ -4,9 +4,9 @@ use Prim.Native.Nat.{_-_}
 use native.Mathlib.Omega.{arith}
 use lib.ListN.{length}
 use denote.Ref.{now}
-use Rattle.case.proofs.BuilderLaws.{rises-below, NoneSoFar, none-yet, mark-found, mark-more, mark-none}
-use Rattle.case.proofs.builder.some_marked.Statement.{statement}
-use Rattle.case.proofs.builder.some_marked.Tie as tie
+use Rattle.builder.proofs.BuilderLaws.{rises-below, NoneSoFar, none-yet, mark-found, mark-more, mark-none}
+use Rattle.builder.proofs.some_marked.Statement.{statement}
+use Rattle.builder.proofs.some_marked.Tie as tie
 
 abbrev Inv-loop : tie.InvT-loop
 Inv-loop rows count held i₀ i = NoneSoFar held rows i

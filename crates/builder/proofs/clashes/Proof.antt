@@ -2,8 +2,8 @@
 use mathlib.Core.Bool.{Bool·not-not as not-not}
 use mathlib.Core.Path.{sym}
 use borrow.Author.Needs.{needs}
-use Rattle.case.proofs.builder.clashes.Statement.{statement}
-use Rattle.case.proofs.builder.clashes.Tie as tie
+use Rattle.builder.proofs.clashes.Statement.{statement}
+use Rattle.builder.proofs.clashes.Tie as tie
 
 pub clashes-spec : {M : Type 1} → statement M
 clashes-spec = tie.close (tie.spec

@@ -4,13 +4,13 @@ use mathlib.Core.Path.{sym, ap, _∙_}
 use lib.ListN.{length}
 use denote.Ref.{now}
 use Prim.Native.Nat.{ℕ}
-use Rattle.case.specs.Builder.{risingBelow}
+use Rattle.builder.specs.Builder.{risingBelow}
 use mathlib.Core.Bool.{not, _&&_}
 use lib.Dec.{eqb}
-use Rattle.case.proofs.BuilderLaws.{add-19, add-18, add-21, add-20, add-given, count-few}
+use Rattle.builder.proofs.BuilderLaws.{add-19, add-18, add-21, add-20, add-given, count-few}
 use borrow.Author.Needs.{needs}
-use Rattle.case.proofs.builder.ResultBuilder.add_branch_result.Statement.{statement}
-use Rattle.case.proofs.builder.ResultBuilder.add_branch_result.Tie as tie
+use Rattle.builder.proofs.ResultBuilder.add_branch_result.Statement.{statement}
+use Rattle.builder.proofs.ResultBuilder.add_branch_result.Tie as tie
 
 pub add-branch-result-spec : {M : Type 1} → statement M
 add-branch-result-spec =

@@ -1,0 +1,2 @@
+-- The laws of `builder`.
+pub mod BuilderLaws

@@ -1,0 +1,3 @@
+-- The definitions of `builder`.
+pub mod Builder
+pub mod BuilderStruct
