@@ -17,7 +17,7 @@ import subprocess
 import sys
 
 HERE = os.path.dirname(os.path.dirname(os.path.abspath(__file__)))
-CRATES = ["layout", "scalar", "rule", "table", "case"]
+CRATES = ["layout", "scalar", "rule", "table", "builder", "case"]
 
 
 def blocks(path):
