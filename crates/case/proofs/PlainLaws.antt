@@ -1,6 +1,6 @@
 -- Rows that each have a number of the answer's type: their payloads are its column. Assumes nothing.
 use mathlib.Core.Path.{_≡_, refl, sym, ap, _∙_}
-use mathlib.Core.Bool.{Bool, true, false, cond, not}
+use mathlib.Core.Bool.{Bool, true, false, cond, not, false≢true}
 use mathlib.Core.List.{List, [], _∷_, _++_, append-assoc}
 use Prim.Native.Nat.{ℕ, zero, suc, _+_, _-_, _*_, _^_, _<_, _≤_}
 use native.Mathlib.Nat.{pow-le-pow-right}
@@ -25,7 +25,7 @@ use Rattle.scalar.specs.TryCast.{orNull}
 use Rattle.scalar.proofs.FloatLaws.{float-means}
 use Rattle.case.specs.declared.answer.RunAnswer.the-variants.{Answered, Refused}
 use Rattle.case.specs.Answer.{numberIn}
-use Rattle.case.specs.Write.{WriteGives, ClassesAsk, ClassesIn, PlainRows, slotKind, slotPayload, classPayload}
+use Rattle.case.specs.Write.{WriteGives, ClassesAsk, ClassesIn, PlainRows, RowsOfKind, Tells, slotKind, slotPayload, classPayload}
 use Rattle.case.specs.Writing.{Wrote, rowBytes, someOfKind, numberOf, widthOf, rowNumbers, rowText, rowValues, rowColumn, plainNumbers, plainFront, validitySize, valuesSize}
 use Rattle.case.proofs.WroteLaws.{length-rows, rows-same, low-bytes, wrote-as, wrote-then, wrote-long, length-field}
 use Rattle.case.proofs.RowKindLaws.{any-none}
@@ -242,9 +242,26 @@ all-more {w} {k} {n} {i} s h e = record { few = omega arith; so-far = λ j b. go
     go j b (no p) = let q : j ≡ i = omega arith in ap (slotKind w) q ∙ e
 
 -- behind the last
-pub all-end : {w : List ℕ} {k n i : ℕ} → AllSoFar w k n i → n ≤ i → (j : ℕ) → j < n → slotKind w j ≡ k
-all-end s h j b = s .so-far j (omega arith)
+pub all-end : {w : List ℕ} {k n i : ℕ} → AllSoFar w k n i → n ≤ i → Tells true (RowsOfKind (slotKind w) n k)
+all-end s h = record { holds = λ e j b. s .so-far j (omega arith); told = λ x. refl }
 
--- they are the kind of a type of numbers
-pub all-plain : {kind : ℕ → ℕ} {rows : ℕ} (t : DataType) {k : ℕ} → rows ≤ 512 → k ≡ typeNumber t → 2 ≤ k → k ≤ 4 → ((i : ℕ) → i < rows → kind i ≡ k) → PlainRows kind rows t
-all-plain t few e a b each = record { few = few; number = (omega arith, omega arith); kind-is = λ i h. each i h ∙ e }
+-- at a row of another kind
+pub all-differ : {w : List ℕ} {k n i : ℕ} → AllSoFar w k n i → i < n → (slotKind w i ≡ k → ⊥) → Tells false (RowsOfKind (slotKind w) n k)
+all-differ {w} {k} {n} {i} s h d = record { holds = λ e. absurd (false≢true e); told = λ x. absurd (d (x i h)) }
+
+module _ {kind : ℕ → ℕ} {rows : ℕ} (t : DataType) {k : ℕ} (e : k ≡ typeNumber t) where
+  -- a type before those of numbers
+  pub type-below : k < 2 → Tells false (PlainRows kind rows t)
+  type-below h = record { holds = λ y. absurd (false≢true y); told = λ x. absurd (omega (arith, x .number .0)) }
+
+  -- one behind them
+  pub type-above : 4 < k → Tells false (PlainRows kind rows t)
+  type-above h = record { holds = λ y. absurd (false≢true y); told = λ x. absurd (omega (arith, x .number .1)) }
+
+  -- one of them
+  pub all-plain : {answer : Bool} → rows ≤ 512 → 2 ≤ k → k ≤ 4 → Tells answer (RowsOfKind kind rows k) → Tells answer (PlainRows kind rows t)
+  all-plain few a b s =
+      record {
+        holds = λ y. record { few = few; number = (omega arith, omega arith); kind-is = λ i h. s .holds y i h ∙ e };
+        told = λ x. s .told (λ i h. x .kind-is i h ∙ sym e);
+      }

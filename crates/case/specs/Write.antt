@@ -72,8 +72,17 @@ slotKind w i = byte w (1024 + 9 * i)
 abbrev pub slotPayload : List ℕ → ℕ → ℕ
 slotPayload w i = numberAt 8 w (1025 + 9 * i)
 
+-- a yes just where something holds
+pub record Tells (answer : Bool) (fact : Type 0) : Type 0 where
+  pub holds : answer ≡ true → fact
+  pub told : fact → answer ≡ true
+
+-- every row is of a kind
+abbrev pub RowsOfKind : (ℕ → ℕ) → ℕ → ℕ → Type 0
+RowsOfKind kind rows k = (i : ℕ) → i < rows → kind i ≡ k
+
 -- every row's kind is that of the answer's type, which is one of numbers
 pub record PlainRows (kind : ℕ → ℕ) (rows : ℕ) (t : DataType) : Type 0 where
   pub few : rows ≤ 512
   pub number : (2 ≤ typeNumber t) × (typeNumber t ≤ 4)
-  pub kind-is : (i : ℕ) → i < rows → kind i ≡ typeNumber t
+  pub kind-is : RowsOfKind kind rows (typeNumber t)

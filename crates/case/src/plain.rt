@@ -10,13 +10,11 @@ use crate::write::column_size;
 use crate::write::values_size;
 use rule::types::type_number;
 use scalar::types::DataType;
-ghost use mathlib.Core.Path.{_≡_};
-ghost use mathlib.Core.Bool.{true};
 ghost use mathlib.Core.List.{List};
 ghost use Prim.Native.Nat.{ℕ, _+_, _-_, _*_, _<_, _≤_};
 ghost use lib.ListN.{length};
 ghost use Rattle.case.specs.Frame.{slotAt};
-ghost use Rattle.case.specs.Write.{PlainRows, WriteGives, slotKind, slotPayload};
+ghost use Rattle.case.specs.Write.{PlainRows, RowsOfKind, Tells, WriteGives, slotKind, slotPayload};
 ghost use Rattle.case.specs.Writing.{Wrote, RowsAsk, rowBytes, plainFront, plainNumbers, valuesSize};
 
 // Numbers of the first and of the last type of numbers; an Int32 takes four bytes, any other eight.
@@ -27,7 +25,7 @@ const FLOAT64: u8 = 4;
 // Whether every row's slot has a number of the answer's type.
 pub(crate) fn plain_rows(work: &[u8], rows: usize, t: DataType) -> bool
     requires { ⌜ RowsAsk (now work) rows ⌝ }
-    ensures { λ r. ⌜ (r ≡ true → PlainRows (slotKind (now (work .entry))) rows t) ⌝ }
+    ensures { λ r. ⌜ Tells r (PlainRows (slotKind (now (work .entry))) rows t) ⌝ }
 {
     let k = type_number(t);
     if k < INT32 {
@@ -42,7 +40,7 @@ pub(crate) fn plain_rows(work: &[u8], rows: usize, t: DataType) -> bool
 // Whether every row's slot has a value of a kind.
 fn rows_of_kind(work: &[u8], rows: usize, k: u8) -> bool
     requires { ⌜ RowsAsk (now work) rows ⌝ }
-    ensures { λ r. ⌜ (r ≡ true → (i : ℕ) → i < rows → slotKind (now (work .entry)) i ≡ k) ⌝ }
+    ensures { λ r. ⌜ Tells r (RowsOfKind (slotKind (now (work .entry))) rows k) ⌝ }
 {
     let mut i = 0;
     while i < rows {

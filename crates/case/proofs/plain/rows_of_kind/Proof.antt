@@ -1,8 +1,7 @@
 -- `rows_of_kind` looks at the slots from the first on. The loop's invariant: so far they are of the kind.
 use native.Mathlib.Omega.{arith}
-use mathlib.Core.Bool.{false≢true}
 use Prim.Native.Nat.{_-_}
-use Rattle.case.proofs.PlainLaws.{AllSoFar, all-none, all-more, all-end}
+use Rattle.case.proofs.PlainLaws.{AllSoFar, all-none, all-more, all-end, all-differ}
 use Rattle.case.proofs.plain.rows_of_kind.Statement.{statement}
 use Rattle.case.proofs.plain.rows_of_kind.Tie as tie
 
@@ -22,8 +21,8 @@ rows-of-kind-spec =
     (λ c. omega (arith, c .before .before .pre .few, c .loop-test .taken))
     (λ c. omega (arith, c .before .before .pre .few, c .loop-test .taken))
     (λ c. omega (arith, c .before .before .before .pre .few, c .before .before .before .pre .room, c .before .loop-test .taken))
-    (λ c. λ e. absurd (false≢true e))
+    (λ c. all-differ (c .before .before .before .loop .inv) (c .before .before .loop-test .taken) (c .if1 .taken))
     (λ c. omega (arith, c .before .before .before .before .pre .few, c .before .before .loop-test .taken))
     (λ c. omega (arith, c .before .before .loop-test .taken))
     (λ c. all-more (c .before .before .before .loop .inv) (c .before .before .loop-test .taken) (c .if1 .left))
-    (λ c. λ e. all-end (c .before .loop .inv) (c .loop-test .left)))
+    (λ c. all-end (c .before .loop .inv) (c .loop-test .left)))

@@ -11,7 +11,7 @@ write-answer-spec =
     tie.close
     (tie.spec
     (λ c κs. search needs)
-    (λ c κs. (search needs, c .before .before .plain-rows .ensures (c .before .if1 .taken)))
+    (λ c κs. (search needs, c .before .before .plain-rows .ensures .holds (c .before .if1 .taken)))
     (λ c. search needs)
     (λ c. c .before .before .write-plain .ensures (now (c .before .before .before .before .before .before .before .before .before .before .args .rule)) (now (c .before .before .before .before .before .before .before .before .before .before .args .table)))
     (λ c κs. search needs)
