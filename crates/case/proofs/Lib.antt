@@ -23,7 +23,7 @@ pub mod RowBitLaws
 pub mod ColumnPutLaws
 pub mod ColumnLaws
 pub mod SlotRunLaws
-pub mod ClassWriteLaws
+pub mod PlainLaws
 pub mod ClearLaws
 pub mod TakeLaws
 pub mod MergeLaws

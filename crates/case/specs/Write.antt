@@ -2,9 +2,9 @@
 use mathlib.Core.Path.{_≡_}
 use mathlib.Core.Bool.{Bool, true}
 use mathlib.Core.List.{List, map}
-use Prim.Native.Nat.{ℕ, _<_, _≤_}
+use Prim.Native.Nat.{ℕ, _+_, _*_, _<_, _≤_}
 use lib.ListN.{length, getD}
-use Rattle.layout.specs.Bytes.{numberBytes}
+use Rattle.layout.specs.Bytes.{byte, numberAt}
 use Rattle.layout.specs.Result.{Result, _>>=_}
 use Rattle.scalar.specs.declared.types.DataType.{DataType}
 use Rattle.scalar.specs.declared.value.Value.{Value}
@@ -15,7 +15,6 @@ use Rattle.case.specs.declared.answer.RunAnswer.{RunAnswer}
 use Rattle.case.specs.Run.{rowsFrom, entriesOf, writtenAs, outputAfter}
 use Rattle.case.specs.Promise.{runAnswer}
 use Rattle.case.specs.Frame.{slotAt}
-use Rattle.case.specs.Writing.{widthOf}
 use Rattle.case.specs.LookUpTables.{valueAt}
 
 -- the outcomes that the first rows have
@@ -62,6 +61,28 @@ pub record ClassesIn (rows : ℕ) (classes payloads : List ℕ) : Type 0 where
   pub payloads-long : length payloads ≡ 258
   pub below : (i : ℕ) → i < rows → getD classes i 0 < 258
 
--- the bytes of the payload of a row's class
-abbrev pub classNumbers : Bool → List ℕ → List ℕ → ℕ → List ℕ
-classNumbers wide classes payloads i = numberBytes (widthOf wide) (getD payloads (getD classes i 0) 0)
+-- the payload of a row's class
+abbrev pub classPayload : List ℕ → List ℕ → ℕ → ℕ
+classPayload classes payloads i = getD payloads (getD classes i 0) 0
+
+-- the kind and the payload of a row's slot
+abbrev pub slotKind : List ℕ → ℕ → ℕ
+slotKind w i = byte w (1024 + 9 * i)
+
+abbrev pub slotPayload : List ℕ → ℕ → ℕ
+slotPayload w i = numberAt 8 w (1025 + 9 * i)
+
+-- a yes just where something holds
+pub record Tells (answer : Bool) (fact : Type 0) : Type 0 where
+  pub holds : answer ≡ true → fact
+  pub told : fact → answer ≡ true
+
+-- every row is of a kind
+abbrev pub RowsOfKind : (ℕ → ℕ) → ℕ → ℕ → Type 0
+RowsOfKind kind rows k = (i : ℕ) → i < rows → kind i ≡ k
+
+-- every row's kind is that of the answer's type, which is one of numbers
+pub record PlainRows (kind : ℕ → ℕ) (rows : ℕ) (t : DataType) : Type 0 where
+  pub few : rows ≤ 512
+  pub number : (2 ≤ typeNumber t) × (typeNumber t ≤ 4)
+  pub kind-is : RowsOfKind kind rows (typeNumber t)

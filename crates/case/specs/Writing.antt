@@ -145,3 +145,11 @@ rowValues rule table v rows DataType.Utf8 =
 abbrev pub rowColumn : List ℕ → List ℕ → (ℕ → Value) → ℕ → DataType → Bool → Bool → List ℕ
 rowColumn rule table v rows t nullable null =
     fieldBytes 2 (typeNumber t ∷ markNumber nullable ∷ []) ++ fieldBytes 3 (rowValidity null v rows) ++ rowValues rule table v rows t
+
+-- the bytes of a row's payload
+abbrev pub plainNumbers : Bool → (ℕ → ℕ) → ℕ → List ℕ
+plainNumbers wide payload i = numberBytes (widthOf wide) (payload i)
+
+-- tag 2, tag 3 without content and the head of tag 4: what stands before so many bytes of numbers none of which is null
+abbrev pub plainFront : DataType → Bool → ℕ → List ℕ
+plainFront t nullable size = fieldBytes 2 (typeNumber t ∷ markNumber nullable ∷ []) ++ fieldBytes 3 [] ++ (4 ∷ numberBytes 2 size)

@@ -1,23 +1,16 @@
 // The answer's column of rows that each have the number of a class: 17 and nothing, or its bytes at the front of the output.
 use crate::answer::RunAnswer;
-use crate::put::put_header;
+use crate::plain::INT32;
+use crate::plain::plain_front;
 use crate::put::put_number;
-use crate::put::put_type;
-use crate::write::VALIDITY;
-use crate::write::VALUES;
 use crate::write::column_size;
 use rule::types::type_number;
 use scalar::types::DataType;
-ghost use mathlib.Core.Path.{_≡_};
 ghost use mathlib.Core.List.{List};
-ghost use Prim.Native.Nat.{ℕ, _+_, _<_, _≤_};
+ghost use Prim.Native.Nat.{ℕ, _+_, _≤_};
 ghost use lib.ListN.{length};
-ghost use Rattle.layout.specs.Field.{fieldBytes};
-ghost use Rattle.case.specs.Write.{ClassesAsk, ClassesIn, WriteGives, classValue, classNumbers};
-ghost use Rattle.case.specs.Writing.{Wrote, rowBytes, rowValues, valuesSize};
-
-// The number of the type Int32.
-const INT32: u8 = 2;
+ghost use Rattle.case.specs.Write.{ClassesAsk, ClassesIn, WriteGives, classValue, classPayload};
+ghost use Rattle.case.specs.Writing.{Wrote, rowBytes, plainNumbers};
 
 // The answer at the front of the output, and its length, of rows that each have the number of their class; or 17, and the output is unchanged.
 pub(crate) fn write_classes(
@@ -36,46 +29,10 @@ pub(crate) fn write_classes(
     if output.len() < size {
         return RunAnswer::Refused(17);
     }
-    let p = put_type(output, 0, t, nullable);
-    let q = put_header(output, p, VALIDITY, 0);
-    let end = put_class_values(rows, t, classes, kinds, payloads, q, output);
+    let p = plain_front(rows, t, nullable, output);
+    let wide = type_number(t) != INT32;
+    let end = put_classes(rows, wide, classes, payloads, p, output);
     RunAnswer::Answered(end)
-}
-
-// Tag 4: the numbers of the rows' classes, of four bytes or of eight.
-fn put_class_values(
-    rows: usize,
-    t: DataType,
-    classes: &[u16],
-    kinds: &[u8],
-    payloads: &[u64],
-    at: usize,
-    output: &mut [u8],
-) -> usize
-    requires { ⌜ ClassesAsk rows t (now classes) (now kinds) (now payloads) × (at + valuesSize t rows 0 ≤ length (now output)) ⌝ }
-    ensures { λ r. ⌜ ((rule table : List ℕ) → Wrote (now (output .entry)) at (rowValues rule table (classValue (now (classes .entry)) (now (kinds .entry)) (now (payloads .entry))) rows t) r (now (output .exit))) ⌝ }
-{
-    if type_number(t) == INT32 {
-        return put_class_field(rows, false, 4 * rows, classes, payloads, at, output);
-    }
-    put_class_field(rows, true, 8 * rows, classes, payloads, at, output)
-}
-
-// A field of the numbers of the rows' classes.
-fn put_class_field(
-    rows: usize,
-    wide: bool,
-    size: usize,
-    classes: &[u16],
-    payloads: &[u64],
-    at: usize,
-    output: &mut [u8],
-) -> usize
-    requires { ⌜ ClassesIn rows (now classes) (now payloads) × (size ≡ length (rowBytes (classNumbers wide (now classes) (now payloads)) rows)) × (size < 65536) × (at + 3 + size ≤ length (now output)) ⌝ }
-    ensures { λ r. ⌜ Wrote (now (output .entry)) at (fieldBytes 4 (rowBytes (classNumbers wide (now (classes .entry)) (now (payloads .entry))) rows)) r (now (output .exit)) ⌝ }
-{
-    let p = put_header(output, at, VALUES, size);
-    put_classes(rows, wide, classes, payloads, p, output)
 }
 
 // The numbers of the rows' classes, of eight bytes or of four.
@@ -87,8 +44,8 @@ fn put_classes(
     at: usize,
     output: &mut [u8],
 ) -> usize
-    requires { ⌜ ClassesIn rows (now classes) (now payloads) × (at + length (rowBytes (classNumbers wide (now classes) (now payloads)) rows) ≤ length (now output)) ⌝ }
-    ensures { λ r. ⌜ Wrote (now (output .entry)) at (rowBytes (classNumbers wide (now (classes .entry)) (now (payloads .entry))) rows) r (now (output .exit)) ⌝ }
+    requires { ⌜ ClassesIn rows (now classes) (now payloads) × (at + length (rowBytes (plainNumbers wide (classPayload (now classes) (now payloads))) rows) ≤ length (now output)) ⌝ }
+    ensures { λ r. ⌜ Wrote (now (output .entry)) at (rowBytes (plainNumbers wide (classPayload (now (classes .entry)) (now (payloads .entry)))) rows) r (now (output .exit)) ⌝ }
 {
     let mut p = at;
     let mut i = 0;

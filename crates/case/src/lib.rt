@@ -17,6 +17,7 @@ pub(crate) mod literal;
 pub(crate) mod literal_lookup_table;
 pub(crate) mod merge;
 pub(crate) mod numbers;
+pub(crate) mod plain;
 pub(crate) mod primitive_lookup_table;
 pub(crate) mod put;
 pub(crate) mod results;

@@ -2,6 +2,8 @@
 use crate::answer::RunAnswer;
 use crate::bitmap::put_bits;
 use crate::numbers::put_numbers;
+use crate::plain::plain_rows;
+use crate::plain::write_plain;
 use crate::put::put_header;
 use crate::put::put_type;
 use crate::slot::get_slot;
@@ -49,6 +51,9 @@ pub(crate) fn write_answer(
     requires { ⌜ WriteAsks (now rule) (now table) (now work) rows t ⌝ }
     ensures { λ r. ⌜ WriteGives (now (rule .entry)) (now (table .entry)) (slotAt (now (work .entry))) rows t nullable (now (output .entry)) r (now (output .exit)) ⌝ }
 {
+    if plain_rows(work, rows, t) {
+        return write_plain(work, rows, t, nullable, output);
+    }
     if some_of_kind(work, rows, FAILED) {
         return RunAnswer::Refused(15);
     }
@@ -102,7 +107,7 @@ fn validity_size(rows: usize, null: bool) -> usize
 }
 
 // How many bytes tag 4 takes, with tag 5 where the column is of text.
-fn values_size(rows: usize, t: DataType, text: usize) -> usize
+pub(crate) fn values_size(rows: usize, t: DataType, text: usize) -> usize
     requires { ⌜ (rows ≤ 512) × (text ≤ 65535) ⌝ }
     ensures { λ r. ⌜ r ≡ valuesSize t rows text ⌝ }
 {

@@ -1,14 +1,14 @@
 -- `put_classes` puts the numbers of the rows' classes. The loop's invariant: so far they are there.
 use native.Mathlib.Omega.{arith}
 use Prim.Native.Nat.{_-_}
-use Rattle.case.specs.Write.{classNumbers}
-use Rattle.case.specs.Writing.{widthOf}
+use Rattle.case.specs.Write.{classPayload}
+use Rattle.case.specs.Writing.{widthOf, plainNumbers}
 use Rattle.case.proofs.WroteLaws.{SoFar, so-far-none, so-far-room, so-far-more, so-far-ends, wrote-long, number-room}
 use Rattle.case.proofs.classes.put_classes.Statement.{statement}
 use Rattle.case.proofs.classes.put_classes.Tie as tie
 
 abbrev Inv-loop : tie.InvT-loop
-Inv-loop rows wide classes payloads at output₀ p₀ i₀ output p i = SoFar (classNumbers wide classes payloads) output₀ at rows i p output
+Inv-loop rows wide classes payloads at output₀ p₀ i₀ output p i = SoFar (plainNumbers wide (classPayload classes payloads)) output₀ at rows i p output
 
 abbrev μ-loop : tie.MeasureT-loop
 μ-loop rows wide classes payloads at output₀ p₀ i₀ output p i = rows - i

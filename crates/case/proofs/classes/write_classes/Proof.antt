@@ -1,6 +1,8 @@
--- `write_classes` gives 17, or puts the type, no validity and the numbers.
+-- `write_classes` gives 17, or puts the front and the numbers.
 use native.Mathlib.Omega.{arith}
-use Rattle.case.proofs.ClassWriteLaws.{classes-17, empty-room, class-room, classes-answer}
+use denote.Ref.{now}
+use Rattle.case.specs.Write.{classPayload}
+use Rattle.case.proofs.PlainLaws.{classes-plain, classes-in, class-fits, wide-is, plain-17, plain-room, plain-answer}
 use borrow.Author.Needs.{needs}
 use Rattle.case.proofs.classes.write_classes.Statement.{statement}
 use Rattle.case.proofs.classes.write_classes.Tie as tie
@@ -10,9 +12,9 @@ write-classes-spec =
     tie.close
     (tie.spec
     (λ c κs. search needs)
-    (λ c. classes-17 (c .before .before .before .before .before .before .pre) (λ i. omega (arith, c .before .before .before .shared-slice-known3 .given i)) (c .before .before .before .before .before .before .args .nullable) (c .before .column-size .ensures) (c .if1 .taken))
+    (λ c. plain-17 (classes-plain (c .before .before .before .before .before .before .pre)) (classPayload (now (c .before .before .before .before .before .before .args .classes)) (now (c .before .before .before .before .before .before .args .payloads))) (class-fits (now (c .before .before .before .before .before .before .args .classes)) (now (c .before .before .before .before .before .before .args .payloads)) (λ i. omega (arith, c .before .before .before .shared-slice-known3 .given i))) (c .before .before .before .before .before .before .args .nullable) (c .before .column-size .ensures) (c .if1 .taken))
     (λ c κs. search needs)
-    (λ c κs. empty-room (c .before .before .before .before .before .before .before .before .before .before .before .pre) (λ i. omega (arith, c .before .before .before .before .before .before .before .before .shared-slice-known3 .given i)) (c .before .before .before .before .before .before .before .before .before .before .before .args .nullable) (c .before .before .before .before .before .before .column-size .ensures) (c .before .before .before .before .before .if1 .left) (c .before .before .before .put-type .ensures))
-    (λ c κs. (c .before .before .before .before .before .before .before .before .before .before .before .before .before .before .before .pre, class-room (c .before .before .before .before .before .before .before .before .before .before .before .before .before .before .before .pre) (λ i. omega (arith, c .before .before .before .before .before .before .before .before .before .before .before .before .shared-slice-known3 .given i)) (c .before .before .before .before .before .before .before .before .before .before .before .before .before .before .before .args .nullable) (c .before .before .before .before .before .before .before .before .before .before .column-size .ensures) (c .before .before .before .before .before .before .before .before .before .if1 .left) (c .before .before .before .before .before .before .before .put-type .ensures) (c .before .before .before .put-header .ensures)))
+    (λ c κs. search needs)
+    (λ c κs. (classes-in (c .before .before .before .before .before .before .before .before .before .before .before .before .pre), plain-room (classes-plain (c .before .before .before .before .before .before .before .before .before .before .before .before .pre)) (classPayload (now (c .before .before .before .before .before .before .before .before .before .before .before .before .args .classes)) (now (c .before .before .before .before .before .before .before .before .before .before .before .before .args .payloads))) (class-fits (now (c .before .before .before .before .before .before .before .before .before .before .before .before .args .classes)) (now (c .before .before .before .before .before .before .before .before .before .before .before .before .args .payloads)) (λ i. omega (arith, c .before .before .before .before .before .before .before .before .before .shared-slice-known3 .given i))) (c .before .before .before .before .before .before .before .before .before .before .before .before .args .nullable) (c .before .before .before .before .before .before .before .column-size .ensures) (c .before .before .before .before .before .before .if1 .left) (c .before .before .before .before .plain-front .ensures) (wide-is (c .before .before .before .before .before .before .before .before .before .before .before .before .args .t) (c .before .type-number .ensures))))
     (λ c. search needs)
-    (λ c. classes-answer (c .before .before .before .before .before .before .before .before .before .before .before .before .before .before .before .before .before .before .pre) (λ i. omega (arith, c .before .before .before .before .before .before .before .before .before .before .before .before .before .before .before .shared-slice-known3 .given i)) (c .before .before .before .before .before .before .before .before .before .before .before .before .before .before .before .before .before .before .args .nullable) (c .before .before .before .before .before .before .before .before .before .before .before .before .before .column-size .ensures) (c .before .before .before .before .before .before .before .before .before .before .before .before .if1 .left) (c .before .before .before .before .before .before .before .before .before .before .put-type .ensures) (c .before .before .before .before .before .before .put-header .ensures) (c .before .before .put-class-values .ensures)))
+    (λ c. plain-answer (classes-plain (c .before .before .before .before .before .before .before .before .before .before .before .before .before .before .before .pre)) (classPayload (now (c .before .before .before .before .before .before .before .before .before .before .before .before .before .before .before .args .classes)) (now (c .before .before .before .before .before .before .before .before .before .before .before .before .before .before .before .args .payloads))) (class-fits (now (c .before .before .before .before .before .before .before .before .before .before .before .before .before .before .before .args .classes)) (now (c .before .before .before .before .before .before .before .before .before .before .before .before .before .before .before .args .payloads)) (λ i. omega (arith, c .before .before .before .before .before .before .before .before .before .before .before .before .shared-slice-known3 .given i))) (c .before .before .before .before .before .before .before .before .before .before .before .before .before .before .before .args .nullable) (c .before .before .before .before .before .before .before .before .before .before .column-size .ensures) (c .before .before .before .before .before .before .before .before .before .if1 .left) (c .before .before .before .before .before .before .before .plain-front .ensures) (wide-is (c .before .before .before .before .before .before .before .before .before .before .before .before .before .before .before .args .t) (c .before .before .before .before .type-number .ensures)) (c .before .before .put-classes .ensures)))
