@@ -140,7 +140,15 @@ pub(crate) fn class_rows(
     let at = children_at(rule, 0);
     let place = branches_at(rule, at);
     let count = byte_at(rule, 4) as usize;
-    read_results(rule, place, rule.len(), count, type_of(rule, 0), kinds, payloads);
+    read_results(
+        rule,
+        place,
+        rule.len(),
+        count,
+        type_of(rule, 0),
+        kinds,
+        payloads,
+    );
     if !all_of_kind(kinds, count + 1, code) {
         return false;
     }
