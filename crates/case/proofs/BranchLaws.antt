@@ -13,6 +13,7 @@ use Rattle.rule.specs.Walks.{branchTrees, TreesAt, EndGives, BehindGives}
 use Rattle.rule.proofs.WalkLaws.{first-two}
 use Rattle.case.specs.Evaluation.{resultAt}
 use Rattle.case.specs.Results.{elseKnown, resultKnown}
+use Rattle.case.specs.Steps.{whenAt}
 
 -- the branches behind the first so many
 unfoldable pub dropBranches : ℕ → Branches → Branches
@@ -32,13 +33,14 @@ pub record BranchAt (i : ℕ) (bs : Branches) : Type 0 where
   pub later : Branches
   pub before : List Expr
   pub here : dropBranches i bs ≡ branch when-is then-is later
+  pub when : whenAt bs i ≡ when-is
   pub behind : dropBranches (suc i) bs ≡ later
   pub result : (row : Row) (els : Outcome) → resultAt bs row els i ≡ eval then-is row
   pub many : length before ≡ 2 * i
   pub trees : branchTrees bs ≡ before ++ (when-is ∷ then-is ∷ branchTrees later)
 
 pub branch-at : (i : ℕ) (bs : Branches) → i < branchCount bs → BranchAt i bs
-unfolding dropBranches branchCount resultAt
+unfolding dropBranches branchCount resultAt whenAt
 branch-at i noMore h = absurd (omega arith)
 branch-at zero (branch w t bs) h = record {
   when-is = w;
@@ -46,6 +48,7 @@ branch-at zero (branch w t bs) h = record {
   later = bs;
   before = [];
   here = refl;
+  when = refl;
   behind = drop-none bs;
   result = λ row els. refl;
   many = refl;
@@ -62,6 +65,7 @@ branch-at (suc i) (branch w t bs) h =
       later = a .later;
       before = w ∷ t ∷ a .before;
       here = a .here;
+      when = a .when;
       behind = a .behind;
       result = a .result;
       many = (let m = a .many in omega arith);

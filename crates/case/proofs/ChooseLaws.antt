@@ -1,6 +1,6 @@
 -- Choosing: the open list through the branches in turn. Assumes nothing.
 use mathlib.Core.Path.{_≡_, refl, sym, ap, ap₂, subst, _∙_}
-use mathlib.Core.Bool.{Bool, true, false, cond}
+use mathlib.Core.Bool.{Bool, true, false, cond, false≢true}
 use mathlib.Core.List.{List, [], _∷_, _++_}
 use mathlib.Core.Option.{Option, some, none}
 use mathlib.Core.Logic.{_⊎_, inl, inr, ⊎-elim}
@@ -24,7 +24,7 @@ use Rattle.case.specs.declared.settle.Leave.{Leave}
 use Rattle.case.specs.declared.settle.Leave.the-variants.{NullBase, TrueWhen, EqualWhen, Rest}
 use Rattle.case.specs.declared.settle.Settled.{Settled}
 use Rattle.case.specs.Frame.{rowAt, slotAt, nextSlot, Rows, Listed, Copied}
-use Rattle.case.specs.Choosing.{leaving, trueOutcome, classAt, classBy, heldBy, Open, Settles}
+use Rattle.case.specs.Choosing.{leaving, trueOutcome, classAt, classBy, asksTrue, heldBy, Open, Settles}
 use Rattle.case.specs.Evaluation.{Framed, Done, Ahead, rowIn, ExprRight, resultAt, indexedOr, TestFor, passesTest, WhenRight, Sifts, BranchesIndex}
 use Rattle.case.specs.Steps.{WhenIndex, WhenGives}
 use Rattle.case.proofs.FrameLaws.{none-some, Kept, SameRows, kept-rows, kept-slot, listed-to, listed-from, rows-to, rows-small, listed-below, lent, back, lent-framed, NextDone, next-done}
@@ -134,6 +134,13 @@ module _ {table : List ℕ} {t : Table} {depth : ℕ} {w w₁ : List ℕ} {left 
       pub turn-gives : Sifts (WhenRight rule start end table t depth how index failed w) w left (t .rows) b (s .left) (s .builder) w₂
       turn-gives = settles-sift (WhenRight rule start end table t depth how index failed w) turn-long (λ j h. turn-kept j (omega arith)) turn-list (a .is-open .sized) settles right-class
 
+-- only one way asks for a true WHEN
+asked-true : (how : Leave) → asksTrue how ≡ true → how ≡ TrueWhen
+asked-true NullBase p = absurd (false≢true p)
+asked-true TrueWhen p = refl
+asked-true EqualWhen p = absurd (false≢true p)
+asked-true Rest p = absurd (false≢true p)
+
 -- a WHEN that is a step: the rows that leave by its index
 module _ {table : List ℕ} {t : Table} {depth : ℕ} {w : List ℕ} {left : ℕ} {b : ResultBuilder} (a : Ahead table t w left b depth) where
   pub step-asks : Rows w 5632 left 512 × (5632 + 2 * left ≤ length w)
@@ -142,12 +149,12 @@ module _ {table : List ℕ} {t : Table} {depth : ℕ} {w : List ℕ} {left : ℕ
     (let f = a .is-open .list-ok .few in let r = a .room in let d = a .deep in omega arith),
   )
 
-  pub step-turn : {rule : List ℕ} {start end : ℕ} {how : Leave} {index failed : ℕ} {asked served : Bool} (whens : List ℕ) {s : Settled} {w₁ : List ℕ} → (asked ≡ true → how ≡ TrueWhen)
+  pub step-turn : {rule : List ℕ} {start end : ℕ} {how : Leave} {index failed : ℕ} {asked served : Bool} (whens : List ℕ) {s : Settled} {w₁ : List ℕ} → asked ≡ asksTrue how
       → WhenGives asked rule start end table t w 5632 left served whens → served ≡ true → Settles (classBy whens index) w left (b .rows) b s w₁
       → Sifts (WhenRight rule start end table t depth how index failed w) w left (t .rows) b (s .left) (s .builder) w₁
   step-turn {rule} {start} {end} {how} {index} {failed} whens by gives all settles =
       settles-sift (WhenRight rule start end table t depth how index failed w) refl (λ j h. refl) (λ i h. refl) (a .is-open .sized) settles
-      (λ q c l e. record { is = λ x test node for. sym e ∙ class-is q (gives .each all q l x depth node) test (subst (λ (y : Leave). TestFor y (meaning rule table (slotAt w q)) test) (by (gives .wanted all)) for) })
+      (λ q c l e. record { is = λ x test node for. sym e ∙ class-is q (gives .each all q l x depth node) test (subst (λ (y : Leave). TestFor y (meaning rule table (slotAt w q)) test) (asked-true how (sym by ∙ gives .wanted all)) for) })
     where
       taken : (v : Entry) (c : ℕ) (y : Bool) → isTrue v ≡ y → c ≡ cond y 1 2 → cond (eqb c 1) index 0 ≡ cond y index 0
       taken v c true p e = ap (λ (k : ℕ). cond (eqb k 1) index 0) e

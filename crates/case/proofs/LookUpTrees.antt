@@ -39,7 +39,7 @@ use Rattle.case.specs.Results.{elseKnown, resultKnown, indexKnown}
 use Rattle.case.specs.LookUp.{LookedUp}
 use Rattle.case.specs.LookUpColumns.{KeyedRow, ColumnKeyed, BaseIndex, BaseGives}
 use Rattle.case.specs.LookUpTables.{sameKey, found, valueAt, keyIndex, whenIndex, baseIndex, TableOf, literalEntry, entryAt, LiteralsRead, MappedBy}
-use Rattle.case.proofs.CaseLaws.{result-else}
+use Rattle.case.proofs.CaseLaws.{is-literal, result-else}
 use Rattle.case.proofs.LookUpLaws.{never, found-same, found-none, found-below, null-first}
 
 -- ---- literals
@@ -49,16 +49,7 @@ data Literal : Expr → Type 0 where
   aLiteral : (t : DataType) (v : Entry) → Literal (literal t v)
 
 literal-told : (e : Expr) → isLiteral e ≡ true → Literal e
-literal-told (column c) p = never p
-literal-told (literal t v) p = aLiteral t v
-literal-told (negation e) p = never p
-literal-told (negative e) p = never p
-literal-told (isNotNull e) p = never p
-literal-told (cast t e) p = never p
-literal-told (tryCast t e) p = never p
-literal-told (equal a b) p = never p
-literal-told (less a b) p = never p
-literal-told (caseWhen b bs e) p = never p
+literal-told e p = let (d, x, is) = is-literal e p in subst Literal (sym is) (aLiteral d x)
 
 -- the entries of literals, one by one
 entry-none : (j : ℕ) → entryAt [] j ≡ null

@@ -34,22 +34,26 @@ use Rattle.case.proofs.BranchLaws.{dropBranches, BranchAt, branch-at, b
 -- ---- what is known without the row
 
 -- a literal by its tag
-literal-tag : (e : Expr) → isLiteral e ≡ true → nodeTag e ≡ 17
-literal-tag e p = let (d, x, is) = is-literal e p in ap nodeTag is
-
 module _ {rule : List ℕ} {start end : ℕ} where
+  -- a node with that tag is a literal
+  pub literal-node : byte rule start ≡ 17 → (e : Expr) {depth : ℕ} → NodeAt rule start end e depth → isLiteral e ≡ true
+  literal-node tag e node = go e (node-of-tag node tag)
+    where
+      go : (e : Expr) → Tagged 17 e → isLiteral e ≡ true
+      go e (ofLiteral t x) = refl
+
+  -- no literal has another tag
+  no-literal : (byte rule start ≡ 17 → ⊥) → (e : Expr) {depth : ℕ} → NodeAt rule start end e depth → isLiteral e ≡ true → ⊥
+  no-literal other e node p = let (d, x, is) = is-literal e p in other (node-tag node ∙ ap nodeTag is)
+
   -- the value that was read is the literal's, whatever the row
   read-literal : (v : Value) → byte rule start ≡ 17 → LiteralGives rule start end v → (e : Expr) (depth : ℕ) → NodeAt rule start end e depth
       → ((row : Row) (table : List ℕ) → meaning rule table v ≡ eval e row) × Storable v
   unfolding eval
-  read-literal v tag gives e depth node = go e node (node-of-tag node tag)
-    where
-      go : (e : Expr) → NodeAt rule start end e depth → Tagged 17 e → ((row : Row) (table : List ℕ) → meaning rule table v ≡ eval e row) × Storable v
-      go e n (ofLiteral t x) = let (means, stores) = gives t x depth n in (λ row table. means table, stores)
-
-  -- no literal has another tag
-  no-literal : (byte rule start ≡ 17 → ⊥) → (e : Expr) {depth : ℕ} → NodeAt rule start end e depth → isLiteral e ≡ true → ⊥
-  no-literal other e node p = other (node-tag node ∙ literal-tag e p)
+  read-literal v tag gives e depth node =
+      let (d, x, is) = is-literal e (literal-node tag e node) in
+      let (means, stores) = gives d x depth (subst (λ (y : Expr). NodeAt rule start end y depth) is node) in
+      (λ row table. means table ∙ sym (ap (λ (y : Expr). eval y row) is), stores)
 
 -- a value in the arrays
 stored-at : (kinds payloads : List ℕ) (k : ℕ) {kind payload : ℕ} (v : Value) → length kinds ≡ 258 → length payloads ≡ 258 → k < 258 → kind ≡ kindOf v → payload ≡ payloadOf v → Storable v

@@ -1,7 +1,7 @@
 -- WHENs that compare one column with literals: how they are read, and that a row's index by its number is that of its branch. Assumes nothing.
 use mathlib.Core.Path.{_≡_, refl, sym, ap, ap₂, subst, _∙_}
 use mathlib.Core.Bool.{Bool, true, false, cond, false≢true}
-use mathlib.Core.List.{List, [], _∷_, _++_, append-assoc, map}
+use mathlib.Core.List.{List, [], _∷_, _++_, map}
 use mathlib.Core.Logic.{_⊎_, inl, inr}
 use Prim.Native.Nat.{ℕ, zero, suc, _+_, _-_, _*_, _<_, _≤_, min}
 use native.Mathlib.Decide.{ℕ-discrete}
@@ -37,7 +37,7 @@ use Rattle.case.specs.LookUpTables.{found}
 use Rattle.case.specs.Evaluation.{rowIn, resultAt, indexed}
 use Rattle.case.specs.Steps.{StepsGive, noStep, stepOf, Sides, SidesGive, stepEntry, StepWhen, StepGives, whenAt, StepsAt, StepsRead, stepPasses, stepIndex, EntryIndex, KeyAt, RowIndex, RowsIndexed, ColumnGives, WhenIndex, StepRows, WhenGives}
 use Rattle.case.proofs.LookUpLaws.{found-none, found-below}
-use Rattle.case.proofs.BranchLaws.{behind-none, behind-two}
+use Rattle.case.proofs.BranchLaws.{branch-at, branch-stands, behind-none, behind-two}
 use Rattle.case.proofs.CellLaws.{cell-found}
 
 -- ---- one step
@@ -147,15 +147,6 @@ module _ {rule : List ℕ} {start at middle end tag : ℕ} {s : Step} (read : ta
 
 -- ---- the steps of a CASE
 
--- the WHEN of a branch among the trees
-when-tree : (i : ℕ) (bs : Branches) → i < branchCount bs → (before : List Expr) × (later : List Expr) × (length before ≡ 2 * i) × (branchTrees bs ≡ before ++ (whenAt bs i ∷ later))
-unfolding whenAt branchCount
-when-tree i noMore h = absurd (omega arith)
-when-tree zero (branch w t bs) h = ([], t ∷ branchTrees bs, refl, refl)
-when-tree (suc i) (branch w t bs) h =
-    let (before, later, many, is) = when-tree i bs (omega arith) in
-    (w ∷ t ∷ before, later, omega arith, ap (λ (l : List Expr). w ∷ t ∷ l) is)
-
 -- where the loop stands: i steps are read
 pub record StepsSoFar (rule : List ℕ) (at count column kind place i : ℕ) (tags keys : List ℕ) : Type 0 where
   pub few : i ≤ count
@@ -192,11 +183,11 @@ module _ {rule : List ℕ} {at count column kind place i : ℕ} {tags keys : Lis
     where
       here : (bs : Branches) (rest : List Expr) (end depth : ℕ) → TreesAt rule at end (branchTrees bs ++ rest) depth → branchCount bs ≡ count → StepWhen (x .tag) column kind (x .key) (whenAt bs i)
       here bs rest end depth trees n =
-          let (before, later, many, is) = when-tree i bs (omega arith) in
-          let moved = subst (λ (l : List Expr). TreesAt rule at end l depth) (ap (λ (l : List Expr). l ++ rest) is ∙ append-assoc before (whenAt bs i ∷ later) rest) trees in
-          let (node, others) = first-tree to-then (s .behind .stand end before (whenAt bs i ∷ (later ++ rest)) depth many moved) in
-          subst (λ (y : ℕ). StepWhen (x .tag) y kind (x .key) (whenAt bs i)) column-is
-          (subst (λ (y : ℕ). StepWhen (x .tag) (x .column) y (x .key) (whenAt bs i)) kind-is (step .is some (whenAt bs i) depth node))
+          let b = branch-at i bs (omega arith) in
+          let (node, others) = first-tree to-then (branch-stands rest (s .behind) b trees) in
+          subst (StepWhen (x .tag) column kind (x .key)) (sym (b .when))
+          (subst (λ (y : ℕ). StepWhen (x .tag) y kind (x .key) (b .when-is)) column-is
+          (subst (λ (y : ℕ). StepWhen (x .tag) (x .column) y (x .key) (b .when-is)) kind-is (step .is some (b .when-is) depth node)))
 
       stays : {a b c d : ℕ} {e : Expr} → a ≡ b → c ≡ d → StepWhen a column kind c e → StepWhen b column kind d e
       stays {a} {b} {c} {d} {e} p q h = subst (λ (y : ℕ). StepWhen b column kind y e) q (subst (λ (y : ℕ). StepWhen y column kind c e) p h)

@@ -13,13 +13,12 @@ use Rattle.scalar.specs.declared.types.DataType.{DataType}
 use Rattle.scalar.specs.Entry.{Entry, null, Outcome, entry, unfit, onEntry}
 use Rattle.scalar.specs.TryCast.{tryCastEntry}
 use Rattle.scalar.specs.Value.{meaning, Gives}
-use Rattle.rule.specs.Tree.{Expr, Branches, noMore, branch, Optional, absent, present, branchCount}
+use Rattle.rule.specs.Tree.{Branches, noMore, branch, Optional, absent, present, branchCount}
 use Rattle.rule.specs.Row.{Row, eval, evalElse}
 use Rattle.rule.specs.Strategy.{isLiteral}
-use Rattle.rule.specs.Node.{NodeAt}
 use Rattle.rule.specs.Walks.{branchTrees, optionalTrees, TreesAt, EndGives, BehindGives}
-use Rattle.rule.proofs.NodeLaws.{Tagged, ofLiteral, trees-one, trees-none, trees-some}
-use Rattle.rule.proofs.WalkLaws.{node-of-tag, first-two, branches-length}
+use Rattle.rule.proofs.NodeLaws.{trees-one, trees-none, trees-some}
+use Rattle.rule.proofs.WalkLaws.{first-two, branches-length}
 use Rattle.table.specs.declared.places.Table.{Table}
 use Rattle.case.specs.declared.rows.Op.the-variants.{TryCast}
 use Rattle.case.specs.Frame.{rowAt, slotAt, nextSlot, Rows, Listed, Filled, FilledFrom, Fillable, FillableFrom, operationOf}
@@ -29,6 +28,7 @@ use Rattle.case.specs.Results.{elseKnown, resultKnown, indexKnown, Start
 use Rattle.case.proofs.FrameLaws.{Kept, SameRows, kept-rows, kept-slot, listed-to, listed-from, rows-to, rows-small, listed-below, framed-few, framed-fillable, framed-kept, done-filled, done-done, lent, back, lent-rows, lent-slot, lent-framed, NextDone, next-done}
 use Rattle.case.proofs.CaseLaws.{result-else, result-failed}
 use Rattle.case.proofs.BranchLaws.{BranchAt, branch-at, branch-stands, behind-none, behind-two, known-then, known-else, known-failed}
+use Rattle.case.proofs.ResultLaws.{literal-node}
 
 -- ---- the rows of an index
 
@@ -113,17 +113,10 @@ module _ {table : List ℕ} {t : Table} {depth : ℕ} {w w₁ : List ℕ} {n m :
 takes-none : {right : ℕ → Value → Value → Type 0} {values : List ℕ} {k : ℕ} {w : List ℕ} {n : ℕ} → ((r : ℕ) (v : Value) → right r v v) → Takes values k right w n w
 takes-none {w = w} right = record { long = refl; here = λ r l i. right r (slotAt w r); others = λ r l no. refl; low = λ j h. refl }
 
--- a node whose first byte is 17
-literal-node : {rule : List ℕ} {start end : ℕ} {e : Expr} {depth : ℕ} → NodeAt rule start end e depth → byte rule start ≡ 17 → isLiteral e ≡ true
-literal-node {e = e} node is = go e (node-of-tag node is)
-  where
-    go : (e : Expr) → Tagged 17 e → isLiteral e ≡ true
-    go e (ofLiteral t v) = refl
-
 -- a THEN that is a literal
 pub then-known : {rule : List ℕ} {start end : ℕ} {table : List ℕ} {t : Table} {depth : ℕ} {values : List ℕ} {k : ℕ} {w : List ℕ} {n : ℕ} → byte rule start ≡ 17
     → Takes values k (ThenRight rule start end table t depth) w n w
-then-known is = takes-none (λ r v. record { is = λ e node old. old (literal-node node is) })
+then-known is = takes-none (λ r v. record { is = λ e node old. old (literal-node is _ node) })
 
 -- any other
 pub then-takes : {rule : List ℕ} {start end : ℕ} {table : List ℕ} {t : Table} {depth : ℕ} {values : List ℕ} {k : ℕ} {w w′ : List ℕ} {n : ℕ}
@@ -145,7 +138,7 @@ else-known {rule} {at} {end} {table} {t} {depth} {to} is = takes-none (λ r v. r
   where
     go : (els : Optional) → TreesAt rule at end (optionalTrees els) depth → elseKnown els ≡ true
     go absent trees = refl
-    go (present e) trees = literal-node (trees-one trees) is
+    go (present e) trees = literal-node is e (trees-one trees)
 
 -- its outcome, cast
 pub else-cast : {rule : List ℕ} {at end : ℕ} {table : List ℕ} {t : Table} {depth : ℕ} {to : DataType} {r : ℕ} {u v : Value} (old : Value) → (at ≡ end → ⊥) → ExprRight rule at end table t depth r u

@@ -44,6 +44,13 @@ classAt Rest rule table w index failed r = index
 abbrev pub classBy : List ℕ → ℕ → ℕ → ℕ
 classBy whens index r = cond (eqb (getD whens r 0) 1) index 0
 
+-- whether a way of leaving asks for a true WHEN
+abbrev pub asksTrue : Leave → Bool
+asksTrue NullBase = false
+asksTrue TrueWhen = true
+asksTrue EqualWhen = false
+asksTrue Rest = false
+
 -- what a builder holds for a row
 abbrev pub heldBy : ResultBuilder → ℕ → Option ℕ
 heldBy b r = getD (builderOf b .held) r none

@@ -1,4 +1,5 @@
 // The entries of a column in the slots of the listed rows.
+use crate::put::mark_number;
 use crate::rows::row_at;
 use crate::slot::get_slot;
 use crate::slot::put_parts;
@@ -23,7 +24,7 @@ ghost use Prim.Native.Nat.{ℕ, _^_, _<_};
 ghost use lib.ListN.{length};
 ghost use Rattle.layout.specs.Bytes.{part};
 ghost use Rattle.scalar.specs.Entry.{Entry, entry};
-ghost use Rattle.scalar.specs.Types.{typeNumber, markNumber};
+ghost use Rattle.scalar.specs.Types.{typeNumber};
 ghost use Rattle.scalar.specs.Value.{meaning, Storable};
 ghost use Rattle.rule.specs.Row.{isTrueTest, chosen};
 ghost use Rattle.table.specs.Column.{validIn, entryAt};
@@ -61,13 +62,6 @@ pub(crate) fn fill_column(table: &[u8], place: ColumnPlace, work: &mut [u8], n: 
     }
 }
 
-// A mark as a payload.
-fn mark(b: bool) -> u64
-    ensures { λ r. ⌜ r ≡ markNumber b ⌝ }
-{
-    if b { 1 } else { 0 }
-}
-
 // The kind of a row's entry: its type's number, or that of null.
 fn kind_at(validity: &[u8], kind: DataType, row: usize) -> u8
     ensures { λ r. ⌜ r ≡ cond (validIn (now (validity .entry)) row) (typeNumber kind) 0 ⌝ }
@@ -84,7 +78,7 @@ fn payload_at(values: &[u8], kind: DataType, row: usize) -> u64
     ensures { λ r. ⌜ PayloadRight kind (now (values .entry)) row r ⌝ }
 {
     match kind {
-        DataType::Boolean => mark(bit_at(values, row)),
+        DataType::Boolean => mark_number(bit_at(values, row)) as u64,
         DataType::Int32 => row_u32(values, row) as u64,
         DataType::Int64 => row_u64(values, row),
         DataType::Float64 => row_u64(values, row),

@@ -84,7 +84,7 @@ pub(crate) fn put_header(output: &mut [u8], at: usize, tag: u8, size: usize) -> 
 }
 
 // The number of a mark.
-fn mark_number(b: bool) -> u8
+pub(crate) fn mark_number(b: bool) -> u8
     ensures { λ r. ⌜ r ≡ markNumber b ⌝ }
 {
     if b { 1 } else { 0 }

@@ -10,16 +10,14 @@ use scalar::compare::equal;
 use scalar::value::Value;
 use scalar::value::kind;
 ghost use mathlib.Core.Path.{_≡_};
-ghost use mathlib.Core.Bool.{true};
 ghost use mathlib.Core.List.{List};
 ghost use mathlib.Core.Option.{none};
 ghost use Prim.Native.Nat.{ℕ, _<_, _≤_};
 ghost use lib.ListN.{length, getD};
 ghost use Rattle.scalar.specs.Value.{meaning};
 ghost use Rattle.builder.specs.Builder.{orElse};
-ghost use Rattle.case.specs.declared.settle.Leave.the-variants.{TrueWhen};
 ghost use Rattle.case.specs.Frame.{Rows};
-ghost use Rattle.case.specs.Choosing.{leaving, nullOutcome, trueOutcome, classAt, classBy, heldBy, Open, Settles};
+ghost use Rattle.case.specs.Choosing.{leaving, nullOutcome, trueOutcome, classAt, classBy, asksTrue, heldBy, Open, Settles};
 ghost use Rattle.case.specs.Parting.{Parted, PartAsks, PartGives};
 
 // When a row leaves: its base is null, its WHEN is true, its WHEN equals its base, or always.
@@ -184,7 +182,7 @@ pub(crate) fn settle(
 
 // Whether a row leaves where its WHEN is true.
 pub(crate) fn asks_true(how: Leave) -> bool
-    ensures { λ r. ⌜ (r ≡ true → how ≡ TrueWhen) ⌝ }
+    ensures { λ r. ⌜ r ≡ asksTrue how ⌝ }
 {
     match how {
         Leave::NullBase => false,
