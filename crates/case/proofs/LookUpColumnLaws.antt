@@ -285,12 +285,12 @@ module _ (text : List ℕ) {rule table kinds keys indices hints : List ℕ} {siz
       (λ k l. fails (sameKey (entry (utf8 text)) (meaning rule table (valueAt kinds keys k)))
       (λ e. t .hinted .each k l (ap (λ (o : Outcome). getD hints (outcomeHint o) 0) (sym (same-one (entry (utf8 text)) (meaning rule table (valueAt kinds keys k)) e)) ∙ ap (λ (y : ℕ). getD hints y 0) (sym hint-is) ∙ sym is ∙ none)))
 
-  pub text-found-here : (p : ℕ) {h : ℕ} {b : Bool} → h ≡ getD hints p 0 → (h ≡ 0 → ⊥) → b ≡ sameKey (entry (utf8 text)) (meaning rule table (valueAt kinds keys (h - 1))) → b ≡ true
-      → getD indices (h - 1) 0 ≡ keyIndex rule table kinds keys indices size otherwise (entry (utf8 text))
-  text-found-here p {h} is some same holds =
-      let f = hint-few p (t .hinted) is in
-      found-at (λ k. sameKey (entry (utf8 text)) (meaning rule table (valueAt kinds keys k))) (λ k. getD indices k 0) otherwise size (h - 1) (omega arith) (sym same ∙ holds)
-      (λ j l. ap (λ (o : Outcome). sameKey o (meaning rule table (valueAt kinds keys j))) (same-one (entry (utf8 text)) (meaning rule table (valueAt kinds keys (h - 1))) (sym same ∙ holds)) ∙ t .once .unlike j (h - 1) l (omega arith))
+-- or by a key that it is
+pub text-found-here : (text : List ℕ) {rule table kinds keys indices : List ℕ} {size otherwise : ℕ} (k : ℕ) {b : Bool} → Keys kinds keys indices size otherwise → EachOnce rule table kinds keys size → k < size
+    → b ≡ sameKey (entry (utf8 text)) (meaning rule table (valueAt kinds keys k)) → b ≡ true → getD indices k 0 ≡ keyIndex rule table kinds keys indices size otherwise (entry (utf8 text))
+text-found-here text {rule} {table} {kinds} {keys} {indices} {size} {otherwise} k arrays once few same holds =
+    found-at (λ i. sameKey (entry (utf8 text)) (meaning rule table (valueAt kinds keys i))) (λ i. getD indices i 0) otherwise size k few (sym same ∙ holds)
+    (λ j l. ap (λ (o : Outcome). sameKey o (meaning rule table (valueAt kinds keys j))) (same-one (entry (utf8 text)) (meaning rule table (valueAt kinds keys k)) (sym same ∙ holds)) ∙ once .unlike j k l few)
 
 -- the index of a row of text
 module _ {rule table validity offsets texts kinds keys indices : List ℕ} {size otherwise row : ℕ} {b : Bool} (valid : b ≡ validIn validity row) where
@@ -302,17 +302,15 @@ module _ {rule table validity offsets texts kinds keys indices : List ℕ} {size
         ∙ ap (λ (y : Bool). keyIndex rule table kinds keys indices size otherwise (entry (cond y (columns.valueAt Of.Utf8 offsets texts row) null)) / 2 + 1) (sym e ∙ valid);
   }
 
-  pub text-value : {j c from to : ℕ} {text : List ℕ} → b ≡ true → from ≡ numberAt 4 offsets (4 * row) → to ≡ numberAt 4 offsets (4 * (row + 1)) → text ≡ part texts from to
+  pub text-value : {j c : ℕ} {text : List ℕ} → b ≡ true → text ≡ part texts (numberAt 4 offsets (4 * row)) (numberAt 4 offsets (4 * (row + 1)))
       → j ≡ keyIndex rule table kinds keys indices size otherwise (entry (utf8 text)) → c ≡ j / 2 + 1 → TextRow rule table validity offsets texts kinds keys indices size otherwise row c
   unfolding columns.valueAt
-  text-value {j} {c} {from} {to} {text} e from-is to-is text-is p q =
-      let next : to ≡ numberAt 4 offsets (4 * suc row) = to-is ∙ ap (λ (y : ℕ). numberAt 4 offsets (4 * y)) (add-one row) in
-      record {
-        is =
-            q
-            ∙ ap (λ (y : ℕ). y / 2 + 1) (p ∙ ap (λ (y : List ℕ). keyIndex rule table kinds keys indices size otherwise (entry (utf8 y))) (text-is ∙ ap₂ (part texts) from-is next))
-            ∙ ap (λ (y : Bool). keyIndex rule table kinds keys indices size otherwise (entry (cond y (columns.valueAt Of.Utf8 offsets texts row) null)) / 2 + 1) (sym e ∙ valid);
-      }
+  text-value {j} {c} {text} e text-is p q = record {
+    is =
+        q
+        ∙ ap (λ (y : ℕ). y / 2 + 1) (p ∙ ap (λ (y : List ℕ). keyIndex rule table kinds keys indices size otherwise (entry (utf8 y))) (text-is ∙ ap (λ (y : ℕ). part texts (numberAt 4 offsets (4 * row)) (numberAt 4 offsets (4 * y))) (add-one row)))
+        ∙ ap (λ (y : Bool). keyIndex rule table kinds keys indices size otherwise (entry (cond y (columns.valueAt Of.Utf8 offsets texts row) null)) / 2 + 1) (sym e ∙ valid);
+  }
 
 -- it is at most ELSE's
 pub text-below : (rule table text : List ℕ) {kinds keys indices : List ℕ} {size otherwise : ℕ} → Keys kinds keys indices size otherwise

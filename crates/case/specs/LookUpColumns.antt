@@ -1,17 +1,19 @@
 -- A column searched in a lookup table (01, Strategies: 6). Hints are an array of 256: at a key's hint stands one more than the place of a key, 0 where no
--- key has the hint, so that most rows are found, or not found, at once.
+-- key has the hint, so that most rows are found, or not found, at once. A text key of four to eight bytes has a mark, by which a row is
+-- compared with it at once.
 use mathlib.Core.Path.{_≡_}
 use mathlib.Core.Bool.{Bool, true, cond}
 use mathlib.Core.List.{List, _++_}
 use Prim.Native.Nat.{ℕ, _+_, _-_, _*_, _/_, _%_, _^_, _<_, _≤_}
 use lib.Dec.{eqb}
 use lib.ListN.{length, getD}
+use Rattle.layout.specs.Bytes.{numberAt}
 use Rattle.scalar.specs.declared.order.Key.{Key}
 use Rattle.scalar.specs.declared.order.Key.the-variants as Of
 use Rattle.scalar.specs.declared.value.Value.{Value}
 use Rattle.scalar.specs.Entry.{Entry, null, boolean, int32, int64, float64, utf8, Outcome, entry, unfit}
 use Rattle.scalar.specs.Order.{Numbered}
-use Rattle.scalar.specs.Value.{meaning}
+use Rattle.scalar.specs.Value.{meaning, placeText}
 use Rattle.rule.specs.Tree.{Branches, Optional, branchCount}
 use Rattle.rule.specs.Strategy.{dropNull, tableServes}
 use Rattle.rule.specs.Row.{Row, withBase, evalBranches}
@@ -102,6 +104,34 @@ pub record TextTable (rule table kinds keys indices hints : List ℕ) (size othe
   pub once : EachOnce rule table kinds keys size
   pub hinted : Hinted (λ k. outcomeHint (meaning rule table (valueAt kinds keys k))) size hints
   pub small : otherwise ≤ 64
+
+-- the bytes of a text of the rule, by its payload
+abbrev pub ruleText : List ℕ → ℕ → List ℕ
+ruleText rule p = placeText rule (p % 2 ^ 32) (p / 2 ^ 32)
+
+-- the mark of a text: its first four bytes and its last four
+abbrev pub textMark : List ℕ → ℕ
+textMark t = numberAt 4 t 0 + 2 ^ 32 * numberAt 4 t (length t - 4)
+
+-- the size of a key that is a text of four to eight bytes in the rule, by its kind and payload, or 0
+pub record KeySize (rule : List ℕ) (kind p size : ℕ) : Type 0 where
+  pub most : size ≤ 8
+  pub is-text : (size ≡ 0 → ⊥) → kind ≡ 5
+  pub is-size : (size ≡ 0 → ⊥) → length (ruleText rule p) ≡ size
+  pub least : (size ≡ 0 → ⊥) → 4 ≤ size
+
+-- the sizes of the keys, and the marks of those that have one
+pub record Marked (rule kinds keys sizes marks : List ℕ) : Type 0 where
+  pub sizes-long : length sizes ≡ 256
+  pub marks-long : length marks ≡ 256
+  pub each-size : (k : ℕ) → KeySize rule (getD kinds k 0) (getD keys k 0) (getD sizes k 0)
+  pub each-mark : (k : ℕ) → (getD sizes k 0 ≡ 0 → ⊥) → getD marks k 0 ≡ textMark (ruleText rule (getD keys k 0))
+
+-- a text of four bytes or more has a size and a mark
+pub record MarkIs (size mark : ℕ) (text : List ℕ) : Type 0 where
+  pub some : 4 ≤ length text
+  pub same-size : size ≡ length text
+  pub same-mark : mark ≡ textMark text
 
 -- the index of a row, from 1, by the texts of a column
 pub record TextRow (rule table validity offsets texts kinds keys indices : List ℕ) (size otherwise row c : ℕ) : Type 0 where

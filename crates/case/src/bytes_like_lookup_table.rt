@@ -1,14 +1,16 @@
 // Text keys, by their bytes.
+use crate::slot::word;
 use scalar::text::place_text;
 use scalar::text::same_bytes;
 ghost use mathlib.Core.Path.{_≡_};
-ghost use Prim.Native.Nat.{ℕ, _≤_};
+ghost use mathlib.Core.Bool.{true};
+ghost use Prim.Native.Nat.{ℕ, _<_, _≤_};
 ghost use lib.ListN.{length, getD};
 ghost use Rattle.scalar.specs.Entry.{entry, utf8};
 ghost use Rattle.scalar.specs.Text.{sameBytes};
 ghost use Rattle.scalar.specs.Value.{meaning, placeText, valueOf};
-ghost use Rattle.case.specs.LookUpTables.{Keys, sameKey, keyIndex, valueAt};
-ghost use Rattle.case.specs.LookUpColumns.{textHint, outcomeHint, Hinted, TextTable};
+ghost use Rattle.case.specs.LookUpTables.{Keys, EachOnce, sameKey, keyIndex, valueAt};
+ghost use Rattle.case.specs.LookUpColumns.{textHint, outcomeHint, Hinted, ruleText, textMark, KeySize, Marked, MarkIs, TextTable};
 
 // Whether a text is the bytes of a place. Where they are all there, the sizes tell most texts apart.
 fn is_place(text: &[u8], bytes: &[u8], start: usize, size: usize) -> bool
@@ -111,6 +113,103 @@ pub(crate) fn read_hints(
     }
 }
 
+// The mark of a text of four bytes or more.
+fn text_mark(text: &[u8]) -> u64
+    requires { ⌜ 4 ≤ length (now text) ⌝ }
+    ensures { λ r. ⌜ r ≡ textMark (now (text .entry)) ⌝ }
+{
+    let last = text.len() - 4;
+    word(text, 0) + 0x1_0000_0000 * word(text, last)
+}
+
+// The mark of a key's text in the rule, by its payload, where it has four bytes or more.
+fn key_mark(rule: &[u8], payload: u64) -> u64
+    ensures { λ r. ⌜ (4 ≤ length (ruleText (now (rule .entry)) payload) → r ≡ textMark (ruleText (now (rule .entry)) payload)) ⌝ }
+{
+    let start = (payload % 0x1_0000_0000) as usize;
+    let size = (payload / 0x1_0000_0000) as usize;
+    let text = place_text(rule, start, size);
+    if text.len() < 4 {
+        return 0;
+    }
+    text_mark(text)
+}
+
+// The size of a key's text of four to eight bytes in the rule, by its kind and payload; of any other key 0.
+fn key_size(rule: &[u8], kind: u8, payload: u64) -> usize
+    ensures { λ r. ⌜ KeySize (now (rule .entry)) kind payload r ⌝ }
+{
+    if kind != 5 {
+        return 0;
+    }
+    let start = (payload % 0x1_0000_0000) as usize;
+    let size = (payload / 0x1_0000_0000) as usize;
+    let there = place_text(rule, start, size).len();
+    if there < 4 {
+        return 0;
+    }
+    if 8 < there {
+        return 0;
+    }
+    there
+}
+
+// The size and the mark of each key of four to eight bytes in the rule; of any other key the size 0.
+pub(crate) fn read_marks(
+    rule: &[u8],
+    kinds: &[u8],
+    keys: &[u64],
+    size: usize,
+    sizes: &mut [u8],
+    marks: &mut [u64],
+)
+    requires { ⌜ (length (now kinds) ≡ 256) × (length (now keys) ≡ 256) × (size ≤ 255) ⌝ }
+    requires { ⌜ (length (now sizes) ≡ 256) × (length (now marks) ≡ 256) × ((k : ℕ) → getD (now sizes) k 0 ≡ 0) ⌝ }
+    ensures { λ _. ⌜ Marked (now (rule .entry)) (now (kinds .entry)) (now (keys .entry)) (now (sizes .exit)) (now (marks .exit)) ⌝ }
+{
+    let mut k = 0;
+    while k < size {
+        sizes[k] = key_size(rule, kinds[k], keys[k]) as u8;
+        marks[k] = key_mark(rule, keys[k]);
+        k += 1;
+    }
+}
+
+// Whether a text of four bytes or more has the size and the mark of a key.
+fn is_marked(sizes: &[u8], marks: &[u64], k: usize, text: &[u8]) -> bool
+    requires { ⌜ (length (now sizes) ≡ 256) × (length (now marks) ≡ 256) × (k < 256) ⌝ }
+    ensures { λ r. ⌜ (r ≡ true → MarkIs (getD (now (sizes .entry)) k 0) (getD (now (marks .entry)) k 0) (now (text .entry))) ⌝ }
+{
+    if text.len() < 4 {
+        return false;
+    }
+    if (sizes[k] as usize) != text.len() {
+        return false;
+    }
+    marks[k] == text_mark(text)
+}
+
+// The index of the first key that is a text of these bytes, or the ELSE index, by one of the keys first.
+fn likely_index(
+    rule: &[u8],
+    table: &[u8],
+    kinds: &[u8],
+    keys: &[u64],
+    indices: &[u16],
+    size: usize,
+    otherwise: usize,
+    k: usize,
+    text: &[u8],
+) -> usize
+    requires { ⌜ Keys (now kinds) (now keys) (now indices) size otherwise × EachOnce (now rule) (now table) (now kinds) (now keys) size × (k < size) ⌝ }
+    ensures { λ r. ⌜ r ≡ keyIndex (now (rule .entry)) (now (table .entry)) (now (kinds .entry)) (now (keys .entry)) (now (indices .entry)) size otherwise (entry (utf8 (now (text .entry)))) ⌝ }
+{
+    if is_text(rule, table, text, kinds[k], keys[k]) {
+        return indices[k] as usize;
+    }
+    find_text(rule, table, kinds, keys, indices, size, otherwise, text)
+}
+
 // The index of the first key that is a text of these bytes, or the ELSE index, by the hint first.
 pub(crate) fn text_index(
     rule: &[u8],
@@ -119,19 +218,31 @@ pub(crate) fn text_index(
     keys: &[u64],
     indices: &[u16],
     hints: &[u8],
+    sizes: &[u8],
+    marks: &[u64],
     size: usize,
     otherwise: usize,
     text: &[u8],
 ) -> usize
-    requires { ⌜ TextTable (now rule) (now table) (now kinds) (now keys) (now indices) (now hints) size otherwise ⌝ }
+    requires { ⌜ TextTable (now rule) (now table) (now kinds) (now keys) (now indices) (now hints) size otherwise × Marked (now rule) (now kinds) (now keys) (now sizes) (now marks) ⌝ }
     ensures { λ r. ⌜ r ≡ keyIndex (now (rule .entry)) (now (table .entry)) (now (kinds .entry)) (now (keys .entry)) (now (indices .entry)) size otherwise (entry (utf8 (now (text .entry)))) ⌝ }
 {
     let h = hints[text_hint(text)] as usize;
     if h == 0 {
         return otherwise;
     }
-    if is_text(rule, table, text, kinds[h - 1], keys[h - 1]) {
+    if is_marked(sizes, marks, h - 1, text) {
         return indices[h - 1] as usize;
     }
-    find_text(rule, table, kinds, keys, indices, size, otherwise, text)
+    likely_index(
+        rule,
+        table,
+        kinds,
+        keys,
+        indices,
+        size,
+        otherwise,
+        h - 1,
+        text,
+    )
 }

@@ -1,11 +1,13 @@
 // CASE column WHEN literal THEN literal .. ELSE literal END: the index of each row straight from the column, by the table of the WHENs.
 use crate::bytes_like_lookup_table::read_hints;
+use crate::bytes_like_lookup_table::read_marks;
 use crate::bytes_like_lookup_table::text_index;
 use crate::keys::column_keys;
 use crate::literal_lookup_table::read_table;
 use crate::primitive_lookup_table::number_index;
 use crate::primitive_lookup_table::read_numbers;
 use crate::rows::row_at;
+use crate::slot::word;
 use layout::number::byte_at;
 use layout::part::part_of;
 use rule::types::type_number;
@@ -17,14 +19,15 @@ use table::places::Table;
 ghost use mathlib.Core.Path.{_≡_};
 ghost use mathlib.Core.Bool.{true};
 ghost use mathlib.Core.List.{List};
-ghost use Prim.Native.Nat.{ℕ, _*_, _^_, _<_, _≤_};
+ghost use Prim.Native.Nat.{ℕ, _+_, _*_, _^_, _<_, _≤_};
 ghost use lib.ListN.{length};
+ghost use Rattle.layout.specs.Bytes.{numberAt, part};
 ghost use Rattle.scalar.specs.Types.{typeNumber};
 ghost use Rattle.case.specs.Frame.{Rows};
 ghost use Rattle.case.specs.Steps.{RowsIndexed};
 ghost use Rattle.case.specs.LookUp.{KeyedGive};
 ghost use Rattle.case.specs.LookUpTables.{Keys, EachOnce};
-ghost use Rattle.case.specs.LookUpColumns.{NumberTable, NumberRow, TextTable, TextRow, ColumnKeyed, BaseGives};
+ghost use Rattle.case.specs.LookUpColumns.{NumberTable, NumberRow, Marked, TextTable, TextRow, ColumnKeyed, BaseGives};
 
 // Most branches of a CASE.
 const BRANCHES_MOST: u8 = 32;
@@ -87,6 +90,22 @@ fn number_rows(
     }
 }
 
+// The text of a row.
+fn row_text<'a>(offsets: &[u8], texts: &'a [u8], row: usize) -> &'a [u8]
+    requires { ⌜ row < 512 ⌝ }
+    ensures { λ r. ⌜ now r ≡ part (now (texts .entry)) (numberAt 4 (now (offsets .entry)) (4 * row)) (numberAt 4 (now (offsets .entry)) (4 * (row + 1))) ⌝ }
+{
+    let at = 4 * row;
+    if at + 8 <= offsets.len() {
+        let from = word(offsets, at) as usize;
+        let to = word(offsets, at + 4) as usize;
+        return part_of(texts, from, to);
+    }
+    let from = row_u32(offsets, row) as usize;
+    let to = row_u32(offsets, row + 1) as usize;
+    part_of(texts, from, to)
+}
+
 // The index of a row of text, from 1: of a null the ELSE index.
 fn text_row(
     rule: &[u8],
@@ -98,19 +117,19 @@ fn text_row(
     keys: &[u64],
     indices: &[u16],
     hints: &[u8],
+    sizes: &[u8],
+    marks: &[u64],
     size: usize,
     otherwise: usize,
     row: usize,
 ) -> u16
-    requires { ⌜ TextTable (now rule) (now table) (now kinds) (now keys) (now indices) (now hints) size otherwise × (row < 512) ⌝ }
+    requires { ⌜ TextTable (now rule) (now table) (now kinds) (now keys) (now indices) (now hints) size otherwise × (row < 512) × Marked (now rule) (now kinds) (now keys) (now sizes) (now marks) ⌝ }
     ensures { λ r. ⌜ TextRow (now (rule .entry)) (now (table .entry)) (now (validity .entry)) (now (offsets .entry)) (now (texts .entry)) (now (kinds .entry)) (now (keys .entry)) (now (indices .entry)) size otherwise row r ⌝ }
 {
     if !valid_at(validity, row) {
         return (otherwise / 2 + 1) as u16;
     }
-    let from = row_u32(offsets, row) as usize;
-    let to = row_u32(offsets, row + 1) as usize;
-    let text = part_of(texts, from, to);
+    let text = row_text(offsets, texts, row);
     let j = text_index(
         rule,
         table,
@@ -118,6 +137,8 @@ fn text_row(
         keys,
         indices,
         hints,
+        sizes,
+        marks,
         size,
         otherwise,
         text,
@@ -136,13 +157,15 @@ fn text_rows(
     keys: &[u64],
     indices: &[u16],
     hints: &[u8],
+    sizes: &[u8],
+    marks: &[u64],
     size: usize,
     otherwise: usize,
     work: &[u8],
     n: usize,
     values: &mut [u16],
 )
-    requires { ⌜ TextTable (now rule) (now table) (now kinds) (now keys) (now indices) (now hints) size otherwise ⌝ }
+    requires { ⌜ TextTable (now rule) (now table) (now kinds) (now keys) (now indices) (now hints) size otherwise × Marked (now rule) (now kinds) (now keys) (now sizes) (now marks) ⌝ }
     requires { ⌜ Rows (now work) 0 n 512 × (2 * n ≤ length (now work)) × (length (now values) ≡ 512) ⌝ }
     ensures { λ _. ⌜ RowsIndexed (TextRow (now (rule .entry)) (now (table .entry)) (now (validity .entry)) (now (offsets .entry)) (now (texts .entry)) (now (kinds .entry)) (now (keys .entry)) (now (indices .entry)) size otherwise) (now (work .entry)) 0 n (now (values .exit)) ⌝ }
 {
@@ -159,6 +182,8 @@ fn text_rows(
             keys,
             indices,
             hints,
+            sizes,
+            marks,
             size,
             otherwise,
             r,
@@ -231,6 +256,9 @@ fn text_column(
 {
     let mut hints = [0u8; 256];
     read_hints(rule, table, kinds, keys, size, &mut hints);
+    let mut sizes = [0u8; 256];
+    let mut marks = [0u64; 256];
+    read_marks(rule, kinds, keys, size, &mut sizes, &mut marks);
     let validity = part_of(table, place.validity_start, place.validity_end);
     let offsets = part_of(table, place.offsets_start, place.offsets_end);
     let texts = part_of(table, place.values_start, place.values_end);
@@ -244,6 +272,8 @@ fn text_column(
         keys,
         indices,
         &hints,
+        &sizes,
+        &marks,
         size,
         otherwise,
         work,

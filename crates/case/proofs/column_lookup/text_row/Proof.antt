@@ -2,9 +2,9 @@
 use mathlib.Core.Path.{refl}
 use native.Mathlib.Omega.{arith}
 use denote.Ref.{now}
-use borrow.Author.Needs.{needs}
 use borrow.Author.Tests.{not-true, not-false}
 use Rattle.case.proofs.LookUpColumnLaws.{text-null, text-value, text-below}
+use borrow.Author.Needs.{needs}
 use Rattle.case.proofs.column_lookup.text_row.Statement.{statement}
 use Rattle.case.proofs.column_lookup.text_row.Tie as tie
 
@@ -17,12 +17,7 @@ text-row-spec =
     (λ c. search needs)
     (λ c. text-null (c .before .valid-at .ensures) (not-true _ (c .if1 .taken)) refl)
     (λ c κs. search needs)
-    (λ c. search needs)
-    (λ c. search needs)
     (λ c κs. search needs)
     (λ c. search needs)
-    (λ c κs. search needs)
-    (λ c κs. search needs)
-    (λ c. search needs)
-    (λ c. omega (arith, text-below (now (c .before .before .before .before .before .before .before .before .before .before .before .before .before .before .before .args .rule)) (now (c .before .before .before .before .before .before .before .before .before .before .before .before .before .before .before .args .table)) (now (c .before .part-of .result)) (c .before .before .before .before .before .before .before .before .before .before .before .before .before .before .before .pre .0 .arrays), c .text-index .ensures, c .before .before .before .before .before .before .before .before .before .before .before .before .before .before .before .pre .0 .small))
-    (λ c. text-value (c .before .before .before .before .before .valid-at .ensures) (not-false _ (c .before .before .before .before .if1 .left)) (c .before .before .before .row-u32 .ensures) (c .before .before .row-u322 .ensures) (c .before .part-of .ensures) (c .text-index .ensures) refl))
+    (λ c. omega (arith, text-below (now (c .before .before .before .before .before .before .before .before .before .before .before .before .before .before .before .args .rule)) (now (c .before .before .before .before .before .before .before .before .before .before .before .before .before .before .before .args .table)) (now (c .before .row-text .result)) (c .before .before .before .before .before .before .before .before .before .before .before .before .before .before .before .pre .0 .arrays), c .text-index .ensures, c .before .before .before .before .before .before .before .before .before .before .before .before .before .before .before .pre .0 .small))
+    (λ c. text-value (c .before .before .before .valid-at .ensures) (not-false _ (c .before .before .if1 .left)) (c .before .row-text .ensures) (c .text-index .ensures) refl))
