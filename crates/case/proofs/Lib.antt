@@ -31,6 +31,7 @@ pub mod CellLaws
 pub mod ColumnSlotLaws
 pub mod LookUpLaws
 pub mod LookUpTrees
+pub mod WordLaws
 pub mod MarkLaws
 pub mod LookUpColumnLaws
 pub mod KeyLaws

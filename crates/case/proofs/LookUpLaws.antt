@@ -173,6 +173,9 @@ module _ (text bytes : List ℕ) (start size : ℕ) (inside : start + size ≤ l
   pub place-unlike : (size ≡ length text → ⊥) → false ≡ sameBytes text (placeText bytes start size)
   place-unlike n = sym (same-length text (placeText bytes start size) (λ e. n (omega (arith, e, length-take size (drop start bytes), length-drop start bytes))))
 
+  pub place-long : size ≡ length text → length text ≡ length (take (start + size - start) (drop start bytes))
+  place-long e = omega (arith, length-take (start + size - start) (drop start bytes), length-drop start bytes)
+
   pub place-whole : {r : Bool} → r ≡ sameBytes text (take (start + size - start) (drop start bytes)) → r ≡ sameBytes text (placeText bytes start size)
   place-whole p =
       let e : start + size - start ≡ size = omega arith in

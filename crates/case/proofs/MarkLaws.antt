@@ -7,10 +7,10 @@ use native.Mathlib.Decide.{ℕ-discrete}
 use native.Mathlib.Omega.{arith}
 use lib.Dec.{eqb}
 use lib.ListN.{length, getD, take, drop, set, length-set, length-drop, take-append-drop}
-use lib.Seq.{getD-set-same, getD-set-other, length-take-le, take-all, drop-drop}
+use lib.Seq.{getD-set-same, getD-set-other, take-all, drop-drop}
 use borrow.Author.Tests.{eqb-true}
-use Rattle.layout.specs.Bytes.{Bytes, number, numberAt, numberBytes, part}
-use Rattle.layout.proofs.BytesLaws.{numberBytes-number, number-below, bytes-take, bytes-drop}
+use Rattle.layout.specs.Bytes.{Bytes, numberAt, part}
+use Rattle.layout.proofs.BytesLaws.{bytes-take, bytes-drop}
 use Rattle.scalar.specs.Entry.{utf8, entry}
 use Rattle.scalar.specs.Text.{sameBytes}
 use Rattle.scalar.specs.Pair.{pairOf}
@@ -19,6 +19,7 @@ use Rattle.scalar.proofs.EntryLaws.{agree-refl}
 use Rattle.case.specs.LookUpTables.{sameKey, valueAt}
 use Rattle.case.specs.LookUpColumns.{ruleText, textMark, KeySize, Marked, MarkIs}
 use Rattle.case.proofs.LookUpLaws.{text-in-rule}
+use Rattle.case.proofs.WordLaws.{four-below, same-four}
 
 -- the text between the offsets of a row and the next
 pub row-between : (texts offsets : List ℕ) (row : ℕ) {text : List ℕ} {from to : ℕ} → from ≡ numberAt 4 offsets (4 * row) → to ≡ numberAt 4 offsets (4 * row + 4) → text ≡ part texts from to
@@ -28,23 +29,6 @@ row-between texts offsets row a b e =
     e ∙ ap₂ (part texts) a (b ∙ ap (numberAt 4 offsets) next)
 
 -- ---- a text by its mark
-
--- bytes are told by their number
-same-number : (l m : List ℕ) → Bytes l → Bytes m → length l ≡ length m → number l ≡ number m → l ≡ m
-same-number l m a b n e = sym (numberBytes-number l a) ∙ ap₂ numberBytes n e ∙ numberBytes-number m b
-
-four-long : (l : List ℕ) (k : ℕ) → k + 4 ≤ length l → length (take 4 (drop k l)) ≡ 4
-four-long l k h = length-take-le 4 (drop k l) (omega (arith, length-drop k l))
-
-four-bytes : (l : List ℕ) (k : ℕ) → Bytes l → Bytes (take 4 (drop k l))
-four-bytes l k h = bytes-take 4 (drop k l) (bytes-drop k l h)
-
-four-below : (l : List ℕ) (k : ℕ) → Bytes l → k + 4 ≤ length l → numberAt 4 l k < 2 ^ 32
-four-below l k h r = subst (λ (n : ℕ). number (take 4 (drop k l)) < 256 ^ n) (four-long l k r) (number-below (take 4 (drop k l)) (four-bytes l k h))
-
--- four bytes at a place are told by their number
-same-four : (t u : List ℕ) (j k : ℕ) → Bytes t → Bytes u → j + 4 ≤ length t → k + 4 ≤ length u → numberAt 4 t j ≡ numberAt 4 u k → take 4 (drop j t) ≡ take 4 (drop k u)
-same-four t u j k a b p q e = same-number (take 4 (drop j t)) (take 4 (drop k u)) (four-bytes t j a) (four-bytes u k b) (four-long t j p ∙ sym (four-long u k q)) e
 
 -- a text of four to eight bytes is its first four, and what its last four have behind them
 four-and-four : (t : List ℕ) → 4 ≤ length t → length t ≤ 8 → t ≡ take 4 t ++ drop (8 - length t) (take 4 (drop (length t - 4) t))

@@ -12,6 +12,32 @@ ghost use Rattle.scalar.specs.Value.{meaning, placeText, valueOf};
 ghost use Rattle.case.specs.LookUpTables.{Keys, EachOnce, sameKey, keyIndex, valueAt};
 ghost use Rattle.case.specs.LookUpColumns.{textHint, outcomeHint, Hinted, ruleText, textMark, KeySize, Marked, MarkIs, TextTable};
 
+// Whether two texts of one size, of four bytes or more, are the same bytes. Four at a time from the back: names often begin alike.
+fn same_words(a: &[u8], b: &[u8]) -> bool
+    requires { ⌜ (length (now a) ≡ length (now b)) × (4 ≤ length (now a)) ⌝ }
+    ensures { λ r. ⌜ r ≡ sameBytes (now (a .entry)) (now (b .entry)) ⌝ }
+{
+    let mut left = a.len();
+    while 4 <= left {
+        left -= 4;
+        if word(a, left) != word(b, left) {
+            return false;
+        }
+    }
+    word(a, 0) == word(b, 0)
+}
+
+// Whether two texts of one size are the same bytes.
+fn same_text(a: &[u8], b: &[u8]) -> bool
+    requires { ⌜ length (now a) ≡ length (now b) ⌝ }
+    ensures { λ r. ⌜ r ≡ sameBytes (now (a .entry)) (now (b .entry)) ⌝ }
+{
+    if a.len() < 4 {
+        return same_bytes(a, b);
+    }
+    same_words(a, b)
+}
+
 // Whether a text is the bytes of a place. Where they are all there, the sizes tell most texts apart.
 fn is_place(text: &[u8], bytes: &[u8], start: usize, size: usize) -> bool
     ensures { λ r. ⌜ r ≡ sameBytes (now (text .entry)) (placeText (now (bytes .entry)) start size) ⌝ }
@@ -22,7 +48,7 @@ fn is_place(text: &[u8], bytes: &[u8], start: usize, size: usize) -> bool
                 return false;
             }
             let end = start + size;
-            return same_bytes(text, &bytes[start..end]);
+            return same_text(text, &bytes[start..end]);
         }
     }
     same_bytes(text, place_text(bytes, start, size))
