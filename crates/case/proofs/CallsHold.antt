@@ -1,17 +1,14 @@
 -- What must hold of calls of `evaluate`, by what it promises. Assumes nothing.
 use mathlib.Core.Path.{_≡_, refl, sym, ap, subst, _∙_}
-use mathlib.Core.List.{List, _++_}
+use mathlib.Core.List.{List}
 use Prim.Native.Nat.{ℕ}
 use native.Mathlib.Omega.{arith}
 use lib.ListN.{length, take, drop}
 use lib.Seq.{take-append-seam}
 use Rattle.layout.specs.Result.{Result, refused, ok}
-use Rattle.rule.specs.Tree.{Expr}
-use Rattle.table.specs.Reading.{Table}
-use Rattle.case.specs.declared.answer.RunAnswer.{RunAnswer}
 use Rattle.case.specs.declared.answer.RunAnswer.the-variants.{Answered, Refused}
 use Rattle.case.specs.Run.{outputAfter}
-use Rattle.case.specs.Promise.{runAnswer, callRun, Evaluated}
+use Rattle.case.specs.Promise.{runAnswer, callRun}
 use Rattle.case.specs.Demands.{Holds, CallsAgree, CallFailsExactly}
 use Rattle.case.proofs.DemandsHold.{class-goes-with-target, fails-exactly}
 

@@ -1,42 +1,41 @@
 -- A CASE over a list of rows, by its strategy. Assumes nothing.
 use mathlib.Core.Path.{_≡_, refl, sym, ap, ap₂, subst, _∙_}
 use mathlib.Core.Bool.{Bool, true, false, cond, false≢true, _&&_}
-use mathlib.Core.List.{List, [], _∷_, _++_}
-use mathlib.Core.Option.{Option, some, none}
-use Prim.Native.Nat.{ℕ, zero, suc, _+_, _-_, _*_, _^_, _<_, _≤_}
+use mathlib.Core.List.{List, _++_}
+use mathlib.Core.Option.{some}
+use Prim.Native.Nat.{ℕ, suc, _+_, _-_, _<_, _≤_}
 use native.Mathlib.Omega.{arith}
-use lib.ListN.{length, getD}
+use lib.ListN.{length}
 use Rattle.layout.specs.Bytes.{byte}
 use Rattle.layout.proofs.TestLaws.{both-hold}
 use Rattle.scalar.specs.declared.value.Value.{Value}
 use Rattle.scalar.specs.declared.types.DataType.{DataType}
 use Rattle.scalar.specs.declared.types.DataType.the-variants.{Boolean, Int32, Int64, Float64, Utf8}
-use Rattle.scalar.specs.Entry.{Entry, null, boolean, int32, int64, float64, utf8, isNull, Outcome, entry, unfit, onEntry, onEntries}
+use Rattle.scalar.specs.Entry.{Entry, null, boolean, int32, int64, float64, utf8, isNull, Outcome, entry, unfit, onEntry}
 use Rattle.scalar.specs.Value.{meaning}
 use Rattle.scalar.specs.Cast.{castEntry}
 use Rattle.scalar.specs.TryCast.{tryCastEntry}
 use Rattle.rule.specs.declared.strategy.Strategy.{Strategy}
 use Rattle.rule.specs.declared.strategy.Strategy.the-variants.{NoExpression, WithExpression, InfallibleExprOrNull, ScalarOrScalar, ExpressionOrExpression, WithExprScalarLookupTable}
 use Rattle.rule.specs.Tree.{Column, Expr, column, literal, negation, negative, isNotNull, cast, tryCast, equal, less, caseWhen, Branches, noMore, branch, Optional, absent, present, branchCount, isNullLiteral}
-use Rattle.rule.specs.Typing.{typeOf, resultType}
-use Rattle.rule.specs.Row.{Row, Test, isTrueTest, equalsTest, chosen, withBase, eval, evalBranches, evalElse}
+use Rattle.rule.specs.Typing.{typeOf}
+use Rattle.rule.specs.Row.{Row, isTrueTest, equalsTest, chosen, withBase, eval, evalBranches, evalElse}
 use Rattle.rule.specs.Strategy.{strategyNumber, isColumn, isLiteral, dropNull, tableServes, singleBranch, withoutBase, strategyOf, strategy}
 use Rattle.rule.specs.Node.{NodeAt}
-use Rattle.rule.specs.Walks.{childrenOf, branchTrees, optionalTrees, TreesAt, EndGives, ChildrenGives, TypeGives}
+use Rattle.rule.specs.Walks.{branchTrees, optionalTrees, TreesAt, EndGives, ChildrenGives, TypeGives}
 use Rattle.rule.specs.AnswerWalks.{StrategyGives}
-use Rattle.rule.proofs.NodeLaws.{node-byte, node-deep, node-children, case-counted, trees-split, trees-one, trees-deeper}
+use Rattle.rule.proofs.NodeLaws.{node-byte, node-deep, node-children, case-counted, trees-split, trees-deeper}
 use Rattle.rule.proofs.WalkLaws.{nothing-behind, first-tree}
 use Rattle.table.specs.declared.places.Table.{Table}
 use Rattle.builder.specs.declared.ResultBuilder.{ResultBuilder}
-use Rattle.case.specs.declared.settle.Leave.{Leave}
-use Rattle.case.specs.declared.settle.Leave.the-variants.{NullBase, TrueWhen, EqualWhen, Rest}
+use Rattle.case.specs.declared.settle.Leave.the-variants.{NullBase, TrueWhen, EqualWhen}
 use Rattle.case.specs.declared.settle.Settled.{Settled}
-use Rattle.case.specs.Frame.{rowAt, slotAt, Rows, Listed, Filled, Fillable, Copied}
-use Rattle.case.specs.Choosing.{leaving, nullOutcome, classAt, heldBy, Open, Settles}
+use Rattle.case.specs.Frame.{slotAt, Rows, Listed, Filled, Copied}
+use Rattle.case.specs.Choosing.{leaving, nullOutcome, classAt, heldBy, Settles}
 use Rattle.case.specs.LookUp.{LookedUp}
-use Rattle.case.specs.Evaluation.{Framed, Done, rowIn, ExprRight, CaseRight, anyCase, withoutBaseCase, withBaseCase, columnCase, scalarCase, singleCase, tableCase, resultAt, indexed, BranchesRight, TakeRight, MergedRight, BasedRight, ScalarsRight, CellsRight}
-use Rattle.case.specs.Steps.{StepIndex, StepsGive}
-use Rattle.case.proofs.FrameLaws.{Kept, SameRows, kept-rows, kept-slot, listed-to, rows-to, rows-small, listed-below, done-filled, done-done, done-none}
+use Rattle.case.specs.Evaluation.{Done, rowIn, ExprRight, CaseRight, anyCase, withoutBaseCase, withBaseCase, columnCase, scalarCase, singleCase, tableCase, resultAt, TakeRight, MergedRight, BasedRight, ScalarsRight, CellsRight}
+use Rattle.case.specs.Steps.{StepsGive}
+use Rattle.case.proofs.FrameLaws.{kept-slot, listed-to, listed-below, done-filled, done-done, done-none}
 use Rattle.case.proofs.ExprLaws.{children-below}
 
 -- ---- which shape a strategy takes

@@ -1,6 +1,6 @@
 -- P1 to P10 hold: each is computed from the definitions alone. Assumes nothing.
 use mathlib.Core.Path.{_≡_, refl}
-use mathlib.Core.List.{List, map}
+use mathlib.Core.List.{map}
 use Rattle.layout.specs.Bytes.{number, numberBytes, bitNumber}
 use Rattle.layout.specs.Field.{header, fieldBytes}
 use Rattle.scalar.specs.Cast.{castEntry}
@@ -20,7 +20,7 @@ use Rattle.table.specs.Reading.{tagged, taggedPair, readValidity, readValues, r
 use Rattle.case.specs.Fits.{columnsFit}
 use Rattle.case.specs.Answer.{someNull, numbersOf, textsOf, columnBytes}
 use Rattle.case.specs.Run.{rowsFrom, entriesOf, writtenAs, runRead, run}
-use Rattle.case.specs.Cases.{Case, provedCases, given}
+use Rattle.case.specs.Cases.{provedCases, given}
 
 -- every case gives what is expected
 pub cases-hold : map given provedCases ≡ map (λ c. c .expected) provedCases

@@ -1,32 +1,31 @@
 -- Columns and literals that a rule names, in the slots. Assumes nothing.
-use mathlib.Core.Path.{_≡_, refl, sym, ap, ap₂, subst, _∙_}
-use mathlib.Core.List.{List, [], _∷_, _++_, map}
-use mathlib.Core.Option.{Option, some, none}
-use mathlib.Core.Logic.{_⊎_, inl, inr}
-use Prim.Native.Nat.{ℕ, zero, suc, _+_, _-_, _*_, _^_, _<_, _≤_, min}
+use mathlib.Core.Path.{_≡_, sym, ap, ap₂, _∙_}
+use mathlib.Core.List.{List, map}
+use mathlib.Core.Option.{Option}
+use Prim.Native.Nat.{ℕ, _+_, _-_, _<_, _≤_, min}
 use native.Mathlib.Omega.{arith}
-use lib.ListN.{length, getD, getElem?, take}
+use lib.ListN.{length, getD}
 use Rattle.layout.specs.Bytes.{byte}
 use Rattle.scalar.specs.declared.value.Value.{Value}
 use Rattle.scalar.specs.declared.value.Value.the-variants.{Null}
 use Rattle.scalar.specs.declared.types.DataType.{DataType}
-use Rattle.scalar.specs.Entry.{Entry, null, Outcome, entry, unfit, onEntry}
+use Rattle.scalar.specs.Entry.{null, Outcome, entry, onEntry}
 use Rattle.scalar.specs.TryCast.{tryCastEntry}
 use Rattle.scalar.specs.Value.{meaning, Storable, Gives}
-use Rattle.rule.specs.Tree.{Column, Expr, column, literal}
+use Rattle.rule.specs.Tree.{Column, column, literal}
 use Rattle.rule.specs.Typing.{typeOf}
 use Rattle.rule.specs.Row.{isTrueTest, chosen}
 use Rattle.rule.specs.Node.{NodeAt}
-use Rattle.rule.specs.Walks.{TreesAt, EndGives, LiteralGives, TypeGives}
+use Rattle.rule.specs.Walks.{EndGives, LiteralGives, TypeGives}
 use Rattle.rule.proofs.NodeLaws.{node-byte, trees-one}
 use Rattle.rule.proofs.WalkLaws.{nothing-behind, first-tree}
 use Rattle.table.specs.declared.places.ColumnPlace.{ColumnPlace}
 use Rattle.table.specs.declared.places.Table.{Table}
 use Rattle.table.specs.Column.{TableColumn, entryAt}
-use Rattle.table.specs.Places.{columnIn, tableIn, noPlace}
+use Rattle.table.specs.Places.{columnIn, noPlace}
 use Rattle.table.proofs.EntryLaws.{column-missing, column-there}
-use Rattle.case.specs.Fits.{entryIn, rowOf}
-use Rattle.case.specs.Frame.{slotAt, Listed, Filled}
+use Rattle.case.specs.Fits.{entryIn}
+use Rattle.case.specs.Frame.{slotAt, Filled}
 use Rattle.case.specs.Taking.{EntryRight, ScalarRight, ColumnRight}
 use Rattle.case.specs.Evaluation.{rowIn, LiteralRight, CellRight, ScalarsRight, CellsRight}
 

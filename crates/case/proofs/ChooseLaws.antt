@@ -1,21 +1,18 @@
 -- Choosing: the open list through the branches in turn. Assumes nothing.
 use mathlib.Core.Path.{_≡_, refl, sym, ap, ap₂, subst, _∙_}
 use mathlib.Core.Bool.{Bool, true, false, cond, false≢true}
-use mathlib.Core.List.{List, [], _∷_, _++_}
-use mathlib.Core.Option.{Option, some, none}
+use mathlib.Core.List.{List, _++_}
+use mathlib.Core.Option.{some}
 use mathlib.Core.Logic.{_⊎_, inl, inr, ⊎-elim}
-use Prim.Native.Nat.{ℕ, zero, suc, _+_, _-_, _*_, _^_, _<_, _≤_}
+use Prim.Native.Nat.{ℕ, zero, suc, _+_, _-_, _*_, _<_, _≤_}
 use native.Mathlib.Omega.{arith}
 use lib.Dec.{eqb}
 use lib.ListN.{length}
-use Rattle.layout.specs.Bytes.{byte}
-use Rattle.scalar.specs.declared.value.Value.{Value}
 use Rattle.scalar.specs.Entry.{Entry, isTrue, Outcome, entry, unfit, onEntries}
 use Rattle.scalar.specs.Compare.{equalEntry}
 use Rattle.scalar.specs.Value.{meaning}
-use Rattle.rule.specs.Tree.{Expr, Branches, noMore, branch, branchCount}
+use Rattle.rule.specs.Tree.{Expr, Branches, branchCount}
 use Rattle.rule.specs.Row.{Row, Test, isTrueTest, equalsTest, passes, chosen, eval, evalBranches}
-use Rattle.rule.specs.Node.{NodeAt}
 use Rattle.rule.specs.Walks.{branchTrees, TreesAt, EndGives, BehindGives}
 use Rattle.rule.proofs.WalkLaws.{first-tree}
 use Rattle.table.specs.declared.places.Table.{Table}
@@ -23,7 +20,7 @@ use Rattle.builder.specs.declared.ResultBuilder.{ResultBuilder}
 use Rattle.case.specs.declared.settle.Leave.{Leave}
 use Rattle.case.specs.declared.settle.Leave.the-variants.{NullBase, TrueWhen, EqualWhen, Rest}
 use Rattle.case.specs.declared.settle.Settled.{Settled}
-use Rattle.case.specs.Frame.{rowAt, slotAt, nextSlot, Rows, Listed, Copied}
+use Rattle.case.specs.Frame.{slotAt, nextSlot, Rows, Listed, Copied}
 use Rattle.case.specs.Choosing.{leaving, trueOutcome, classAt, classBy, asksTrue, heldBy, Open, Settles}
 use Rattle.case.specs.Evaluation.{Framed, Done, Ahead, rowIn, ExprRight, resultAt, indexedOr, TestFor, passesTest, WhenRight, Sifts, BranchesIndex}
 use Rattle.case.specs.Steps.{WhenIndex, WhenGives}

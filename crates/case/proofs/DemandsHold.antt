@@ -1,13 +1,12 @@
 -- What must hold of the definitions, proved. Assumes nothing.
 use mathlib.Core.Path.{_≡_, refl, sym, ap, subst, _∙_}
-use mathlib.Core.Bool.{Bool, true}
-use mathlib.Core.List.{List, [], _∷_, _++_, append-nil}
-use mathlib.Core.Option.{some}
-use Prim.Native.Nat.{ℕ, _+_, _<_, _≤_, _^_}
+use mathlib.Core.Bool.{true}
+use mathlib.Core.List.{List, [], _++_, append-nil}
+use Prim.Native.Nat.{ℕ, _+_, _<_, _≤_}
 use native.Mathlib.Decide.{decLt}
 use native.Mathlib.Omega.{arith}
 use lib.ListN.{length, getD, List·getD-eq-default, getElem?}
-use Rattle.layout.specs.Result.{Result, refused, ok}
+use Rattle.layout.specs.Result.{ok}
 use Rattle.scalar.specs.declared.types.DataType.{DataType}
 use Rattle.scalar.specs.Entry.{Entry, null, entry, ofType, outcomeOfType}
 use Rattle.scalar.specs.Cast.{isUnfit}
@@ -19,12 +18,12 @@ use Rattle.rule.specs.Path.{path, holdsMisfit}
 use Rattle.rule.proofs.PathLaws.{Readable, path-fails, path-decides}
 use Rattle.rule.proofs.ReadBytes.{rule-bytes}
 use Rattle.table.specs.Column.{TableColumn, entryAt}
-use Rattle.table.specs.Reading.{Part, readParts, Table, readTable}
+use Rattle.table.specs.Reading.{readParts, Table, readTable}
 use Rattle.table.proofs.TableInversions.{table-few}
-use Rattle.case.specs.Fits.{fits, entryIn, rowOf}
-use Rattle.case.specs.Answer.{columnOf, columnBytes, textLength}
-use Rattle.case.specs.Run.{run, answerBytes}
-use Rattle.case.specs.Demands.{Holds, BothRead, RuleIsItsTree, OutcomeOfResultType, EntryIsOneRow, ClassGoesWithTarget, FailsExactly, SomePathFails, AnswerReadsBack, behindCount}
+use Rattle.case.specs.Fits.{entryIn, rowOf}
+use Rattle.case.specs.Answer.{columnOf, columnBytes}
+use Rattle.case.specs.Run.{answerBytes}
+use Rattle.case.specs.Demands.{Holds, BothRead, RuleIsItsTree, OutcomeOfResultType, EntryIsOneRow, ClassGoesWithTarget, FailsExactly, AnswerReadsBack, behindCount}
 use Rattle.case.proofs.RunLaws.{Answered, run-answered, entries-length, entries-at, run-is, run-15, run-unfit}
 use Rattle.case.proofs.AnswerLaws.{AllOfType, entry-back, column-back, answer-table}
 use Rattle.case.proofs.RowsTyped.{run-sound}

@@ -32,7 +32,7 @@ use Rattle.case.specs.declared.answer.RunAnswer.the-variants.{Refused}
 use Rattle.case.specs.Fits.{fits}
 use Rattle.case.specs.Fitting.{FitsGives}
 use Rattle.case.specs.Answer.{columnOf, columnBytes, textLength}
-use Rattle.case.specs.Run.{rowsFrom, outcomes, entriesOf, textMost, written, writtenAs, runRead, run, zeros, workAfter, outputAfter}
+use Rattle.case.specs.Run.{rowsFrom, outcomes, entriesOf, textMost, writtenAs, runRead, run, zeros, workAfter, outputAfter}
 use Rattle.case.specs.Promise.{runAnswer, callRun, Evaluated}
 use Rattle.case.specs.Frame.{slotAt, AllRows}
 use Rattle.case.specs.Write.{rowOutcomes, rowsRun, RowsOfType, WriteAsks, WriteGives, classValue}

@@ -1,9 +1,9 @@
 -- The arms of an expression over a list of rows: what each call asks, and what the calls give together. Assumes nothing.
-use mathlib.Core.Path.{_≡_, refl, sym, ap, ap₂, subst, _∙_}
+use mathlib.Core.Path.{_≡_, refl, sym, ap, ap₂, _∙_}
 use mathlib.Core.Bool.{Bool, true, false, false≢true}
-use mathlib.Core.List.{List, [], _∷_, _++_}
-use mathlib.Core.Option.{Option, some, none}
-use Prim.Native.Nat.{ℕ, zero, suc, _+_, _-_, _*_, _^_, _<_, _≤_}
+use mathlib.Core.List.{List, [], _∷_}
+use mathlib.Core.Option.{some}
+use Prim.Native.Nat.{ℕ, _+_, _-_, _<_, _≤_}
 use native.Mathlib.Omega.{arith}
 use lib.Dec.{eqb}
 use lib.ListN.{length}
@@ -11,10 +11,9 @@ use borrow.Author.Tests.{eq-eqb, ne-eqb}
 use Rattle.layout.specs.Bytes.{byte}
 use Rattle.scalar.specs.declared.value.Value.{Value}
 use Rattle.scalar.specs.declared.types.DataType.{DataType}
-use Rattle.scalar.specs.Types.{typeNumber}
-use Rattle.scalar.specs.Entry.{Entry, Outcome, entry, onEntry, onEntries}
-use Rattle.scalar.specs.Value.{meaning, Gives, GivesBoth, Storable}
-use Rattle.rule.specs.Tree.{Column, Expr, column, literal, negation, negative, isNotNull, cast, tryCast, equal, less, caseWhen, Branches, Optional}
+use Rattle.scalar.specs.Entry.{Outcome, onEntry, onEntries}
+use Rattle.scalar.specs.Value.{meaning, Gives, GivesBoth}
+use Rattle.rule.specs.Tree.{Expr, column, literal, negation, negative, isNotNull, cast, tryCast, equal, less, caseWhen}
 use Rattle.rule.specs.Row.{eval}
 use Rattle.rule.specs.Node.{NodeAt}
 use Rattle.rule.specs.Walks.{childrenOf, nodeTag, TreesAt, EndGives, ChildrenGives, LiteralGives, NumberedGives}
@@ -23,10 +22,10 @@ use Rattle.rule.proofs.WalkLaws.{node-of-tag, nothing-behind, first-tree}
 use Rattle.table.specs.declared.places.Table.{Table}
 use Rattle.case.specs.declared.rows.Op.{Op}
 use Rattle.case.specs.declared.rows.Op.the-variants.{Not, Negative, IsNotNull, Cast, TryCast}
-use Rattle.case.specs.Frame.{rowAt, slotAt, nextSlot, Rows, Listed, Filled, Fillable, Copied, operationOf}
+use Rattle.case.specs.Frame.{slotAt, nextSlot, Filled, Fillable, Copied, operationOf}
 use Rattle.case.specs.Taking.{comparison}
 use Rattle.case.specs.Evaluation.{Framed, Done, rowIn, ExprRight, LiteralRight, CellRight, operatorOf, OperatorGives, UnaryRight, compares, BinaryRight, AgainstRight, CaseRight, anyCase}
-use Rattle.case.proofs.FrameLaws.{none-some, Kept, SameRows, kept-rows, kept-slot, listed-to, rows-to, rows-small, listed-below, framed-fillable, framed-few, framed-kept, framed-below, done-filled, done-done, done-none, lent, back, lent-framed, NextDone, next-done}
+use Rattle.case.proofs.FrameLaws.{none-some, Kept, kept-slot, listed-to, rows-to, rows-small, listed-below, framed-fillable, framed-kept, done-filled, done-done, done-none, lent, back, lent-framed, NextDone, next-done}
 
 -- ---- an expression, by its tag
 

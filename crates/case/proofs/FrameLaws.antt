@@ -2,16 +2,15 @@
 use mathlib.Core.Path.{_≡_, refl, sym, ap, ap₂, subst, _∙_}
 use mathlib.Core.List.{List, _++_}
 use mathlib.Core.Option.{Option, some, none}
-use mathlib.Core.Logic.{_⊎_, inl, inr}
 use Prim.Native.Nat.{ℕ, _+_, _-_, _*_, _^_, _<_, _≤_}
 use native.Mathlib.Omega.{arith}
 use lib.ListN.{length, take, drop, length-take, length-drop, length-append, List·getD-append}
 use lib.Seq.{getD-drop, getD-take, getD-append-add, length-take-le, take-all}
-use Rattle.layout.specs.Bytes.{byte, numberAt}
+use Rattle.layout.specs.Bytes.{byte}
 use Rattle.scalar.specs.declared.value.Value.{Value}
 use Rattle.scalar.specs.Value.{valueOf}
 use Rattle.table.specs.declared.places.Table.{Table}
-use Rattle.case.specs.Frame.{rowAt, slotAt, nextSlot, Rows, Listed, Filled, FilledFrom, Fillable, FillableFrom, Copied}
+use Rattle.case.specs.Frame.{rowAt, slotAt, nextSlot, Rows, Listed, Filled, Fillable}
 use Rattle.case.specs.Evaluation.{Framed, Done}
 use Rattle.case.proofs.SlotLaws.{number-same, slot-same}
 

@@ -1,19 +1,18 @@
 -- Branches over an open list: each row's index is chosen, ELSE takes what is left, and what the indexes stand for is taken. Assumes nothing.
-use mathlib.Core.Path.{_≡_, refl, sym, ap, ap₂, subst, _∙_}
-use mathlib.Core.List.{List, [], _∷_, _++_}
-use mathlib.Core.Option.{Option, some, none}
+use mathlib.Core.Path.{_≡_, refl, sym, ap, subst, _∙_}
+use mathlib.Core.List.{List, _++_}
+use mathlib.Core.Option.{some}
 use mathlib.Core.Logic.{_⊎_, inl, inr}
-use Prim.Native.Nat.{ℕ, zero, suc, _+_, _-_, _*_, _^_, _<_, _≤_}
+use Prim.Native.Nat.{ℕ, suc, _+_, _-_, _*_, _<_, _≤_}
 use native.Mathlib.Omega.{arith}
 use native.Mathlib.Decide.{ℕ-discrete}
 use lib.ListN.{length, getD}
-use Rattle.layout.specs.Bytes.{byte}
 use Rattle.scalar.specs.declared.value.Value.{Value}
 use Rattle.scalar.specs.declared.types.DataType.{DataType}
-use Rattle.scalar.specs.Entry.{null, Outcome, entry, unfit}
+use Rattle.scalar.specs.Entry.{null, entry}
 use Rattle.scalar.specs.Value.{meaning}
-use Rattle.rule.specs.Tree.{Expr, Branches, Optional, absent, present, branchCount}
-use Rattle.rule.specs.Row.{Row, Test, evalBranches, evalElse}
+use Rattle.rule.specs.Tree.{Branches, Optional, absent, present, branchCount}
+use Rattle.rule.specs.Row.{Test, evalBranches, evalElse}
 use Rattle.rule.specs.Walks.{branchTrees, optionalTrees, TreesAt, BehindGives}
 use Rattle.rule.proofs.NodeLaws.{trees-some}
 use Rattle.rule.proofs.WalkLaws.{branches-length}
@@ -21,12 +20,11 @@ use Rattle.table.specs.declared.places.Table.{Table}
 use Rattle.builder.specs.declared.ResultBuilder.{ResultBuilder}
 use Rattle.builder.specs.Builder.{orElse}
 use Rattle.case.specs.declared.settle.Leave.{Leave}
-use Rattle.case.specs.declared.settle.Leave.the-variants.{Rest}
 use Rattle.case.specs.declared.settle.Settled.{Settled}
 use Rattle.case.specs.Frame.{slotAt, Listed}
-use Rattle.case.specs.Choosing.{classAt, heldBy, Open, Settles}
-use Rattle.case.specs.Evaluation.{Framed, Done, Ahead, rowIn, resultAt, indexed, TestFor, Sifts, BranchesIndex, BranchesRight, TakeRight, MergedRight, ElseValues, ElseGives}
-use Rattle.case.proofs.FrameLaws.{none-some, Kept, SameRows, kept-rows, listed-to, listed-below, framed-kept, done-done}
+use Rattle.case.specs.Choosing.{heldBy, Open, Settles}
+use Rattle.case.specs.Evaluation.{Framed, Done, Ahead, rowIn, indexed, TestFor, Sifts, BranchesIndex, TakeRight, MergedRight, ElseGives}
+use Rattle.case.proofs.FrameLaws.{none-some, Kept, listed-below, framed-kept, done-done}
 use Rattle.case.proofs.CaseLaws.{result-else}
 
 -- ---- ELSE takes what is left

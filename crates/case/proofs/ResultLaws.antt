@@ -1,7 +1,7 @@
 -- The literals among a CASE's THENs and its ELSE: how they are read, and that a row's literal is what its index stands for. Assumes nothing.
 use mathlib.Core.Path.{_≡_, refl, sym, ap, ap₂, subst, subst₂, _∙_}
 use mathlib.Core.Bool.{Bool, true}
-use mathlib.Core.List.{List, [], _∷_, _++_}
+use mathlib.Core.List.{List, _++_}
 use mathlib.Core.Logic.{inl, inr, ⊎-elim}
 use Prim.Native.Nat.{ℕ, zero, suc, _+_, _-_, _*_, _<_, _≤_}
 use native.Mathlib.Decide.{ℕ-discrete, decLt}
@@ -15,7 +15,7 @@ use Rattle.scalar.specs.Entry.{Outcome, entry, onEntry}
 use Rattle.scalar.specs.TryCast.{tryCastEntry}
 use Rattle.scalar.specs.Value.{meaning, valueOf, kindOf, payloadOf, Storable, Gives}
 use Rattle.scalar.proofs.ValueLaws.{payload-back}
-use Rattle.rule.specs.Tree.{Expr, Branches, noMore, branch, Optional, absent, present, branchCount}
+use Rattle.rule.specs.Tree.{Expr, Branches, Optional, absent, present, branchCount}
 use Rattle.rule.specs.Row.{Row, eval, evalElse}
 use Rattle.rule.specs.Strategy.{isLiteral}
 use Rattle.rule.specs.Node.{NodeAt}
@@ -29,7 +29,7 @@ use Rattle.case.specs.Results.{elseKnown, resultKnown, indexKnown, Start
 use Rattle.case.proofs.CaseLaws.{is-literal, result-else, result-failed}
 use Rattle.case.proofs.CellLaws.{filled-as}
 use Rattle.case.proofs.RowsLaws.{FilledSoFar, next}
-use Rattle.case.proofs.BranchLaws.{dropBranches, BranchAt, branch-at, branch-stands, behind-none, behind-two, known-then, known-else}
+use Rattle.case.proofs.BranchLaws.{BranchAt, branch-at, branch-stands, behind-none, behind-two, known-then, known-else}
 
 -- ---- what is known without the row
 

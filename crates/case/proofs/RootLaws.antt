@@ -12,7 +12,6 @@ use borrow.Author.Tests.{eqb-true, eq-eqb, ne-eqb}
 use Rattle.layout.specs.Bytes.{byte}
 use Rattle.scalar.specs.declared.types.DataType.{DataType}
 use Rattle.scalar.specs.Types.{typeNumber}
-use Rattle.scalar.specs.Entry.{Outcome}
 use Rattle.scalar.specs.Value.{meaning}
 use Rattle.rule.specs.declared.strategy.Strategy.{Strategy}
 use Rattle.rule.specs.declared.strategy.Strategy.the-variants.{WithExprScalarLookupTable}
@@ -28,12 +27,10 @@ use Rattle.rule.proofs.WalkLaws.{node-of-tag, first-tree}
 use Rattle.table.specs.declared.places.Table.{Table}
 use Rattle.case.specs.Frame.{Rows, Listed}
 use Rattle.case.specs.LookUpTables.{valueAt}
-use Rattle.case.specs.Evaluation.{rowIn, indexed}
+use Rattle.case.specs.Evaluation.{rowIn}
 use Rattle.case.specs.Results.{ResultsRead}
 use Rattle.case.specs.LookUp.{KeyedGive}
 use Rattle.case.specs.Steps.{StepsGive}
-use Rattle.case.specs.Write.{ClassesAsk, classValue}
-use Rattle.case.specs.Readings.{RowsRight}
 use Rattle.case.specs.Classes.{RootAsks, RootTree, RootIndex, RootSteps, RootKeys, RootGives, allOfKind, ClassesGive}
 use Rattle.case.proofs.ExprLaws.{children-below}
 use Rattle.case.proofs.CaseLaws.{shape-6}

@@ -1,20 +1,20 @@
 -- Taking what the rows' indexes stand for: the rows of an index in the next frame, and their slots back. Assumes nothing.
-use mathlib.Core.Path.{_≡_, refl, sym, ap, ap₂, subst, _∙_}
-use mathlib.Core.Bool.{Bool, true, false}
-use mathlib.Core.List.{List, [], _∷_, _++_}
+use mathlib.Core.Path.{_≡_, refl, sym, ap, subst, _∙_}
+use mathlib.Core.Bool.{true}
+use mathlib.Core.List.{List, _++_}
 use mathlib.Core.Logic.{_⊎_, inl, inr}
-use Prim.Native.Nat.{ℕ, zero, suc, _+_, _-_, _*_, _^_, _<_, _≤_}
+use Prim.Native.Nat.{ℕ, zero, suc, _+_, _-_, _*_, _<_, _≤_}
 use native.Mathlib.Omega.{arith}
 use native.Mathlib.Decide.{ℕ-discrete, decLt}
 use lib.ListN.{length, getD}
 use Rattle.layout.specs.Bytes.{byte}
 use Rattle.scalar.specs.declared.value.Value.{Value}
 use Rattle.scalar.specs.declared.types.DataType.{DataType}
-use Rattle.scalar.specs.Entry.{Entry, null, Outcome, entry, unfit, onEntry}
+use Rattle.scalar.specs.Entry.{entry, onEntry}
 use Rattle.scalar.specs.TryCast.{tryCastEntry}
 use Rattle.scalar.specs.Value.{meaning, Gives}
-use Rattle.rule.specs.Tree.{Branches, noMore, branch, Optional, absent, present, branchCount}
-use Rattle.rule.specs.Row.{Row, eval, evalElse}
+use Rattle.rule.specs.Tree.{Branches, Optional, absent, present, branchCount}
+use Rattle.rule.specs.Row.{eval, evalElse}
 use Rattle.rule.specs.Strategy.{isLiteral}
 use Rattle.rule.specs.Walks.{branchTrees, optionalTrees, TreesAt, EndGives, BehindGives}
 use Rattle.rule.proofs.NodeLaws.{trees-one, trees-none, trees-some}
@@ -23,11 +23,11 @@ use Rattle.table.specs.declared.places.Table.{Table}
 use Rattle.case.specs.declared.rows.Op.the-variants.{TryCast}
 use Rattle.case.specs.Frame.{rowAt, slotAt, nextSlot, Rows, Listed, Filled, FilledFrom, Fillable, FillableFrom, operationOf}
 use Rattle.case.specs.Taking.{Picked, HasIndex}
-use Rattle.case.specs.Evaluation.{Framed, Done, rowIn, ExprRight, resultAt, indexed, Takes, TakeRight}
-use Rattle.case.specs.Results.{elseKnown, resultKnown, indexKnown, StartRight, ThenRight, ElseRight}
-use Rattle.case.proofs.FrameLaws.{Kept, SameRows, kept-rows, kept-slot, listed-to, listed-from, rows-to, rows-small, listed-below, framed-few, framed-fillable, framed-kept, done-filled, done-done, lent, back, lent-rows, lent-slot, lent-framed, NextDone, next-done}
-use Rattle.case.proofs.CaseLaws.{result-else, result-failed}
-use Rattle.case.proofs.BranchLaws.{BranchAt, branch-at, branch-stands, behind-none, behind-two, known-then, known-else, known-failed}
+use Rattle.case.specs.Evaluation.{Framed, Done, rowIn, ExprRight, indexed, Takes, TakeRight}
+use Rattle.case.specs.Results.{elseKnown, indexKnown, StartRight, ThenRight, ElseRight}
+use Rattle.case.proofs.FrameLaws.{Kept, SameRows, kept-rows, kept-slot, listed-to, listed-from, rows-to, rows-small, listed-below, framed-fillable, framed-kept, done-filled, done-done, lent, back, lent-rows, lent-slot, lent-framed, NextDone, next-done}
+use Rattle.case.proofs.CaseLaws.{result-else}
+use Rattle.case.proofs.BranchLaws.{branch-at, branch-stands, behind-none, behind-two, known-then, known-else, known-failed}
 use Rattle.case.proofs.ResultLaws.{literal-node}
 
 -- ---- the rows of an index

@@ -1,7 +1,7 @@
 -- The answer is one column (01, Bytes of a table).
-use mathlib.Core.Bool.{Bool, true, false, cond, not, _||_}
+use mathlib.Core.Bool.{Bool, false, cond, not, _||_}
 use mathlib.Core.List.{List, [], _∷_, _++_, map}
-use Prim.Native.Nat.{ℕ, zero, suc, _+_}
+use Prim.Native.Nat.{ℕ, _+_}
 use lib.ListN.{length}
 use Rattle.layout.specs.Bytes.{numberBytes, bitmap}
 use Rattle.layout.specs.Field.{fieldBytes}

@@ -1,6 +1,6 @@
 -- The proved cases P1 to P10 (01, A listing): rule bytes, table bytes, what a run with a full work buffer and 65,536 bytes of output gives.
 -- `proofs/CasesHold.antt` has the theorem.
-use mathlib.Core.List.{List, [], _∷_, map}
+use mathlib.Core.List.{List, [], _∷_}
 use Prim.Native.Nat.{ℕ}
 use Rattle.layout.specs.Result.{Result, refused, ok}
 use Rattle.case.specs.Run.{run}

@@ -8,7 +8,6 @@ use Prim.Native.Nat.{ℕ, _<_, _≤_}
 use lib.Dec.{eqb}
 use lib.ListN.{length, getD}
 use Rattle.layout.specs.Bytes.{byte}
-use Rattle.scalar.specs.declared.value.Value.{Value}
 use Rattle.scalar.specs.Entry.{Outcome, entry, unfit, isNull, isTrue, onEntries}
 use Rattle.scalar.specs.Compare.{equalEntry}
 use Rattle.scalar.specs.Value.{meaning}

@@ -1,12 +1,12 @@
 -- What must hold of the definitions, in a reader's words. `proofs/DemandsHold.antt` has the proofs.
 -- Each speaks of lists of bytes, as a slice of bytes always is one.
-use mathlib.Core.Bool.{Bool, true, false}
+use mathlib.Core.Bool.{true}
 use mathlib.Core.Path.{_≡_}
-use mathlib.Core.List.{List, [], _∷_, _++_, List·Memᴰ}
+use mathlib.Core.List.{List, [], _++_, List·Memᴰ}
 use mathlib.Core.Logic.{_↔_}
 use Prim.Native.Nat.{ℕ, _<_, _≤_}
 use lib.ListN.{length, take}
-use Rattle.layout.specs.Result.{Result, refused, ok}
+use Rattle.layout.specs.Result.{refused, ok}
 use Rattle.layout.specs.Bytes.{Bytes, numberBytes}
 use Rattle.layout.specs.Field.{fieldBytes}
 use Rattle.scalar.specs.Entry.{Entry, entry, outcomeOfType}
@@ -17,7 +17,7 @@ use Rattle.rule.specs.Row.{Row, eval}
 use Rattle.rule.specs.Path.{path, columnsRead, holdsMisfit}
 use Rattle.rule.specs.Reading.{readRule}
 use Rattle.table.specs.Column.{TableColumn, entryAt}
-use Rattle.table.specs.Reading.{Part, readParts, Table, readTable}
+use Rattle.table.specs.Reading.{readParts, Table, readTable}
 use Rattle.case.specs.Fits.{fits, rowOf}
 use Rattle.case.specs.declared.answer.RunAnswer.{RunAnswer}
 use Rattle.case.specs.declared.answer.RunAnswer.the-variants.{Answered, Refused}

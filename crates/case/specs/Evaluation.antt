@@ -1,6 +1,6 @@
 -- What the evaluation over a list of rows asks and promises (01, One row; What changes shape). Each promise is of whatever tree stands at a place.
 use mathlib.Core.Path.{_≡_}
-use mathlib.Core.Bool.{Bool, true, false, cond}
+use mathlib.Core.Bool.{Bool, true, false}
 use mathlib.Core.List.{List, [], _∷_, _++_}
 use mathlib.Core.Option.{Option, some, none}
 use mathlib.Core.Logic.{_⊎_}
@@ -10,10 +10,9 @@ use Rattle.layout.specs.Bytes.{byte}
 use Rattle.scalar.specs.declared.types.DataType.{DataType}
 use Rattle.scalar.specs.declared.value.Value.{Value}
 use Rattle.scalar.specs.Entry.{Entry, null, Outcome, entry, unfit, onEntries}
-use Rattle.scalar.specs.Value.{meaning, Storable}
+use Rattle.scalar.specs.Value.{meaning}
 use Rattle.scalar.specs.TryCast.{tryCastEntry}
 use Rattle.rule.specs.Tree.{Column, Expr, column, literal, negation, negative, isNotNull, cast, tryCast, equal, less, caseWhen, Branches, noMore, branch, Optional, absent, present, branchCount}
-use Rattle.rule.specs.Typing.{resultType}
 use Rattle.rule.specs.Row.{Row, Test, isTrueTest, equalsTest, passes, chosen, withBase, eval, evalBranches, evalElse}
 use Rattle.rule.specs.Strategy.{isColumn, isLiteral, dropNull, tableServes}
 use Rattle.rule.specs.Node.{NodeAt}
@@ -26,7 +25,6 @@ use Rattle.case.specs.declared.rows.Op.{Op}
 use Rattle.case.specs.declared.rows.Op.the-variants.{Not, Negative, IsNotNull, Cast, TryCast}
 use Rattle.case.specs.declared.settle.Leave.{Leave}
 use Rattle.case.specs.declared.settle.Leave.the-variants.{NullBase, TrueWhen, EqualWhen, Rest}
-use Rattle.case.specs.declared.settle.Settled.{Settled}
 use Rattle.case.specs.Fits.{rowOf}
 use Rattle.case.specs.Frame.{slotAt, Rows, Listed}
 use Rattle.case.specs.Choosing.{leaving, heldBy, Open}

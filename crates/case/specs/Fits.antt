@@ -5,7 +5,7 @@ use mathlib.Core.Option.{Option, some, none}
 use Prim.Native.Nat.{ℕ}
 use lib.ListN.{getElem?}
 use Rattle.scalar.specs.Types.{sameType}
-use Rattle.scalar.specs.Entry.{Entry, null, Outcome, entry}
+use Rattle.scalar.specs.Entry.{Entry, null, entry}
 use Rattle.rule.specs.Tree.{Column, Expr}
 use Rattle.rule.specs.Row.{Row}
 use Rattle.rule.specs.Constant.{columnsOf}

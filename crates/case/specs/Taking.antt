@@ -6,14 +6,14 @@ use Prim.Native.Nat.{ℕ, _<_, _≤_}
 use lib.ListN.{length, getD}
 use Rattle.layout.specs.Bytes.{byte}
 use Rattle.scalar.specs.declared.value.Value.{Value}
-use Rattle.scalar.specs.Entry.{Outcome, entry, Entry}
-use Rattle.scalar.specs.Value.{meaning, GivesBoth}
+use Rattle.scalar.specs.Entry.{entry, Entry}
+use Rattle.scalar.specs.Value.{meaning}
 use Rattle.scalar.specs.Compare.{equalEntry, lessEntry}
 use Rattle.rule.specs.Row.{isTrueTest, chosen}
 use Rattle.table.specs.declared.places.ColumnPlace.{ColumnPlace}
 use Rattle.table.specs.Column.{entryAt}
 use Rattle.table.specs.Places.{columnIn}
-use Rattle.case.specs.Frame.{rowAt, slotAt, nextSlot, Rows, Listed}
+use Rattle.case.specs.Frame.{rowAt, slotAt, Listed}
 
 -- w is now w′: of the n rows of the list at the front, the m that are wanted stand at 6656, and nothing before that is changed
 pub record Picked (wanted : ℕ → Type 0) (w : List ℕ) (n m : ℕ) (w′ : List ℕ) : Type 0 where

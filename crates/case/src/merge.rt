@@ -6,7 +6,6 @@ use builder::ResultBuilder;
 use rule::walk::behind_fields;
 ghost use Prim.Native.Nat.{_≤_, _*_};
 ghost use lib.ListN.{length};
-ghost use Rattle.rule.specs.Walks.{BehindGives};
 ghost use Rattle.case.specs.Choosing.{Open};
 ghost use Rattle.case.specs.Evaluation.{ElseGives};
 

@@ -1,5 +1,4 @@
 -- A refusal of either reading touches nothing; else what was read is evaluated.
-use native.Mathlib.Omega.{arith}
 use Rattle.case.proofs.EvaluateLaws.{rule-refused, table-refused, both-read}
 use borrow.Author.Needs.{needs}
 use Rattle.case.proofs.evaluate.evaluate.Statement.{statement}

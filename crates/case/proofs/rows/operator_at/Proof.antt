@@ -1,5 +1,5 @@
 -- `operator_at` goes by the tag, and for the casts by the type byte.
-use mathlib.Core.Path.{refl, sym}
+use mathlib.Core.Path.{refl}
 use Rattle.case.proofs.ExprLaws.{operator-behind, operator-negative, operator-is-not-null, operator-cast, operator-try-cast, operator-not}
 use borrow.Author.Needs.{needs}
 use Rattle.case.proofs.rows.operator_at.Statement.{statement}

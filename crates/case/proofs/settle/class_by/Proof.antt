@@ -1,11 +1,9 @@
 -- The index, or 0, by the index of the WHEN.
-use borrow.Author.Needs.{needs}
 use mathlib.Core.Path.{sym, ap}
 use mathlib.Core.Bool.{Bool, cond}
 use borrow.Author.Tests.{eq-eqb, ne-eqb}
 use denote.Ref.{now}
 use lib.ListN.{getD}
-use Prim.Native.Nat.{ℕ}
 use native.Mathlib.Omega.{arith}
 use Rattle.case.proofs.settle.class_by.Statement.{statement}
 use Rattle.case.proofs.settle.class_by.Tie as tie
