@@ -88,8 +88,8 @@ pub spans-none : {tags keys lows highs : List ℕ} → length lows ≡ 32 → le
 spans-none p q = record { lows-long = p; highs-long = q; low-is = λ k h. absurd (omega arith); high-is = λ k h. absurd (omega arith) }
 
 -- one more of a list
-set-more : {f : ℕ → ℕ} (l : List ℕ) (k x n : ℕ) → k < length l → ((j : ℕ) → j < k → getD l j 0 ≡ f j) → x ≡ f k → (j : ℕ) → j < k + 1 → getD (set l k x) j 0 ≡ f j
-set-more {f} l k x n room before here j h = go (ℕ-discrete j k)
+set-more : {f : ℕ → ℕ} (l : List ℕ) (k x : ℕ) → k < length l → ((j : ℕ) → j < k → getD l j 0 ≡ f j) → x ≡ f k → (j : ℕ) → j < k + 1 → getD (set l k x) j 0 ≡ f j
+set-more {f} l k x room before here j h = go (ℕ-discrete j k)
   where
     go : Dec (j ≡ k) → getD (set l k x) j 0 ≡ f j
     go (yes e) = ap (λ (i : ℕ). getD (set l k x) i 0) e ∙ getD-set-same l k x 0 room ∙ here ∙ ap f (sym e)
@@ -101,8 +101,8 @@ module _ {tags keys lows highs : List ℕ} {k : ℕ} (s : SpansOf tags keys k lo
   spans-more {low} {high} more few p q = record {
     lows-long = length-set lows k low ∙ s .lows-long;
     highs-long = length-set highs k high ∙ s .highs-long;
-    low-is = set-more lows k low 0 (omega (arith, s .lows-long)) (s .low-is) p;
-    high-is = set-more highs k high 0 (omega (arith, s .highs-long)) (s .high-is) q;
+    low-is = set-more lows k low (omega (arith, s .lows-long)) (s .low-is) p;
+    high-is = set-more highs k high (omega (arith, s .highs-long)) (s .high-is) q;
   }
 
   pub spans-all : {count : ℕ} → count ≤ k → SpansOf tags keys count lows highs
