@@ -28,7 +28,7 @@ use Rattle.scalar.specs.Types.{markNumber}
 use Rattle.scalar.specs.Entry.{Entry, null, boolean, int32, int64, float64, utf8, Outcome, entry, unfit}
 use Rattle.scalar.specs.Pair.{pairOf, booleans}
 use Rattle.scalar.specs.Value.{meaning, Storable}
-use Rattle.scalar.specs.Order.{orderOfPair, orderOf, keyOf, entryKey, Within, Numbered, textIn, textOrder, numberOrder, keyOrder}
+use Rattle.scalar.specs.Order.{orderOfPair, orderOf, keyOf, entryKey, isText, Within, Numbered, textIn, textOrder, numberOrder, keyOrder}
 use Rattle.scalar.proofs.value.Value.{the-type}
 use Rattle.scalar.proofs.IntegerLaws.{signed-low, signed-high}
 
@@ -211,14 +211,7 @@ values-order rule table a b oa ob =
 abbrev pub NoText : Value → Type 0
 NoText v = OneOf (0 ∷ 1 ∷ 2 ∷ 3 ∷ 4 ∷ 5 ∷ 8 ∷ []) (tagOf the-type v)
 
--- whether a key is that of a text
-abbrev isText : Key → Bool
-isText Keys.Null = false
-isText Keys.Failed = false
-isText (Keys.Number k x) = false
-isText Keys.Text = true
-
-no-text : (v : Value) → NoText v → isText (keyOf v) ≡ false
+pub no-text : (v : Value) → NoText v → isText (keyOf v) ≡ false
 no-text Null h = refl
 no-text (Boolean b) h = refl
 no-text (Int32 n) h = refl
@@ -228,6 +221,18 @@ no-text (Nan n) h = refl
 no-text (RuleText start size) h = absurd (miss (0 ∷ 1 ∷ 2 ∷ 3 ∷ 4 ∷ 5 ∷ 8 ∷ []) 6 tt h)
 no-text (TableText start size) h = absurd (miss (0 ∷ 1 ∷ 2 ∷ 3 ∷ 4 ∷ 5 ∷ 8 ∷ []) 7 tt h)
 no-text Failed h = refl
+
+-- it has no bytes
+pub no-text-in : (v : Value) → NoText v → (rule table : List ℕ) → textIn rule table v ≡ []
+no-text-in Null h rule table = refl
+no-text-in (Boolean b) h rule table = refl
+no-text-in (Int32 n) h rule table = refl
+no-text-in (Int64 n) h rule table = refl
+no-text-in (Float64 f) h rule table = refl
+no-text-in (Nan n) h rule table = refl
+no-text-in (RuleText start size) h rule table = absurd (miss (0 ∷ 1 ∷ 2 ∷ 3 ∷ 4 ∷ 5 ∷ 8 ∷ []) 6 tt h)
+no-text-in (TableText start size) h rule table = absurd (miss (0 ∷ 1 ∷ 2 ∷ 3 ∷ 4 ∷ 5 ∷ 8 ∷ []) 7 tt h)
+no-text-in Failed h rule table = refl
 
 -- the order of the texts is asked for only where both are texts
 apart : (k l : Key) (x y : Order) → (isText k && isText l) ≡ false → keyOrder k l x ≡ keyOrder k l y
@@ -251,10 +256,31 @@ text-first rule table a w b e k p oa ob f =
     let q = ap (textIn rule table) e in
     f ∙ (rw (p, ← q, ← t) (values-order rule table a b oa ob))
 
+-- two values that are not both text
+pub not-both-text : (rule table : List ℕ) (a b : Value) {k l : Key} {r : Order} → Owned a → Owned b → (isText (keyOf a) && isText (keyOf b)) ≡ false → k ≡ keyOf a → l ≡ keyOf b
+    → r ≡ keyOrder k l Unlike → r ≡ orderOf (meaning rule table a) (meaning rule table b)
+not-both-text rule table a b oa ob e p q f =
+    f ∙ ap₂ (λ (x y : Key). keyOrder x y Unlike) p q
+    ∙ apart (keyOf a) (keyOf b) Unlike (textOrder (textIn rule table a) (textIn rule table b)) e
+    ∙ values-order rule table a b oa ob
+
 -- two values of which the first is no text
 pub no-text-first : (rule table : List ℕ) (a b : Value) {k l : Key} {r : Order} → NoText a → Owned a → Owned b → k ≡ keyOf a → l ≡ keyOf b → r ≡ keyOrder k l Unlike
     → r ≡ orderOf (meaning rule table a) (meaning rule table b)
-no-text-first rule table a b h oa ob p q f =
-    f ∙ ap₂ (λ (x y : Key). keyOrder x y Unlike) p q
-    ∙ apart (keyOf a) (keyOf b) Unlike (textOrder (textIn rule table a) (textIn rule table b)) (ap (λ (t : Bool). t && isText (keyOf b)) (no-text a h))
-    ∙ values-order rule table a b oa ob
+no-text-first rule table a b h oa ob = not-both-text rule table a b oa ob (ap (λ (t : Bool). t && isText (keyOf b)) (no-text a h))
+
+-- of two texts the order is that of their bytes
+together : (k l : Key) (x : Order) → isText k ≡ true → isText l ≡ true → keyOrder k l x ≡ x
+together Keys.Null l x e f = absurd (false≢true e)
+together Keys.Failed l x e f = absurd (false≢true e)
+together (Keys.Number k n) l x e f = absurd (false≢true e)
+together Keys.Text Keys.Null x e f = absurd (false≢true f)
+together Keys.Text Keys.Failed x e f = absurd (false≢true f)
+together Keys.Text (Keys.Number a b) x e f = absurd (false≢true f)
+together Keys.Text Keys.Text x e f = refl
+
+-- two values that are both text
+pub both-text : (rule table : List ℕ) (a b : Value) {x y : Bool} {r : Order} → Owned a → Owned b → x ≡ isText (keyOf a) → x ≡ true → y ≡ isText (keyOf b) → y ≡ true
+    → r ≡ textOrder (textIn rule table a) (textIn rule table b) → r ≡ orderOf (meaning rule table a) (meaning rule table b)
+both-text rule table a b oa ob p s q t f =
+    f ∙ sym (together (keyOf a) (keyOf b) (textOrder (textIn rule table a) (textIn rule table b)) (sym p ∙ s) (sym q ∙ t)) ∙ values-order rule table a b oa ob

@@ -53,6 +53,13 @@ keyOf (RuleText start size) = Keys.Text
 keyOf (TableText start size) = Keys.Text
 keyOf Failed = Keys.Failed
 
+-- whether a key is that of a text
+abbrev pub isText : Key → Bool
+isText Keys.Null = false
+isText Keys.Failed = false
+isText (Keys.Number k x) = false
+isText Keys.Text = true
+
 -- how an entry is compared
 abbrev pub entryKey : Entry → Key
 entryKey null = Keys.Null

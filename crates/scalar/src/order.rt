@@ -7,7 +7,7 @@ use crate::value::Value;
 use crate::value::float_bits;
 ghost use mathlib.Core.Path.{_≡_};
 ghost use Rattle.scalar.specs.Float.{signTurned, totalKey};
-ghost use Rattle.scalar.specs.Order.{orderOf, keyOf, textIn, textOrder, numberOrder, keyOrder};
+ghost use Rattle.scalar.specs.Order.{orderOf, keyOf, isText, textIn, textOrder, numberOrder, keyOrder};
 ghost use Rattle.scalar.specs.Value.{meaning};
 
 // How two values stand to each other.
@@ -139,7 +139,7 @@ fn no_text_beside(other: Key) -> Order
 }
 
 // A key beside another, where they are not both text.
-fn key_order(a: Key, b: Key) -> Order
+pub fn key_order(a: Key, b: Key) -> Order
     ensures { λ r. ⌜ r ≡ keyOrder a b Order.Unlike ⌝ }
 {
     match a {
@@ -147,6 +147,28 @@ fn key_order(a: Key, b: Key) -> Order
         Key::Failed => Order::SomeFailed,
         Key::Number(kind, x) => number_beside(kind, x, b),
         Key::Text => no_text_beside(b),
+    }
+}
+
+// Whether a value is text.
+pub fn is_text(v: Value) -> bool
+    ensures { λ r. ⌜ r ≡ isText (keyOf v) ⌝ }
+{
+    match v {
+        Value::RuleText(_, _) => true,
+        Value::TableText(_, _) => true,
+        _ => false,
+    }
+}
+
+// The bytes of a text value whose place is in these bytes; none of any other value.
+pub fn text_in(bytes: &[u8], v: Value) -> &[u8]
+    ensures { λ r. ⌜ now r ≡ textIn (now (bytes .entry)) (now (bytes .entry)) v ⌝ }
+{
+    match v {
+        Value::RuleText(start, size) => place_text(bytes, start, size),
+        Value::TableText(start, size) => place_text(bytes, start, size),
+        _ => &bytes[..0],
     }
 }
 
