@@ -1,13 +1,10 @@
 -- The rows' texts: how long they are, and their offsets, row by row. Assumes nothing.
 use mathlib.Core.Path.{_≡_, refl, ap, _∙_}
-use mathlib.Core.List.{List, [], _∷_}
+use mathlib.Core.List.{List}
 use Prim.Native.Nat.{ℕ, zero, suc, _+_, _-_, _*_, _^_, _<_, _≤_}
 use native.Mathlib.Omega.{arith}
 use lib.ListN.{length, take, drop, length-append, length-take, length-drop}
-use types.Run.{OneOf, miss}
-use denote.Enum.Declared.{tagOf}
 use Rattle.layout.specs.Bytes.{numberBytes}
-use Rattle.scalar.proofs.value.Value.{the-type}
 use Rattle.scalar.specs.declared.value.Value.{Value}
 use Rattle.scalar.specs.declared.value.Value.the-variants.{Null, Boolean, Int32, Int64, Float64, Nan, RuleText, TableText, Failed}
 use Rattle.scalar.specs.Order.{textIn}
@@ -15,22 +12,6 @@ use Rattle.case.specs.Writing.{Wrote, rowBytes, rowText, rowOffset}
 use Rattle.case.proofs.WroteLaws.{SoFar, so-far-none, so-far-room, so-far-more, so-far-ends, length-row-more, rows-within, number-room, wrote-as}
 
 -- ---- texts of values
-
--- what the last arm of a `match` on a text leaves
-abbrev NoText : Value → Type 0
-NoText v = OneOf (0 ∷ 1 ∷ 2 ∷ 3 ∷ 4 ∷ 5 ∷ 8 ∷ []) (tagOf the-type v)
-
--- a value that is no text has none
-pub no-text : (v : Value) → NoText v → (rule table : List ℕ) → textIn rule table v ≡ []
-no-text Null h rule table = refl
-no-text (Boolean b) h rule table = refl
-no-text (Int32 n) h rule table = refl
-no-text (Int64 n) h rule table = refl
-no-text (Float64 f) h rule table = refl
-no-text (Nan n) h rule table = refl
-no-text (RuleText start size) h rule table = absurd (miss (0 ∷ 1 ∷ 2 ∷ 3 ∷ 4 ∷ 5 ∷ 8 ∷ []) 6 tt h)
-no-text (TableText start size) h rule table = absurd (miss (0 ∷ 1 ∷ 2 ∷ 3 ∷ 4 ∷ 5 ∷ 8 ∷ []) 7 tt h)
-no-text Failed h rule table = refl
 
 -- no text is longer than the bytes that it stands in
 place-short : (l : List ℕ) (start size : ℕ) → length (take size (drop start l)) ≤ length l

@@ -8,12 +8,12 @@ use lib.ListN.{length, getD, set, length-set}
 use lib.Seq.{getD-set-same, getD-set-other}
 use Rattle.layout.specs.Bytes.{byte}
 use Rattle.case.specs.declared.settle.Leave.{Leave}
-use Rattle.case.specs.Frame.{rowAt, Rows}
-use Rattle.case.specs.Choosing.{classAt}
+use Rattle.case.specs.Frame.{rowAt, Rows, Listed}
+use Rattle.case.specs.Choosing.{classCoded}
 use Rattle.case.specs.Parting.{RowPut, Sifted, Parted}
 use Rattle.case.proofs.SlotLaws.{number-same, slot-same, next-same}
 use Rattle.case.proofs.ClassLaws.{class-same}
-use Rattle.case.proofs.SiftLaws.{put-kept, sifted-none, sifted-miss, sifted-hit}
+use Rattle.case.proofs.SiftLaws.{put-kept, sifted-none, sifted-miss, sifted-hit, sifted-as}
 
 -- where the loop stands: i of the n rows are done, m of them leave
 pub record SplitSoFar (class : ℕ → ℕ) (w : List ℕ) (n size size′ i m : ℕ) (rows values w′ : List ℕ) : Type 0 where
@@ -55,6 +55,18 @@ split-ends {class} {w} {n} {size} {size′} {i} {m} {rows} {values} {w′} s ok 
       classes = s .classes;
     }
 
+-- by classes that are the same at the rows of the list
+pub parted-as : {class class′ : ℕ → ℕ} {w : List ℕ} {n m : ℕ} {rows values w′ : List ℕ} → ((q : ℕ) → Listed w 5632 n q → class q ≡ class′ q) → Parted class w n m rows values w′
+    → Parted class′ w n m rows values w′
+parted-as {rows = rows} same g = record {
+  long = g .long;
+  low = g .low;
+  high = g .high;
+  stay = sifted-as (λ r l z. sym (same r l) ∙ z) (λ r l z. same r l ∙ z) (g .stay);
+  gone = sifted-as (λ r l f z. f (same r l ∙ z)) (λ r l f z. f (sym (same r l) ∙ z)) (g .gone);
+  classes = λ k h. g .classes k h ∙ same (getD rows k 0) (g .gone .taken k h .0);
+}
+
 -- by other names
 moved : {class : ℕ → ℕ} {w : List ℕ} {n size size′ i m m′ : ℕ} {rows values w′ rows′ values′ x : List ℕ} → SplitSoFar class w n size size′ i m rows values w′
     → x ≡ w′ → rows′ ≡ rows → values′ ≡ values → m′ ≡ m → SplitSoFar class w n size size′ i m′ rows′ values′ x
@@ -89,12 +101,12 @@ module _ {class : ℕ → ℕ} {w : List ℕ} {n size size′ i m : ℕ} {rows v
     stay-in = (omega (arith, ok .few, s .long), omega (arith, split-fits .0))
 
     -- its slots are as they were
-    pub class-kept : (how : Leave) (rule table : List ℕ) (index failed : ℕ) → classAt how rule table w′ index failed r ≡ classAt how rule table w index failed r
-    class-kept how rule table index failed =
+    pub class-kept : (how : Leave) (codes : List ℕ) (index failed : ℕ) → classCoded how codes w′ index failed r ≡ classCoded how codes w index failed r
+    class-kept how codes index failed =
         let small = split-fits .0 in
         let upto = s .upto in
         let few = ok .few in
-        class-same how rule table w w′ index failed r (slot-same w′ w r (λ j a b. s .low j (omega arith))) (next-same w′ w r (λ j a b. s .tail j (omega arith)))
+        class-same how codes w w′ index failed r (slot-same w′ w r (λ j a b. s .low j (omega arith))) (next-same w′ w r (λ j a b. s .tail j (omega arith)))
 
     -- it stays
     stayed : {w″ : List ℕ} → RowPut w′ 5632 (i - m) r w″ → class r ≡ 0 → SplitSoFar class w n size size′ (i + 1) m rows values w″

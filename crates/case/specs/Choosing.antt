@@ -2,7 +2,7 @@
 -- What changes shape: one index a row).
 use mathlib.Core.Path.{_≡_}
 use mathlib.Core.Bool.{Bool, true, false, cond}
-use mathlib.Core.List.{List}
+use mathlib.Core.List.{List, []}
 use mathlib.Core.Option.{Option, some, none}
 use Prim.Native.Nat.{ℕ, _<_, _≤_}
 use lib.Dec.{eqb}
@@ -18,6 +18,7 @@ use Rattle.case.specs.declared.settle.Leave.{Leave}
 use Rattle.case.specs.declared.settle.Leave.the-variants.{NullBase, TrueWhen, EqualWhen, Rest}
 use Rattle.case.specs.declared.settle.Settled.{Settled}
 use Rattle.case.specs.Frame.{slotAt, nextSlot, Rows, Listed}
+use Rattle.case.specs.Taking.{codeValue, CodeRight}
 
 -- a row that failed leaves with one index, a row that passes with another; 0: it stays
 abbrev pub leaving : (Outcome → Bool) → ℕ → ℕ → Outcome → ℕ
@@ -38,6 +39,25 @@ classAt NullBase rule table w index failed r = leaving nullOutcome index failed 
 classAt TrueWhen rule table w index failed r = leaving trueOutcome index failed (meaning rule table (nextSlot w r))
 classAt EqualWhen rule table w index failed r = leaving trueOutcome index failed (onEntries equalEntry (meaning rule table (slotAt w r)) (meaning rule table (nextSlot w r)))
 classAt Rest rule table w index failed r = index
+
+-- the same, where equality with the base is known by the row's number of it
+abbrev pub classCoded : Leave → List ℕ → List ℕ → ℕ → ℕ → ℕ → ℕ
+classCoded NullBase codes w index failed r = leaving nullOutcome index failed (meaning [] [] (slotAt w r))
+classCoded TrueWhen codes w index failed r = leaving trueOutcome index failed (meaning [] [] (nextSlot w r))
+classCoded EqualWhen codes w index failed r = leaving trueOutcome index failed (meaning [] [] (codeValue (getD codes r 0)))
+classCoded Rest codes w index failed r = index
+
+-- whether a way of leaving asks for a WHEN that equals the base
+abbrev pub asksEqual : Leave → Bool
+asksEqual NullBase = false
+asksEqual TrueWhen = false
+asksEqual EqualWhen = true
+asksEqual Rest = false
+
+-- the number of each open row's equality with its base, where a way of leaving asks for it
+pub record CodesFor (how : Leave) (rule table w : List ℕ) (left : ℕ) (codes : List ℕ) : Type 0 where
+  pub long : length codes ≡ 512
+  pub right : asksEqual how ≡ true → (q : ℕ) → Listed w 5632 left q → CodeRight false rule table (slotAt w q) (nextSlot w q) (getD codes q 0)
 
 -- the same by the index of its WHEN, which is 1 where that is true
 abbrev pub classBy : List ℕ → ℕ → ℕ → ℕ

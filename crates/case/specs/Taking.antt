@@ -1,13 +1,17 @@
 -- Taking, in the work buffer: the rows of an index go to the next frame's list, and their slots there come back.
 use mathlib.Core.Path.{_≡_}
-use mathlib.Core.Bool.{Bool, true, false}
+use mathlib.Core.Bool.{Bool, true, false, cond}
 use mathlib.Core.List.{List}
 use Prim.Native.Nat.{ℕ, _<_, _≤_}
+use lib.Dec.{eqb}
 use lib.ListN.{length, getD}
 use Rattle.layout.specs.Bytes.{byte}
+use Rattle.scalar.specs.declared.order.Order.{Order}
+use Rattle.scalar.specs.declared.order.Order.the-variants.{Less, Equal, Greater, SomeNull, SomeFailed, Unlike}
 use Rattle.scalar.specs.declared.value.Value.{Value}
+use Rattle.scalar.specs.declared.value.Value.the-variants.{Null, Boolean, Failed}
 use Rattle.scalar.specs.Entry.{entry, Entry}
-use Rattle.scalar.specs.Value.{meaning}
+use Rattle.scalar.specs.Value.{meaning, GivesBoth}
 use Rattle.scalar.specs.Compare.{equalEntry, lessEntry}
 use Rattle.rule.specs.Row.{isTrueTest, chosen}
 use Rattle.table.specs.declared.places.ColumnPlace.{ColumnPlace}
@@ -36,6 +40,23 @@ EntryRight table place r v = (rule : List ℕ) → meaning rule table v ≡ entr
 abbrev pub comparison : Bool → Entry → Entry → Entry
 comparison true = lessEntry
 comparison false = equalEntry
+
+-- what a comparison says of an order, as a number: 0 false, 1 true, 2 null, 3 failed
+abbrev pub orderCode : Bool → Order → ℕ
+orderCode less Less = cond less 1 0
+orderCode less Equal = cond less 0 1
+orderCode less Greater = 0
+orderCode less SomeNull = 2
+orderCode less SomeFailed = 3
+orderCode less Unlike = 2
+
+-- the value that such a number stands for
+abbrev pub codeValue : ℕ → Value
+codeValue code = cond (eqb code 0) (Boolean false) (cond (eqb code 1) (Boolean true) (cond (eqb code 2) Null Failed))
+
+-- the number of the comparison of two values
+abbrev pub CodeRight : Bool → List ℕ → List ℕ → Value → Value → ℕ → Type 0
+CodeRight less rule table a b code = GivesBoth (comparison less) rule table a b (codeValue code)
 
 -- the one value where the slot is true, else the other; where it failed, it stays so
 abbrev pub ScalarRight : Value → Value → List ℕ → ℕ → Value → Type 0

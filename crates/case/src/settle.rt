@@ -1,4 +1,6 @@
 // Which rows of a CASE's open list leave it, with the index of the branch that takes them, in the builder.
+use crate::binary::code_value;
+use crate::binary::compare_list;
 use crate::rows::put_row;
 use crate::rows::row_at;
 use crate::slot::get_slot;
@@ -6,7 +8,6 @@ use crate::slot::next_slot;
 use crate::truth::Truth;
 use crate::truth::truth_of;
 use builder::ResultBuilder;
-use scalar::compare::equal;
 use scalar::value::Value;
 use scalar::value::kind;
 ghost use mathlib.Core.Path.{_≡_};
@@ -17,7 +18,7 @@ ghost use lib.ListN.{length, getD};
 ghost use Rattle.scalar.specs.Value.{meaning};
 ghost use Rattle.builder.specs.Builder.{orElse};
 ghost use Rattle.case.specs.Frame.{Rows};
-ghost use Rattle.case.specs.Choosing.{leaving, nullOutcome, trueOutcome, classAt, classBy, asksTrue, heldBy, Open, Settles};
+ghost use Rattle.case.specs.Choosing.{leaving, nullOutcome, trueOutcome, classAt, classCoded, classBy, asksTrue, asksEqual, CodesFor, heldBy, Open, Settles};
 ghost use Rattle.case.specs.Parting.{Parted, PartAsks, PartGives};
 
 // When a row leaves: its base is null, its WHEN is true, its WHEN equals its base, or always.
@@ -76,35 +77,22 @@ fn true_class(when: Value, index: u16, failed: u16) -> u16
 }
 
 // The index with which a row leaves, 0 where it stays.
-fn class_at(
-    rule: &[u8],
-    table: &[u8],
-    work: &[u8],
-    how: Leave,
-    index: u16,
-    failed: u16,
-    row: usize,
-) -> u16
-    requires { ⌜ (row < 512) × (12288 ≤ length (now work)) ⌝ }
-    ensures { λ r. ⌜ r ≡ classAt how (now (rule .entry)) (now (table .entry)) (now (work .entry)) index failed row ⌝ }
+fn class_at(work: &[u8], codes: &[u8], how: Leave, index: u16, failed: u16, row: usize) -> u16
+    requires { ⌜ (row < 512) × (12288 ≤ length (now work)) × (512 ≤ length (now codes)) ⌝ }
+    ensures { λ r. ⌜ r ≡ classCoded how (now (codes .entry)) (now (work .entry)) index failed row ⌝ }
 {
     match how {
         Leave::NullBase => null_class(get_slot(work, row), index, failed),
         Leave::TrueWhen => true_class(next_slot(work, row), index, failed),
-        Leave::EqualWhen => {
-            let base = get_slot(work, row);
-            let when = next_slot(work, row);
-            true_class(equal(rule, table, base, when), index, failed)
-        }
+        Leave::EqualWhen => true_class(code_value(codes[row]), index, failed),
         Leave::Rest => index,
     }
 }
 
 // The rows of the open list that leave, with their indices: how many they are. The others stay in it.
 fn split(
-    rule: &[u8],
-    table: &[u8],
     work: &mut [u8],
+    codes: &[u8],
     left: usize,
     how: Leave,
     index: u16,
@@ -114,13 +102,14 @@ fn split(
 ) -> usize
     requires { ⌜ Rows (now work) 5632 left 512 ⌝ }
     requires { ⌜ (12288 ≤ length (now work)) × (512 ≤ length (now rows)) × (512 ≤ length (now values)) ⌝ }
-    ensures { λ m. ⌜ Parted (classAt how (now (rule .entry)) (now (table .entry)) (now (work .entry)) index failed) (now (work .entry)) left m (now (rows .exit)) (now (values .exit)) (now (work .exit)) ⌝ }
+    requires { ⌜ 512 ≤ length (now codes) ⌝ }
+    ensures { λ m. ⌜ Parted (classCoded how (now (codes .entry)) (now (work .entry)) index failed) (now (work .entry)) left m (now (rows .exit)) (now (values .exit)) (now (work .exit)) ⌝ }
 {
     let mut m = 0;
     let mut i = 0;
     while i < left {
         let r = row_at(work, 5632, i);
-        let class = class_at(rule, table, work, how, index, failed, r);
+        let class = class_at(work, codes, how, index, failed, r);
         if class == 0 {
             put_row(work, 5632, i - m, r);
         } else {
@@ -131,6 +120,39 @@ fn split(
         i += 1;
     }
     m
+}
+
+// Whether a row leaves where its WHEN equals its base.
+fn asks_equal(how: Leave) -> bool
+    ensures { λ r. ⌜ r ≡ asksEqual how ⌝ }
+{
+    match how {
+        Leave::NullBase => false,
+        Leave::TrueWhen => false,
+        Leave::EqualWhen => true,
+        Leave::Rest => false,
+    }
+}
+
+// The number of each open row's equality with its base, where the way of leaving asks for it.
+fn fill_codes(rule: &[u8], table: &[u8], work: &[u8], left: usize, how: Leave, codes: &mut [u8])
+    requires { ⌜ Rows (now work) 5632 left 512 ⌝ }
+    requires { ⌜ (12288 ≤ length (now work)) × (length (now codes) ≡ 512) ⌝ }
+    ensures { λ _. ⌜ CodesFor how (now (rule .entry)) (now (table .entry)) (now (work .entry)) left (now (codes .exit)) ⌝ }
+{
+    if asks_equal(how) {
+        compare_list(
+            rule,
+            table,
+            work,
+            5632,
+            left,
+            false,
+            false,
+            Value::Null,
+            codes,
+        );
+    }
 }
 
 // The builder with the indices of rows that it does not hold.
@@ -162,10 +184,11 @@ pub(crate) fn settle(
 {
     let mut rows = [0u16; 512];
     let mut values = [0u16; 512];
+    let mut codes = [0u8; 512];
+    fill_codes(rule, table, work, left, how, &mut codes);
     let m = split(
-        rule,
-        table,
         work,
+        &codes,
         left,
         how,
         index,

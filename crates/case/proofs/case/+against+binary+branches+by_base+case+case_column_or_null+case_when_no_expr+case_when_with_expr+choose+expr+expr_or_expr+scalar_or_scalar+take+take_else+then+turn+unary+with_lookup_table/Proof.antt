@@ -382,7 +382,7 @@ pub +against+binary+branches+by-base+case+case-column-or-null+case-when-no-expr+
     (λ c. against-none (c .if1 .taken))
     (λ c κs. tt)
     (λ c κs. tt)
-    (λ c κs. framed-fillable (c .before .before .before .before .before .before .before .before .pre .1) (omega arith))
+    (λ c κs. let r = c .before .before .before .before .before .before .before .before .pre .1 .room in (framed-fillable (c .before .before .before .before .before .before .before .before .pre .1) (omega arith), omega arith))
     (λ c. c .before .before .compare-value .ensures .long)
     (λ c. against-value (c .before .before .before .before .before .before .before .before .before .before .before .pre .1 .list-ok .few) (sym (c .before .before .before .before .before .before .byte-at .ensures) ∙ c .before .before .before .before .before .if2 .taken) (c .before .before .before .literal-value .ensures) (c .before .before .compare-value .ensures))
     (λ c κs. let f = c .before .before .before .before .before .before .before .pre .1 .list-ok .few in let r = c .before .before .before .before .before .before .before .pre .1 .room in (omega arith, omega arith))

@@ -5,7 +5,7 @@ use denote.Ref.{now}
 use mathlib.Core.Path.{sym, ap, _∙_}
 use Rattle.scalar.specs.Order.{textIn}
 use Rattle.case.proofs.WroteLaws.{wrote-none, wrote-as, room-as}
-use Rattle.case.proofs.RowTextLaws.{no-text}
+use Rattle.scalar.proofs.OrderLaws.{no-text-in}
 use Rattle.case.proofs.texts.put_text_of.Statement.{statement}
 use Rattle.case.proofs.texts.put_text_of.Tie as tie
 
@@ -23,4 +23,4 @@ put-text-of-spec =
     (λ c. wrote-as (c .before .before .before .place-text .ensures ∙ sym (ap (textIn (now (c .before .before .before .before .before .before .before .before .before .before .before .args .rule)) (now (c .before .before .before .before .before .before .before .before .before .before .before .args .table))) (c .before .before .before .before .before .before .v .given .1))) (c .before .before .put-text .ensures))
     (λ c. search needs)
     (λ c. wrote-as (c .before .before .before .place-text2 .ensures ∙ sym (ap (textIn (now (c .before .before .before .before .before .before .before .before .before .before .before .args .rule)) (now (c .before .before .before .before .before .before .before .before .before .before .before .args .table))) (c .before .before .before .before .before .before .v2 .given .1))) (c .before .before .put-text2 .ensures))
-    (λ c. wrote-as (sym (no-text (c .before .before .before .before .args .v) (c .match .keys3) (now (c .before .before .before .before .args .rule)) (now (c .before .before .before .before .args .table)))) (wrote-none (omega (arith, c .before .before .before .before .pre)))))
+    (λ c. wrote-as (sym (no-text-in (c .before .before .before .before .args .v) (c .match .keys3) (now (c .before .before .before .before .args .rule)) (now (c .before .before .before .before .args .table)))) (wrote-none (omega (arith, c .before .before .before .before .pre)))))

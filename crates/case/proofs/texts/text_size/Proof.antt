@@ -3,7 +3,7 @@ use borrow.Author.Needs.{needs}
 use denote.Ref.{now}
 use mathlib.Core.Path.{sym, ap}
 use lib.ListN.{length}
-use Rattle.case.proofs.RowTextLaws.{no-text}
+use Rattle.scalar.proofs.OrderLaws.{no-text-in}
 use Rattle.case.proofs.texts.text_size.Statement.{statement}
 use Rattle.case.proofs.texts.text_size.Tie as tie
 
@@ -17,4 +17,4 @@ text-size-spec =
     (λ c κs. search needs)
     (λ c. rw (c .before .before .v .given .1) (ap length (c .place-text .ensures)))
     (λ c. rw (c .before .before .v2 .given .1) (ap length (c .place-text2 .ensures)))
-    (λ c. sym (ap length (no-text (c .before .before .before .args .v) (c .match .keys3) (now (c .before .before .before .args .rule)) (now (c .before .before .before .args .table))))))
+    (λ c. sym (ap length (no-text-in (c .before .before .before .args .v) (c .match .keys3) (now (c .before .before .before .args .rule)) (now (c .before .before .before .args .table))))))
