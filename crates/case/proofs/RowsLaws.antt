@@ -122,9 +122,6 @@ module _ {right : ℕ → Value → Type 0} {w : List ℕ} {n i : ℕ} {m : List
     pub slot-fresh : slotAt m r ≡ slotAt w r
     slot-fresh = slot-fresh-from s (own ok) more e
 
-    pub next-fresh : nextSlot m r ≡ nextSlot w r
-    next-fresh = next-fresh-from s (own ok) more e
-
     pub next : {v : Value} {m′ : List ℕ} → SlotPut m r v m′ → right r v → FilledSoFar right w n (i + 1) m′
     next = next-from s (own ok) more e
 
