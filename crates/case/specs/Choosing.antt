@@ -40,12 +40,23 @@ classAt TrueWhen rule table w index failed r = leaving trueOutcome index failed 
 classAt EqualWhen rule table w index failed r = leaving trueOutcome index failed (onEntries equalEntry (meaning rule table (slotAt w r)) (meaning rule table (nextSlot w r)))
 classAt Rest rule table w index failed r = index
 
--- the same, where equality with the base is known by the row's number of it
+-- the same by the index of its WHEN, which is 1 where that is true
+abbrev pub classBy : List ℕ → ℕ → ℕ → ℕ
+classBy whens index r = cond (eqb (getD whens r 0) 1) index 0
+
+-- the same, with the number that says whether its WHEN equals its base
 abbrev pub classCoded : Leave → List ℕ → List ℕ → ℕ → ℕ → ℕ → ℕ
 classCoded NullBase codes w index failed r = leaving nullOutcome index failed (meaning [] [] (slotAt w r))
 classCoded TrueWhen codes w index failed r = leaving trueOutcome index failed (meaning [] [] (nextSlot w r))
 classCoded EqualWhen codes w index failed r = leaving trueOutcome index failed (meaning [] [] (codeValue (getD codes r 0)))
 classCoded Rest codes w index failed r = index
+
+-- whether a way of leaving asks for a true WHEN
+abbrev pub asksTrue : Leave → Bool
+asksTrue NullBase = false
+asksTrue TrueWhen = true
+asksTrue EqualWhen = false
+asksTrue Rest = false
 
 -- whether a way of leaving asks for a WHEN that equals the base
 abbrev pub asksEqual : Leave → Bool
@@ -58,17 +69,6 @@ asksEqual Rest = false
 pub record CodesFor (how : Leave) (rule table w : List ℕ) (left : ℕ) (codes : List ℕ) : Type 0 where
   pub long : length codes ≡ 512
   pub right : asksEqual how ≡ true → (q : ℕ) → Listed w 5632 left q → CodeRight false rule table (slotAt w q) (nextSlot w q) (getD codes q 0)
-
--- the same by the index of its WHEN, which is 1 where that is true
-abbrev pub classBy : List ℕ → ℕ → ℕ → ℕ
-classBy whens index r = cond (eqb (getD whens r 0) 1) index 0
-
--- whether a way of leaving asks for a true WHEN
-abbrev pub asksTrue : Leave → Bool
-asksTrue NullBase = false
-asksTrue TrueWhen = true
-asksTrue EqualWhen = false
-asksTrue Rest = false
 
 -- what a builder holds for a row
 abbrev pub heldBy : ResultBuilder → ℕ → Option ℕ
