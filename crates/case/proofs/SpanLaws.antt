@@ -20,7 +20,8 @@ use Rattle.scalar.specs.Order.{Numbered}
 use Rattle.scalar.proofs.FloatLaws.{signTurned-below}
 use Rattle.table.specs.Column.{validIn, valueAt}
 use Rattle.case.specs.Frame.{Rows}
-use Rattle.case.specs.Steps.{KeysAt, numberMost, stepPasses, stepIndex, stepLow, stepHigh, SpansOf, inSpan, spanIndex, rowSpan, RowIndex, RowsIndexed}
+use Rattle.case.specs.LookUpTables.{found}
+use Rattle.case.specs.Steps.{KeysAt, numberMost, stepPasses, stepIndex, stepLow, stepHigh, SpansOf, inSpan, spanIndex, rowSpan, oneSpan, RowIndex, RowsIndexed}
 use Rattle.case.proofs.LookUpLaws.{found-same}
 use Rattle.case.proofs.StepLaws.{row-null, row-value}
 
@@ -109,6 +110,12 @@ module _ {tags keys lows highs : List ℕ} {k : ℕ} (s : SpansOf tags keys k lo
   spans-all h = record { lows-long = s .lows-long; highs-long = s .highs-long; low-is = λ j l. s .low-is j (omega arith); high-is = λ j l. s .high-is j (omega arith) }
 
 -- ---- the index of a row
+
+-- by one span
+pub rows-one : (numbers validity lows highs : List ℕ) {w indices : List ℕ} {count at n : ℕ} → count ≡ 1 → RowsIndexed (λ r c. c ≡ oneSpan numbers validity (getD lows 0 0) (getD highs 0 0) r) w at n indices
+    → RowsIndexed (λ r c. c ≡ rowSpan numbers validity lows highs count r) w at n indices
+unfolding found
+rows-one numbers validity lows highs one s = record { long = s .long; each = λ q l. s .each q l ∙ sym (ap (λ (k : ℕ). rowSpan numbers validity lows highs k q) one) }
 
 -- the number of a key
 abbrev numberIn : Key → ℕ

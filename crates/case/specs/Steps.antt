@@ -151,6 +151,10 @@ spanIndex lows highs count x = found (λ k. inSpan (getD lows k 0) (getD highs k
 abbrev pub rowSpan : List ℕ → List ℕ → List ℕ → List ℕ → ℕ → ℕ → ℕ
 rowSpan numbers validity lows highs count row = cond (validIn validity row) (spanIndex lows highs count (getD numbers row 0)) (count + 1)
 
+-- the same by one span
+abbrev pub oneSpan : List ℕ → List ℕ → ℕ → ℕ → ℕ → ℕ
+oneSpan numbers validity low high row = cond (validIn validity row) (cond (inSpan low high (getD numbers row 0)) 1 2) 2
+
 -- the index of a row's entry
 pub record RowIndex (kind : DataType) (values validity tags keys : List ℕ) (count row c : ℕ) : Type 0 where
   pub is : typeNumber kind ≤ 4 → (offsets : List ℕ) → EntryIndex tags keys count (typeNumber kind) (cond (validIn validity row) (valueAt kind offsets values row) null) c

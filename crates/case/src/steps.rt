@@ -14,11 +14,12 @@ use table::entry::valid_at;
 use table::places::ColumnPlace;
 use table::places::Table;
 ghost use mathlib.Core.Path.{_≡_};
+ghost use mathlib.Core.Bool.{cond};
 ghost use Prim.Native.Nat.{_+_, _*_, _<_, _≤_};
 ghost use lib.ListN.{length};
 ghost use Rattle.table.specs.Places.{columnIn};
 ghost use Rattle.case.specs.Frame.{Rows};
-ghost use Rattle.case.specs.Steps.{StepsGive, noStep, stepOf, SidesGive, StepGives, StepsRead, stepLow, stepHigh, SpansOf, inSpan, spanIndex, rowSpan, RowIndex, RowsIndexed, ColumnGives, StepRows, WhenGives};
+ghost use Rattle.case.specs.Steps.{StepsGive, noStep, stepOf, SidesGive, StepGives, StepsRead, stepLow, stepHigh, SpansOf, oneSpan, inSpan, spanIndex, rowSpan, RowIndex, RowsIndexed, ColumnGives, StepRows, WhenGives};
 
 // Most branches of a CASE.
 const BRANCHES_MOST: u8 = 32;
@@ -246,6 +247,77 @@ fn index_rows(
     }
 }
 
+// The index by one span: 1 of a number in it, else 2.
+fn one_index(low: u64, high: u64, x: u64) -> u16
+    ensures { λ r. ⌜ r ≡ cond (inSpan low high x) 1 2 ⌝ }
+{
+    if x < low {
+        return 2;
+    }
+    if high < x {
+        return 2;
+    }
+    1
+}
+
+// The index of a row by one span: of a null the ELSE index.
+fn one_row(numbers: &[u64], validity: &[u8], low: u64, high: u64, row: usize) -> u16
+    requires { ⌜ row < length (now numbers) ⌝ }
+    ensures { λ r. ⌜ r ≡ oneSpan (now (numbers .entry)) (now (validity .entry)) low high row ⌝ }
+{
+    if !valid_at(validity, row) {
+        return 2;
+    }
+    one_index(low, high, numbers[row])
+}
+
+// The index of each row of the list at a place, by one span.
+fn index_one(
+    numbers: &[u64],
+    validity: &[u8],
+    low: u64,
+    high: u64,
+    work: &[u8],
+    at: usize,
+    n: usize,
+    indices: &mut [u16],
+)
+    requires { ⌜ Rows (now work) at n 512 × (at + 2 * n ≤ length (now work)) ⌝ }
+    requires { ⌜ (length (now indices) ≡ 512) × (length (now numbers) ≡ 512) ⌝ }
+    ensures { λ _. ⌜ RowsIndexed (λ r c. c ≡ oneSpan (now (numbers .entry)) (now (validity .entry)) low high r) (now (work .entry)) at n (now (indices .exit)) ⌝ }
+{
+    let mut i = 0;
+    while i < n {
+        let r = row_at(work, at, i);
+        indices[r] = one_row(numbers, validity, low, high, r);
+        i += 1;
+    }
+}
+
+// The index of each row of the list at a place, by so many spans.
+fn index_spans(
+    numbers: &[u64],
+    validity: &[u8],
+    lows: &[u64],
+    highs: &[u64],
+    count: usize,
+    work: &[u8],
+    at: usize,
+    n: usize,
+    indices: &mut [u16],
+)
+    requires { ⌜ (length (now lows) ≡ 32) × (length (now highs) ≡ 32) × (count ≤ 32) ⌝ }
+    requires { ⌜ Rows (now work) at n 512 × (at + 2 * n ≤ length (now work)) ⌝ }
+    requires { ⌜ (length (now indices) ≡ 512) × (length (now numbers) ≡ 512) ⌝ }
+    ensures { λ _. ⌜ RowsIndexed (λ r c. c ≡ rowSpan (now (numbers .entry)) (now (validity .entry)) (now (lows .entry)) (now (highs .entry)) count r) (now (work .entry)) at n (now (indices .exit)) ⌝ }
+{
+    if count == 1 {
+        index_one(numbers, validity, lows[0], highs[0], work, at, n, indices);
+        return;
+    }
+    index_rows(numbers, validity, lows, highs, count, work, at, n, indices);
+}
+
 // The index of each row of the list at a place, by so many steps on the column at a place of the table, whose type is the steps'.
 fn index_column(
     table: &[u8],
@@ -271,7 +343,7 @@ fn index_column(
     let mut lows = [0u64; 32];
     let mut highs = [0u64; 32];
     fill_spans(tags, keys, count, &mut lows, &mut highs);
-    index_rows(
+    index_spans(
         &numbers,
         validity,
         &lows,

@@ -21,5 +21,5 @@ index-column-spec =
     (λ c. search needs)
     (λ c. search needs)
     (λ c κs. ((c .before .before .before .before .before .before .fill-spans .ensures .lows-long, c .before .before .before .before .before .before .fill-spans .ensures .highs-long, c .before .before .before .before .before .before .before .before .before .before .before .before .before .before .before .before .before .before .before .pre .0 .2), (c .before .before .before .before .before .before .before .before .before .before .before .before .before .before .before .before .before .before .before .pre .1 .0, (c .before .before .before .before .before .before .before .before .before .before .before .before .before .before .before .before .before .before .before .pre .1 .1, c .before .before .before .before .before .before .before .before .before .before .column-keys .ensures .long))))
-    (λ c. c .before .before .index-rows .ensures .long ∙ sym (c .before .before .before .before .before .before .before .before .before .before .before .before .before .before .before .before .before .before .before .before .before .before .pre .1 .1))
-    (λ c. rows-of (c .before .before .before .before .before .before .before .before .before .before .before .before .before .before .before .before .part-of .ensures) (c .before .before .before .before .before .before .before .before .before .before .before .before .before .before .before .part-of2 .ensures) (rows-spans (c .before .before .before .before .before .before .before .before .before .fill-spans .ensures) (c .before .before .before .before .before .before .before .before .before .before .before .before .before .column-keys .ensures) (c .before .before .before .before .before .before .before .before .before .before .before .before .before .before .before .before .before .before .before .before .before .before .pre .1 .0 .0) (c .before .before .index-rows .ensures))))
+    (λ c. c .before .before .index-spans .ensures .long ∙ sym (c .before .before .before .before .before .before .before .before .before .before .before .before .before .before .before .before .before .before .before .before .before .before .pre .1 .1))
+    (λ c. rows-of (c .before .before .before .before .before .before .before .before .before .before .before .before .before .before .before .before .part-of .ensures) (c .before .before .before .before .before .before .before .before .before .before .before .before .before .before .before .part-of2 .ensures) (rows-spans (c .before .before .before .before .before .before .before .before .before .fill-spans .ensures) (c .before .before .before .before .before .before .before .before .before .before .before .before .before .column-keys .ensures) (c .before .before .before .before .before .before .before .before .before .before .before .before .before .before .before .before .before .before .before .before .before .before .pre .1 .0 .0) (c .before .before .index-spans .ensures))))
