@@ -26,7 +26,7 @@ use Rattle.table.specs.Column.{TableColumn}
 use Rattle.table.specs.Places.{columnIn, tableIn, noPlace}
 use Rattle.table.proofs.EntryLaws.{column-missing, column-there}
 use Rattle.case.specs.Fits.{columnFits, columnsFit}
-use Rattle.case.specs.Fitting.{markFits, FitsGives}
+use Rattle.case.specs.Fitting.{markFits, Beyond, FitsGives}
 
 -- the mark of a column says what the column does
 mark-says : (c : Column) (d : Option TableColumn) → markFits (markOf c) d ≡ columnFits c d
@@ -113,16 +113,16 @@ module _ (table : List TableColumn) where
           let is : markAt (c ∷ l) i ≡ markAt l i = ap (λ (t : Bool). cond t (markOf c) (markAt l i)) e in
           ap (λ (m : ℕ). markFits m (getElem? table i)) (sym is) ∙ f i (λ z. n (sym is ∙ z))
 
--- the loop over the marks: those below i fit
+-- the loop over the marks that a table can have columns for: those below i fit
 pub record Fitted (marks : List ℕ) (t : Table) (i : ℕ) : Type 0 where
-  pub upto : i ≤ 256
+  pub upto : i ≤ 16
   pub fit : (bytes : List ℕ) (j : ℕ) → j < i → (getD marks j 0 ≡ 0 → ⊥) → markFits (getD marks j 0) (getElem? (tableIn bytes t .columns) j) ≡ true
 
 pub fitted-none : {marks : List ℕ} {t : Table} → Fitted marks t 0
 fitted-none = record { upto = omega arith; fit = λ bytes j h. absurd (omega arith) }
 
 -- one more mark: there is none, or it fits
-pub fitted-more : {marks : List ℕ} {t : Table} {i : ℕ} → Fitted marks t i → i < 256
+pub fitted-more : {marks : List ℕ} {t : Table} {i : ℕ} → Fitted marks t i → i < 16
     → (getD marks i 0 ≡ 0) ⊎ ((bytes : List ℕ) → true ≡ markFits (getD marks i 0) (getElem? (tableIn bytes t .columns) i)) → Fitted marks t (i + 1)
 fitted-more {marks} {t} {i} g more now = record { upto = omega arith; fit = λ bytes j h n. go bytes j h n (ℕ-discrete j i) }
   where
@@ -155,24 +155,28 @@ module _ (seen : Seen) (t : Table) where
         sym (misfit table (g .columns) i (λ z. n (sym mark ∙ z)) (ap (λ (m : ℕ). markFits m (getElem? table i)) mark ∙ sym (f bytes))) ∙ rule-fits a e g table;
   }
 
-  module _ {i : ℕ} (all : Fitted (seen .marks) t i) (last : 256 ≤ i) where
+  module _ {i : ℕ} (all : Fitted (seen .marks) t i) (last : 16 ≤ i) (none-beyond : (j : ℕ) → 16 ≤ j → j < 256 → getD (seen .marks) j 0 ≡ 0) where
     module _ (bytes : List ℕ) (a : NodeRead) (e : Expr) (g : RuleRead a e) (is : a .seen ≡ seen) (j : ℕ) where
       mark-is : markAt (g .columns) j ≡ getD (seen .marks) j 0
       mark-is = sym (g .seen-are .marked j) ∙ ap (λ (s : Seen). getD (s .marks) j 0) is
 
       -- behind the last mark there is none
+      behind : 16 ≤ j → Dec (j < 256) → getD (seen .marks) j 0 ≡ 0
+      behind h (yes b) = none-beyond j h b
+      behind h (no b) =
+          let size : length (seen .marks) ≡ 256 = ap (λ (s : Seen). length (s .marks)) (sym is) ∙ g .seen-are .sized in
+          List·getD-eq-default (seen .marks) 0 (omega arith)
+
       inside : (markAt (g .columns) j ≡ 0 → ⊥) → Dec (j < i) → j < i
       inside n (yes h) = h
-      inside n (no h) =
-          let size : length (seen .marks) ≡ 256 = ap (λ (s : Seen). length (s .marks)) (sym is) ∙ g .seen-are .sized in
-          absurd (n (mark-is ∙ List·getD-eq-default (seen .marks) 0 (omega arith)))
+      inside n (no h) = absurd (n (mark-is ∙ behind (omega arith) (decLt j 256)))
 
       mark-fits : (markAt (g .columns) j ≡ 0 → ⊥) → markFits (markAt (g .columns) j) (getElem? (tableIn bytes t .columns) j) ≡ true
       mark-fits n =
           ap (λ (m : ℕ). markFits m (getElem? (tableIn bytes t .columns) j)) mark-is ∙ all .fit bytes j (inside n (decLt j i)) (λ z. n (mark-is ∙ z))
 
     -- all marks fit
-    pub table-fits : FitsGives seen t true
+    table-fits : FitsGives seen t true
     table-fits = record {
       says = λ bytes a e g is.
           sym (all-fit (tableIn bytes t .columns) (g .columns) (g .seen-are .all-alike) (mark-fits bytes a e g is)) ∙ rule-fits a e g (tableIn bytes t .columns);
@@ -200,3 +204,37 @@ module _ {A : Type 0} (f : ColumnPlace → A) (t : Table) (long : length (map f 
   pub index-there : index < min (t .count) 16 → (r : Bool) → ((bytes : List ℕ) → r ≡ markFits m (some (columnIn bytes (getD (t .columns) index noPlace))))
       → (bytes : List ℕ) → r ≡ markFits m (getElem? (tableIn bytes t .columns) index)
   index-there h r g bytes = g bytes ∙ sym (ap (markFits m) (column-there f bytes t long index 0 h))
+
+-- ---- the marks beyond a table's columns
+
+pub beyond-none : {marks : List ℕ} → Beyond marks 16 0
+beyond-none = record { above = λ i a b. absurd (omega arith); one = λ n. absurd (n refl) }
+
+-- one more mark: a greater one, or not
+module _ {marks : List ℕ} {n most : ℕ} (b : Beyond marks n most) (from : 16 ≤ n) where
+  upto-next : {m : ℕ} → most ≤ m → getD marks n 0 ≤ m → (i : ℕ) → 16 ≤ i → i < n + 1 → Dec (i ≡ n) → getD marks i 0 ≤ m
+  upto-next h k i a l (yes e) = let same : getD marks i 0 ≡ getD marks n 0 = ap (λ (j : ℕ). getD marks j 0) e in omega arith
+  upto-next h k i a l (no e) = omega (arith, b .above i a (omega arith))
+
+  pub beyond-greater : {m : ℕ} → most < getD marks n 0 → m ≡ getD marks n 0 → Beyond marks (n + 1) m
+  beyond-greater h e = record { above = λ i a l. upto-next (omega arith) (omega arith) i a l (ℕ-discrete i n); one = λ _. (n, from, sym e) }
+
+  pub beyond-less : {m : ℕ} → getD marks n 0 ≤ most → m ≡ most → Beyond marks (n + 1) m
+  beyond-less h e = record {
+    above = λ i a l. upto-next (omega arith) (omega arith) i a l (ℕ-discrete i n);
+    one = λ d. let w = b .one (λ z. d (e ∙ z)) in (w .0, w .1, w .2 ∙ sym e);
+  }
+
+pub beyond-all : {marks : List ℕ} {n most : ℕ} → 256 ≤ n → Beyond marks n most → Beyond marks 256 most
+beyond-all h b = record { above = λ i a l. b .above i a (omega arith); one = b .one }
+
+-- all marks below 16 fit: the table does where there is none beyond
+pub beyond-fits : {A : Type 0} (f : ColumnPlace → A) (seen : Seen) (t : Table) → length (map f (t .columns)) ≡ 16 → {i most : ℕ} → Fitted (seen .marks) t i → 16 ≤ i
+    → Beyond (seen .marks) 256 most → FitsGives seen t (eqb most 0)
+beyond-fits f seen t long {i} {most} all last b = go (eqb most 0) refl
+  where
+    go : (r : Bool) → eqb most 0 ≡ r → FitsGives seen t r
+    go true e = table-fits seen t all last (λ j h l. let z : most ≡ 0 = eqb-true most 0 e in omega (arith, b .above j h l))
+    go false e =
+        let w = b .one (eqb-false most 0 e) in
+        table-misfits seen t (w .0) (λ z. eqb-false most 0 e (sym (w .2) ∙ z)) (index-missing f t long (getD (seen .marks) (w .0) 0) (w .0) (omega (arith, w .1)))

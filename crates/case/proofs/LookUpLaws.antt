@@ -9,7 +9,7 @@ use native.Mathlib.Numerals.{add-one}
 use native.Mathlib.Decide.{ℕ-discrete}
 use native.Mathlib.Omega.{arith}
 use lib.Dec.{eqb}
-use lib.ListN.{length, getD, take, drop, set, length-set, length-take, length-drop}
+use lib.ListN.{length, getD, set, length-set}
 use lib.Seq.{getD-set-same, getD-set-other}
 use borrow.Author.Tests.{eq-eqb, ne-eqb, eqb-true}
 use lib.Ieee.{Float, binary64, nanBits, ofBits}
@@ -26,9 +26,10 @@ use Rattle.scalar.specs.Value.{meaning, valueOf, kindOf, payloadOf, placeText, 
 use Rattle.scalar.proofs.ValueLaws.{payload-back}
 use Rattle.scalar.proofs.EntryLaws.{agree-eq}
 use Rattle.scalar.proofs.TextLaws.{same-length}
+use Rattle.case.proofs.WordLaws.{rule-bytes, table-bytes, place-cut, place-few}
 use Rattle.case.specs.declared.boolean_lookup_table.BooleanIndexMap.{BooleanIndexMap}
 use Rattle.case.specs.LookUpBooleans.{BooleansOf}
-use Rattle.case.specs.LookUpTables.{sameKey, found, valueAt, keyIndex, whenIndex, baseIndex, numberIndex, Keys, EachOnce, TableOf, Added}
+use Rattle.case.specs.LookUpTables.{bytesOf, sameKey, found, valueAt, keyIndex, whenIndex, baseIndex, numberIndex, Keys, EachOnce, TableOf, Added}
 
 -- ---- a search
 
@@ -168,28 +169,38 @@ failed-second unfit = refl
 
 -- ---- text keys
 
--- a place that lies in the bytes
-module _ (text bytes : List ℕ) (start size : ℕ) (inside : start + size ≤ length bytes) where
-  pub place-unlike : (size ≡ length text → ⊥) → false ≡ sameBytes text (placeText bytes start size)
-  place-unlike n = sym (same-length text (placeText bytes start size) (λ e. n (omega (arith, e, length-take size (drop start bytes), length-drop start bytes))))
-
-  pub place-long : size ≡ length text → length text ≡ length (take (start + size - start) (drop start bytes))
-  place-long e = omega (arith, length-take (start + size - start) (drop start bytes), length-drop start bytes)
-
-  pub place-whole : {r : Bool} → r ≡ sameBytes text (take (start + size - start) (drop start bytes)) → r ≡ sameBytes text (placeText bytes start size)
-  place-whole p =
-      let e : start + size - start ≡ size = omega arith in
-      p ∙ ap (λ (k : ℕ). sameBytes text (take k (drop start bytes))) e
-
 -- a key's test, by its kind and payload
 module _ (rule table text : List ℕ) (k p : ℕ) where
   pub text-in-rule : {r : Bool} → k ≡ 5 → r ≡ sameBytes text (placeText rule (p % 2 ^ 32) (p / 2 ^ 32)) → r ≡ sameKey (entry (utf8 text)) (meaning rule table (valueOf k p))
   unfolding pairOf valueOf
   text-in-rule e q = q ∙ sym (ap (λ (x : ℕ). sameKey (entry (utf8 text)) (meaning rule table (valueOf x p))) e)
 
-  pub text-in-table : {r : Bool} → k ≡ 6 → r ≡ sameBytes text (placeText table (p % 2 ^ 32) (p / 2 ^ 32)) → r ≡ sameKey (entry (utf8 text)) (meaning rule table (valueOf k p))
+  text-in-table : {r : Bool} → k ≡ 6 → r ≡ sameBytes text (placeText table (p % 2 ^ 32) (p / 2 ^ 32)) → r ≡ sameKey (entry (utf8 text)) (meaning rule table (valueOf k p))
   unfolding pairOf valueOf
   text-in-table e q = q ∙ sym (ap (λ (x : ℕ). sameKey (entry (utf8 text)) (meaning rule table (valueOf x p))) e)
+
+  module _ (low : 5 ≤ k) (high : k ≤ 6) where
+    text-of-kind : {r : Bool} → r ≡ sameBytes text (placeText (bytesOf k rule table) (p % 2 ^ 32) (p / 2 ^ 32)) → r ≡ sameKey (entry (utf8 text)) (meaning rule table (valueOf k p))
+    text-of-kind {r} q = go (ℕ-discrete k 5)
+      where
+        in-bytes : {l : List ℕ} → bytesOf k rule table ≡ l → r ≡ sameBytes text (placeText l (p % 2 ^ 32) (p / 2 ^ 32))
+        in-bytes e = q ∙ ap (λ (l : List ℕ). sameBytes text (placeText l (p % 2 ^ 32) (p / 2 ^ 32))) e
+
+        go : Dec (k ≡ 5) → r ≡ sameKey (entry (utf8 text)) (meaning rule table (valueOf k p))
+        go (yes e) = text-in-rule e (in-bytes (rule-bytes rule table e))
+        go (no n) = text-in-table (omega arith) (in-bytes (table-bytes rule table n))
+
+    module _ {n : ℕ} (size : n ≡ length (placeText (bytesOf k rule table) (p % 2 ^ 32) (p / 2 ^ 32))) where
+      -- of another size
+      pub text-unlike : (n ≡ length text → ⊥) → false ≡ sameKey (entry (utf8 text)) (meaning rule table (valueOf k p))
+      text-unlike d = text-of-kind (sym (same-length text (placeText (bytesOf k rule table) (p % 2 ^ 32) (p / 2 ^ 32)) (λ e. d (size ∙ sym e))))
+
+      -- of the same size
+      pub text-few : n ≡ length text → length text ≤ length (bytesOf k rule table) - p % 2 ^ 32
+      text-few e = place-few (bytesOf k rule table) (p % 2 ^ 32) (p / 2 ^ 32) (sym size ∙ e)
+
+      pub text-like : {r : Bool} → n ≡ length text → r ≡ sameBytes text (placeText (bytesOf k rule table) (p % 2 ^ 32) (length text)) → r ≡ sameKey (entry (utf8 text)) (meaning rule table (valueOf k p))
+      text-like e q = text-of-kind (q ∙ ap (sameBytes text) (sym (place-cut (bytesOf k rule table) (p % 2 ^ 32) (p / 2 ^ 32) (sym size ∙ e))))
 
 pub text-nowhere : (rule table text : List ℕ) (k p : ℕ) → (k ≡ 5 → ⊥) → (k ≡ 6 → ⊥) → false ≡ sameKey (entry (utf8 text)) (meaning rule table (valueOf k p))
 unfolding pairOf valueOf
@@ -306,6 +317,10 @@ module _ (rule table : List ℕ) {kinds keys indices : List ℕ} {size otherwise
   pub float64-index : {v : Value} {f : Float} {bits r : ℕ} → v ≡ Float64 f → bits ≡ payloadOf (Float64 f) → r ≡ numberIndex kinds keys indices size otherwise 4 bits
       → r ≡ baseIndex (keyIndex rule table kinds keys indices size otherwise) otherwise (meaning rule table v)
   float64-index {f = f} e q p = told-index (Float64 f) e (hit (1 ∷ 2 ∷ 3 ∷ 4 ∷ 5 ∷ []) 4 tt) (p ∙ ap (numberIndex kinds keys indices size otherwise 4) q)
+
+  pub nan-index : {v : Value} {n r : ℕ} → v ≡ Nan n → r ≡ numberIndex kinds keys indices size otherwise 4 n
+      → r ≡ baseIndex (keyIndex rule table kinds keys indices size otherwise) otherwise (meaning rule table v)
+  nan-index {n = n} e p = told-index (Nan n) e (hit (1 ∷ 2 ∷ 3 ∷ 4 ∷ 5 ∷ []) 5 tt) p
 
   pub boolean-index : {v : Value} {b : Bool} {m : BooleanIndexMap} {r : ℕ} → v ≡ Boolean b → BooleansOf kinds keys indices size otherwise m → r ≡ cond b (m .«true_index») (m .«false_index»)
       → r ≡ baseIndex (keyIndex rule table kinds keys indices size otherwise) otherwise (meaning rule table v)

@@ -3,8 +3,9 @@ use mathlib.Core.Path.{_≡_}
 use mathlib.Core.Bool.{Bool, false, not, _&&_, _||_}
 use mathlib.Core.List.{List}
 use mathlib.Core.Option.{Option, some, none}
-use Prim.Native.Nat.{ℕ, _%_}
+use Prim.Native.Nat.{ℕ, _%_, _<_, _≤_}
 use lib.Dec.{eqb, leb}
+use lib.ListN.{getD}
 use Rattle.scalar.specs.Types.{typeNumber}
 use Rattle.rule.specs.declared.seen.Seen.{Seen}
 use Rattle.rule.specs.declared.node.NodeRead.{NodeRead}
@@ -19,6 +20,11 @@ use Rattle.case.specs.Fits.{fits}
 abbrev pub markFits : ℕ → Option TableColumn → Bool
 markFits m none = false
 markFits m (some d) = eqb (m % 8) (typeNumber (d .type)) && (leb 8 m || not (d .nullable))
+
+-- the greatest of the marks from 16 on and below n; a table has at most 16 columns (01, Bytes of a table)
+pub record Beyond (marks : List ℕ) (n most : ℕ) : Type 0 where
+  pub above : (i : ℕ) → 16 ≤ i → i < n → getD marks i 0 ≤ most
+  pub one : (most ≡ 0 → ⊥) → (i : ℕ) × (16 ≤ i) × (getD marks i 0 ≡ most)
 
 -- whatever rule was read with these marks, and whatever bytes the places are in: the answer says whether the table fits the rule
 pub record FitsGives (seen : Seen) (t : Table) (r : Bool) : Type 0 where

@@ -21,6 +21,10 @@ use Rattle.case.specs.Frame.{slotAt}
 abbrev pub sameKey : Outcome → Outcome → Bool
 sameKey a b = trueOutcome (onEntries equalEntry a b)
 
+-- the bytes that a text's place is in, by the text's kind: 5 in the rule, 6 in the table
+abbrev pub bytesOf : ℕ → List ℕ → List ℕ → List ℕ
+bytesOf kind rule table = cond (eqb kind 5) rule table
+
 -- the search breaks out with the index it found, or the ELSE index (01, What changes shape): the first of the next n from k on that is the same
 unfoldable pub found : (ℕ → Bool) → (ℕ → ℕ) → ℕ → ℕ → ℕ → ℕ
 found same index k zero otherwise = otherwise

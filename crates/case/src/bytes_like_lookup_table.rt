@@ -1,70 +1,89 @@
 // Text keys, by their bytes.
 use crate::slot::word;
 use scalar::text::place_text;
-use scalar::text::same_bytes;
 ghost use mathlib.Core.Path.{_≡_};
 ghost use mathlib.Core.Bool.{true};
-ghost use Prim.Native.Nat.{ℕ, _<_, _≤_};
+ghost use Prim.Native.Nat.{ℕ, _+_, _-_, _<_, _≤_};
 ghost use lib.ListN.{length, getD};
+ghost use Rattle.layout.specs.Bytes.{numberAt};
 ghost use Rattle.scalar.specs.Entry.{entry, utf8};
 ghost use Rattle.scalar.specs.Text.{sameBytes};
 ghost use Rattle.scalar.specs.Value.{meaning, placeText, valueOf};
-ghost use Rattle.case.specs.LookUpTables.{Keys, EachOnce, sameKey, keyIndex, valueAt};
+ghost use Rattle.case.specs.LookUpTables.{Keys, EachOnce, bytesOf, sameKey, keyIndex, valueAt};
 ghost use Rattle.case.specs.LookUpColumns.{textHint, outcomeHint, Hinted, ruleText, textMark, KeySize, Marked, MarkIs, TextTable};
 
-// Whether two texts of one size, of four bytes or more, are the same bytes. Four at a time from the back: names often begin alike.
-fn same_words(a: &[u8], b: &[u8]) -> bool
-    requires { ⌜ (length (now a) ≡ length (now b)) × (4 ≤ length (now a)) ⌝ }
-    ensures { λ r. ⌜ r ≡ sameBytes (now (a .entry)) (now (b .entry)) ⌝ }
+// How many bytes of a text's place are there. Kind 5 is text in the rule, any other in the table.
+fn size_in(rule: &[u8], table: &[u8], kind: u8, start: usize, size: usize) -> usize
+    ensures { λ r. ⌜ r ≡ length (placeText (bytesOf kind (now (rule .entry)) (now (table .entry))) start size) ⌝ }
 {
-    let mut left = a.len();
+    if kind == 5 {
+        return place_text(rule, start, size).len();
+    }
+    place_text(table, start, size).len()
+}
+
+// The number in the four bytes at a place, in the bytes of the kind.
+fn word_in(rule: &[u8], table: &[u8], kind: u8, at: usize) -> u64
+    requires { ⌜ at + 4 ≤ length (bytesOf kind (now rule) (now table)) ⌝ }
+    ensures { λ r. ⌜ r ≡ numberAt 4 (bytesOf kind (now (rule .entry)) (now (table .entry))) at ⌝ }
+{
+    if kind == 5 {
+        return word(rule, at);
+    }
+    word(table, at)
+}
+
+// The byte at a place, in the bytes of the kind.
+fn byte_in(rule: &[u8], table: &[u8], kind: u8, at: usize) -> u8
+    requires { ⌜ at + 1 ≤ length (bytesOf kind (now rule) (now table)) ⌝ }
+    ensures { λ r. ⌜ r ≡ getD (bytesOf kind (now (rule .entry)) (now (table .entry))) at 0 ⌝ }
+{
+    if kind == 5 {
+        return rule[at];
+    }
+    table[at]
+}
+
+// Whether a text is the bytes from a place on. Four at a time from the back: names often begin alike.
+fn same_in(rule: &[u8], table: &[u8], kind: u8, start: usize, text: &[u8]) -> bool
+    requires { ⌜ length (now text) ≤ length (bytesOf kind (now rule) (now table)) - start ⌝ }
+    ensures { λ r. ⌜ r ≡ sameBytes (now (text .entry)) (placeText (bytesOf kind (now (rule .entry)) (now (table .entry))) start (length (now (text .entry)))) ⌝ }
+{
+    let mut left = text.len();
     while 4 <= left {
         left -= 4;
-        if word(a, left) != word(b, left) {
+        if word(text, left) != word_in(rule, table, kind, start + left) {
             return false;
         }
     }
-    word(a, 0) == word(b, 0)
-}
-
-// Whether two texts of one size are the same bytes.
-fn same_text(a: &[u8], b: &[u8]) -> bool
-    requires { ⌜ length (now a) ≡ length (now b) ⌝ }
-    ensures { λ r. ⌜ r ≡ sameBytes (now (a .entry)) (now (b .entry)) ⌝ }
-{
-    if a.len() < 4 {
-        return same_bytes(a, b);
+    if 4 <= text.len() {
+        return word(text, 0) == word_in(rule, table, kind, start);
     }
-    same_words(a, b)
-}
-
-// Whether a text is the bytes of a place. Where they are all there, the sizes tell most texts apart.
-fn is_place(text: &[u8], bytes: &[u8], start: usize, size: usize) -> bool
-    ensures { λ r. ⌜ r ≡ sameBytes (now (text .entry)) (placeText (now (bytes .entry)) start size) ⌝ }
-{
-    if start < bytes.len() {
-        if size <= bytes.len() - start {
-            if size != text.len() {
-                return false;
-            }
-            let end = start + size;
-            return same_text(text, &bytes[start..end]);
+    while 0 < left {
+        left -= 1;
+        if text[left] != byte_in(rule, table, kind, start + left) {
+            return false;
         }
     }
-    same_bytes(text, place_text(bytes, start, size))
+    true
 }
 
-// Whether a key, by its kind and payload, is a text of these bytes.
+// Whether a key, by its kind and payload, is a text of these bytes. The sizes tell most texts apart.
 fn is_text(rule: &[u8], table: &[u8], text: &[u8], kind: u8, payload: u64) -> bool
     ensures { λ r. ⌜ r ≡ sameKey (entry (utf8 (now (text .entry)))) (meaning (now (rule .entry)) (now (table .entry)) (valueOf kind payload)) ⌝ }
 {
+    if kind < 5 {
+        return false;
+    }
+    if 6 < kind {
+        return false;
+    }
     let start = (payload % 0x1_0000_0000) as usize;
     let size = (payload / 0x1_0000_0000) as usize;
-    match kind {
-        5 => is_place(text, rule, start, size),
-        6 => is_place(text, table, start, size),
-        _ => false,
+    if size_in(rule, table, kind, start, size) != text.len() {
+        return false;
     }
+    same_in(rule, table, kind, start, text)
 }
 
 // The index of the first key that is a text of these bytes, or the ELSE index.

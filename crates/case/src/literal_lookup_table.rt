@@ -197,7 +197,7 @@ pub(crate) fn read_table(
     )
 }
 
-// The same index by the tables of Boolean and of number keys, where the value is one.
+// The same index, of a Boolean by the table of Boolean keys.
 fn base_index(
     rule: &[u8],
     table: &[u8],
@@ -218,7 +218,28 @@ fn base_index(
         Value::Int32(n) => find_number(kinds, keys, indices, size, otherwise, 2, n as u64),
         Value::Int64(n) => find_number(kinds, keys, indices, size, otherwise, 3, n),
         Value::Float64(f) => find_number(kinds, keys, indices, size, otherwise, 4, float_bits(f)),
-        _ => map_to_when_index(rule, table, kinds, keys, indices, size, otherwise, v),
+        Value::Nan(n) => find_number(kinds, keys, indices, size, otherwise, 4, n),
+        Value::RuleText(start, length) => find_text(
+            rule,
+            table,
+            kinds,
+            keys,
+            indices,
+            size,
+            otherwise,
+            place_text(rule, start, length),
+        ),
+        Value::TableText(start, length) => find_text(
+            rule,
+            table,
+            kinds,
+            keys,
+            indices,
+            size,
+            otherwise,
+            place_text(table, start, length),
+        ),
+        Value::Failed => otherwise + 1,
     }
 }
 

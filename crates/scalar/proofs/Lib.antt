@@ -3,6 +3,7 @@ pub mod IntegerLaws
 pub mod FloatLaws
 pub mod TypeLaws
 pub mod ValueLaws
+pub mod CastLaws
 pub mod EntryLaws
 pub mod TextLaws
 pub mod OrderLaws

@@ -6,9 +6,8 @@ use Prim.Native.Nat.{ℕ, zero, suc, _/_, _%_, _^_, _<_}
 use native.Mathlib.Nat.{mod-eq-of-lt}
 use native.Mathlib.Omega.{arith}
 use lib.Dec.{lit<}
-use lib.Ieee.{Float, binary64, nanBits, ofInt}
+use lib.Ieee.{binary64, nanBits}
 use lib.Ieee.Bits.{is-true, toBits-lt}
-use lib.Ieee.Fits.{ofInt-fits}
 use types.Run.{OneOf, miss}
 use denote.Enum.Declared.{tagOf}
 use Rattle.scalar.proofs.value.Value.{the-type}
@@ -16,13 +15,12 @@ use Rattle.scalar.specs.declared.types.DataType.{DataType}
 use Rattle.scalar.specs.declared.value.Value.{Value}
 use Rattle.scalar.specs.declared.value.Value.the-variants.{Null, Boolean, Int32, Int64, Float64, Nan, RuleText, TableText, Failed}
 use Rattle.scalar.specs.Entry.{Entry, float64, Outcome, entry, onEntry}
-use Rattle.scalar.specs.Integer.{signed}
 use Rattle.scalar.specs.Float.{signTurned}
 use Rattle.scalar.specs.Negative.{negativeEntry}
-use Rattle.scalar.specs.Cast.{toFloat64, castEntry}
+use Rattle.scalar.specs.Cast.{castEntry}
 use Rattle.scalar.specs.TryCast.{orNull, tryCastEntry}
 use Rattle.scalar.specs.Value.{meaning, floatValue, kindOf, payloadOf, valueOf, placePayload, Storable, Gives}
-use Rattle.scalar.proofs.FloatLaws.{float-stores, float-means, float-back, ofInt-no-nan}
+use Rattle.scalar.proofs.FloatLaws.{float-stores, float-means, float-back}
 
 -- what an operation gives at a value that is known
 pub gives-at : {f : Entry → Outcome} {v w r : Value} → v ≡ w → ((rule table : List ℕ) → meaning rule table r ≡ onEntry f (meaning rule table w)) → (Storable w → Storable r) → Gives f v r
@@ -30,10 +28,6 @@ gives-at {f} e m s = record {
   means = λ rule table. m rule table ∙ sym (ap (λ (x : Value). onEntry f (meaning rule table x)) e);
   stores = λ t. s (subst Storable e t);
 }
-
--- an Int32's float is its cast
-pub floated-gives : {v : Value} {n : ℕ} {f : Float} → v ≡ Int32 n → f ≡ ofInt binary64 (signed 31 n) → Gives toFloat64 v (Float64 f)
-floated-gives {v} {n} e p = rw p (gives-at e (λ rule table. refl) (λ s. (ofInt-fits binary64 (signed 31 n), ofInt-no-nan binary64 (signed 31 n))))
 
 -- a float's bits with their sign turned are the negative of its value
 pub turned-gives : {v r : Value} {n t : ℕ} → ((rule table : List ℕ) → meaning rule table v ≡ entry (float64 n)) → t ≡ signTurned 63 n → t < 2 ^ 64 → r ≡ floatValue t → Gives (λ e. entry (negativeEntry e)) v r

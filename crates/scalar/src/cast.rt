@@ -3,27 +3,10 @@ use crate::types::DataType;
 use crate::value::Value;
 ghost use mathlib.Core.Path.{_≡_};
 ghost use lib.Ieee.{binary64, ofInt};
-ghost use Rattle.scalar.specs.Cast.{toBoolean, toInt32, toInt64, toFloat64, toUtf8, castEntry};
+ghost use Rattle.scalar.specs.Cast.{castEntry};
 ghost use Rattle.scalar.specs.Integer.{signed, bitsOf};
 ghost use Rattle.scalar.specs.Value.{Gives};
-ghost use Rattle.scalar.specs.Casts.{Narrowed};
-
-// Integer to Boolean is "not zero".
-pub fn to_boolean(v: Value) -> Value
-    ensures { λ r. ⌜ Gives toBoolean v r ⌝ }
-{
-    match v {
-        Value::Null => Value::Null,
-        Value::Boolean(b) => Value::Boolean(b),
-        Value::Int32(n) => Value::Boolean(n != 0),
-        Value::Int64(n) => Value::Boolean(n != 0),
-        Value::Float64(_) => Value::Failed,
-        Value::Nan(_) => Value::Failed,
-        Value::RuleText(_, _) => Value::Failed,
-        Value::TableText(_, _) => Value::Failed,
-        Value::Failed => Value::Failed,
-    }
-}
+ghost use Rattle.scalar.specs.Casts.{Narrowed, wholeBits, keptAs};
 
 // Int64 to Int32: a value outside of Int32's range fails.
 pub fn narrowed(n: u64) -> Value
@@ -38,23 +21,6 @@ pub fn narrowed(n: u64) -> Value
     Value::Int32((n - 0xffff_ffff_0000_0000) as u32)
 }
 
-// Boolean to integer is 1 or 0.
-pub fn to_int32(v: Value) -> Value
-    ensures { λ r. ⌜ Gives toInt32 v r ⌝ }
-{
-    match v {
-        Value::Null => Value::Null,
-        Value::Boolean(b) => if b { Value::Int32(1) } else { Value::Int32(0) },
-        Value::Int32(n) => Value::Int32(n),
-        Value::Int64(n) => narrowed(n),
-        Value::Float64(_) => Value::Failed,
-        Value::Nan(_) => Value::Failed,
-        Value::RuleText(_, _) => Value::Failed,
-        Value::TableText(_, _) => Value::Failed,
-        Value::Failed => Value::Failed,
-    }
-}
-
 // The bits of an Int32 as an Int64.
 pub fn widened(n: u32) -> u64
     ensures { λ r. ⌜ r ≡ bitsOf 63 (signed 31 n) ⌝ }
@@ -63,22 +29,6 @@ pub fn widened(n: u32) -> u64
         n as u64
     } else {
         (n as u64) + 0xffff_ffff_0000_0000
-    }
-}
-
-pub fn to_int64(v: Value) -> Value
-    ensures { λ r. ⌜ Gives toInt64 v r ⌝ }
-{
-    match v {
-        Value::Null => Value::Null,
-        Value::Boolean(b) => if b { Value::Int64(1) } else { Value::Int64(0) },
-        Value::Int32(n) => Value::Int64(widened(n)),
-        Value::Int64(n) => Value::Int64(n),
-        Value::Float64(_) => Value::Failed,
-        Value::Nan(_) => Value::Failed,
-        Value::RuleText(_, _) => Value::Failed,
-        Value::TableText(_, _) => Value::Failed,
-        Value::Failed => Value::Failed,
     }
 }
 
@@ -94,35 +44,59 @@ pub fn floated(n: u32) -> f64
     }
 }
 
-pub fn to_float64(v: Value) -> Value
-    ensures { λ r. ⌜ Gives toFloat64 v r ⌝ }
+// An Int32 as the type; to Boolean it is "not zero".
+fn from_int32(to: DataType, n: u32) -> Value
+    ensures { λ r. ⌜ Gives (castEntry to) (Value.Int32 n) r ⌝ }
 {
-    match v {
-        Value::Null => Value::Null,
-        Value::Boolean(_) => Value::Failed,
-        Value::Int32(n) => Value::Float64(floated(n)),
-        Value::Int64(_) => Value::Failed,
-        Value::Float64(f) => Value::Float64(f),
-        Value::Nan(n) => Value::Nan(n),
-        Value::RuleText(_, _) => Value::Failed,
-        Value::TableText(_, _) => Value::Failed,
-        Value::Failed => Value::Failed,
+    match to {
+        DataType::Boolean => Value::Boolean(n != 0),
+        DataType::Int32 => Value::Int32(n),
+        DataType::Int64 => Value::Int64(widened(n)),
+        DataType::Float64 => Value::Float64(floated(n)),
+        DataType::Utf8 => Value::Failed,
     }
 }
 
-pub fn to_utf8(v: Value) -> Value
-    ensures { λ r. ⌜ Gives toUtf8 v r ⌝ }
+// An Int64 as the type; to Boolean it is "not zero".
+fn from_int64(to: DataType, n: u64) -> Value
+    ensures { λ r. ⌜ Gives (castEntry to) (Value.Int64 n) r ⌝ }
+{
+    match to {
+        DataType::Boolean => Value::Boolean(n != 0),
+        DataType::Int32 => narrowed(n),
+        DataType::Int64 => Value::Int64(n),
+        _ => Value::Failed,
+    }
+}
+
+// A Boolean as 1 or 0, an Int64 as it is.
+fn whole(v: Value) -> u64
+    ensures { λ r. ⌜ r ≡ wholeBits v ⌝ }
 {
     match v {
-        Value::Null => Value::Null,
-        Value::Boolean(_) => Value::Failed,
-        Value::Int32(_) => Value::Failed,
-        Value::Int64(_) => Value::Failed,
-        Value::Float64(_) => Value::Failed,
-        Value::Nan(_) => Value::Failed,
-        Value::RuleText(start, size) => Value::RuleText(start, size),
-        Value::TableText(start, size) => Value::TableText(start, size),
-        Value::Failed => Value::Failed,
+        Value::Boolean(b) => if b { 1 } else { 0 },
+        Value::Int64(n) => n,
+        _ => 0,
+    }
+}
+
+// A value of Float64, where that is the type.
+fn kept_float(to: DataType, v: Value) -> Value
+    ensures { λ r. ⌜ r ≡ keptAs DataType.Float64 to v ⌝ }
+{
+    match to {
+        DataType::Float64 => v,
+        _ => Value::Failed,
+    }
+}
+
+// A text, where that is the type.
+fn kept_text(to: DataType, v: Value) -> Value
+    ensures { λ r. ⌜ r ≡ keptAs DataType.Utf8 to v ⌝ }
+{
+    match to {
+        DataType::Utf8 => v,
+        _ => Value::Failed,
     }
 }
 
@@ -130,11 +104,11 @@ pub fn to_utf8(v: Value) -> Value
 pub fn cast(to: DataType, v: Value) -> Value
     ensures { λ r. ⌜ Gives (castEntry to) v r ⌝ }
 {
-    match to {
-        DataType::Boolean => to_boolean(v),
-        DataType::Int32 => to_int32(v),
-        DataType::Int64 => to_int64(v),
-        DataType::Float64 => to_float64(v),
-        DataType::Utf8 => to_utf8(v),
+    match v {
+        Value::Int32(n) => from_int32(to, n),
+        Value::Boolean(_) | Value::Int64(_) => from_int64(to, whole(v)),
+        Value::Float64(_) | Value::Nan(_) => kept_float(to, v),
+        Value::RuleText(_, _) | Value::TableText(_, _) => kept_text(to, v),
+        _ => v,
     }
 }
