@@ -31,7 +31,7 @@ use Rattle.case.specs.LookUpTables.{found, valueAt, keyIndex, Keys, Each
 
 -- of a number
 abbrev pub numberHint : ℕ → ℕ
-numberHint x = (x % 256 + x / 2 ^ 32 % 256 + x / 2 ^ 48 % 256) % 256
+numberHint x = (x % 256 + x / 2 ^ 48 % 256) % 256
 
 -- of a text, by its size and its last byte
 abbrev pub textHint : List ℕ → ℕ

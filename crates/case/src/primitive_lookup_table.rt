@@ -65,7 +65,7 @@ fn number_key(key: Key) -> NumberKey
 fn number_hint(x: u64) -> usize
     ensures { λ r. ⌜ r ≡ numberHint x ⌝ }
 {
-    ((x % 256 + x / 0x1_0000_0000 % 256 + x / 0x1_0000_0000_0000 % 256) % 256) as usize
+    ((x % 256 + x / 0x1_0000_0000_0000 % 256) % 256) as usize
 }
 
 // The numbers of the keys, and at each number's hint one more than the place of a key, where every key is of the kind.
