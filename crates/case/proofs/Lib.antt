@@ -14,6 +14,7 @@ pub mod TakingLaws
 pub mod FrameLaws
 pub mod ExprLaws
 pub mod CaseLaws
+pub mod CaseValueLaws
 pub mod BranchLaws
 pub mod ChooseLaws
 pub mod WroteLaws

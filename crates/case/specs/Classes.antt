@@ -49,16 +49,16 @@ pub record CaseValues (rule : List ℕ) (start end : ℕ) (table : List ℕ) (t 
   pub each : (place ≡ 0 → ⊥) → (q : ℕ) → Listed w 0 n q → CaseIndex rule start end table t place q (getD values q 0)
 
 -- the index of each listed row by steps at a place; place 0 is none
-pub record CaseSteps (rule : List ℕ) (start at : ℕ) (table : List ℕ) (t : Table) (w : List ℕ) (n : ℕ) (values : List ℕ) (place : ℕ) : Type 0 where
+pub record CaseSteps (rule : List ℕ) (at count : ℕ) (table : List ℕ) (t : Table) (w : List ℕ) (n : ℕ) (values : List ℕ) (place : ℕ) : Type 0 where
   pub long : length values ≡ 512
   pub at-is : (place ≡ 0 → ⊥) → place ≡ at
-  pub steps : (place ≡ 0 → ⊥) → StepsGive rule at table t (byte rule (start + 4)) w n true values
+  pub steps : (place ≡ 0 → ⊥) → StepsGive rule at table t count w n true values
 
 -- the index of each listed row by the keys behind a base at a place; place 0 is none
-pub record CaseKeys (rule : List ℕ) (start end at : ℕ) (table : List ℕ) (t : Table) (w : List ℕ) (n : ℕ) (values : List ℕ) (place : ℕ) : Type 0 where
+pub record CaseKeys (rule : List ℕ) (at end count : ℕ) (table : List ℕ) (t : Table) (w : List ℕ) (n : ℕ) (values : List ℕ) (place : ℕ) : Type 0 where
   pub long : length values ≡ 512
   pub ends : (place ≡ 0 → ⊥) → EndGives rule at place
-  pub keys : (place ≡ 0 → ⊥) → KeyedGive rule at end table t (byte rule (start + 4)) w n true values
+  pub keys : (place ≡ 0 → ⊥) → KeyedGive rule at end table t count w n true values
 
 -- ---- the literals of the classes
 

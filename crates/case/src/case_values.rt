@@ -21,8 +21,8 @@ pub(crate) const CASE: u8 = 25;
 // The index of each listed row by steps, and where the branches stand; 0 where they are no steps.
 fn case_steps(
     rule: &[u8],
-    start: usize,
     at: usize,
+    count: u8,
     table: &[u8],
     t: Table,
     work: &[u8],
@@ -31,18 +31,9 @@ fn case_steps(
 ) -> usize
     requires { ⌜ Framed (now table) t (now work) n 1 ⌝ }
     requires { ⌜ length (now values) ≡ 512 ⌝ }
-    ensures { λ r. ⌜ CaseSteps (now (rule .entry)) start at (now (table .entry)) t (now (work .entry)) n (now (values .exit)) r ⌝ }
+    ensures { λ r. ⌜ CaseSteps (now (rule .entry)) at count (now (table .entry)) t (now (work .entry)) n (now (values .exit)) r ⌝ }
 {
-    if step_values(
-        rule,
-        at,
-        byte_at(rule, start + 4),
-        table,
-        t,
-        work,
-        n,
-        values,
-    ) {
+    if step_values(rule, at, count, table, t, work, n, values) {
         return at;
     }
     0
@@ -51,9 +42,9 @@ fn case_steps(
 // The index of each listed row by a table of keys, and where the branches stand; 0 where no table serves a column.
 fn case_keys(
     rule: &[u8],
-    start: usize,
-    end: usize,
     at: usize,
+    end: usize,
+    count: u8,
     table: &[u8],
     t: Table,
     work: &[u8],
@@ -62,19 +53,9 @@ fn case_keys(
 ) -> usize
     requires { ⌜ Framed (now table) t (now work) n 1 ⌝ }
     requires { ⌜ length (now values) ≡ 512 ⌝ }
-    ensures { λ r. ⌜ CaseKeys (now (rule .entry)) start end at (now (table .entry)) t (now (work .entry)) n (now (values .exit)) r ⌝ }
+    ensures { λ r. ⌜ CaseKeys (now (rule .entry)) at end count (now (table .entry)) t (now (work .entry)) n (now (values .exit)) r ⌝ }
 {
-    if lookup_values(
-        rule,
-        at,
-        end,
-        byte_at(rule, start + 4),
-        table,
-        t,
-        work,
-        n,
-        values,
-    ) {
+    if lookup_values(rule, at, end, count, table, t, work, n, values) {
         return field_end(rule, at);
     }
     0
@@ -98,15 +79,19 @@ pub(crate) fn case_values(
     if byte_at(rule, start) != CASE {
         return 0;
     }
+    if rule.len() <= start {
+        return 0;
+    }
     let at = children_at(rule, start);
+    let count = byte_at(rule, start + 4);
     match strategy_at(rule, start, end) {
-        Strategy::NoExpression => case_steps(rule, start, at, table, t, work, n, values),
+        Strategy::NoExpression => case_steps(rule, at, count, table, t, work, n, values),
         Strategy::WithExpression => 0,
         Strategy::InfallibleExprOrNull => 0,
-        Strategy::ScalarOrScalar => case_steps(rule, start, at, table, t, work, n, values),
-        Strategy::ExpressionOrExpression => case_steps(rule, start, at, table, t, work, n, values),
+        Strategy::ScalarOrScalar => case_steps(rule, at, count, table, t, work, n, values),
+        Strategy::ExpressionOrExpression => case_steps(rule, at, count, table, t, work, n, values),
         Strategy::WithExprScalarLookupTable => {
-            case_keys(rule, start, end, at, table, t, work, n, values)
+            case_keys(rule, at, end, count, table, t, work, n, values)
         },
     }
 }
@@ -115,6 +100,9 @@ pub(crate) fn case_values(
 pub(crate) fn branches_at(rule: &[u8], start: usize, at: usize) -> usize
     ensures { λ r. ⌜ (byte (now (rule .entry)) (start + 3) % 2 ≡ 1 → EndGives (now (rule .entry)) at r) × ((byte (now (rule .entry)) (start + 3) % 2 ≡ 1 → ⊥) → r ≡ at) ⌝ }
 {
+    if rule.len() <= start {
+        return at;
+    }
     if byte_at(rule, start + 3) % 2 == 1 {
         return field_end(rule, at);
     }
