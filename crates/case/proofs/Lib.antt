@@ -40,6 +40,7 @@ pub mod LookUpCase
 pub mod ResultLaws
 pub mod StepLaws
 pub mod SpanLaws
+pub mod NestedLaws
 pub mod RootLaws
 pub mod EvaluateLaws
 pub mod AnswerLaws

@@ -121,6 +121,9 @@ fn nested_case(
     requires { ⌜ (length (now classes) ≡ 512) × Arrays (now kinds) (now payloads) × (0 < code) ⌝ }
     ensures { λ r. ⌜ CaseClassed (Listed (now (work .entry)) 0 n) (now (rule .entry)) start end (now (table .entry)) t code from (now (classes .entry)) (now (kinds .entry)) (now (payloads .entry)) r (now (classes .exit)) (now (kinds .exit)) (now (payloads .exit)) ⌝ }
 {
+    if rule.len() <= start {
+        return 0;
+    }
     let count = byte_at(rule, start + 4) as usize;
     if CLASSES_MOST < from {
         return 0;
@@ -264,6 +267,9 @@ fn literal_results(rule: &[u8], at: usize, end: usize, count: usize) -> bool {
 // Whether a THEN is a CASE of literals, by its tags.
 fn is_literal_case(rule: &[u8], start: usize, end: usize) -> bool {
     if byte_at(rule, start) != CASE {
+        return false;
+    }
+    if rule.len() <= start {
         return false;
     }
     let place = branches_at(rule, start, children_at(rule, start));
