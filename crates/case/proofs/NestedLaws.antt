@@ -354,11 +354,12 @@ module _ {rule : List ℕ} {at : ℕ} {table : List ℕ} {t : Table} {code count
           (result-kept (getD classes q 0) (ask .few) a b (ap (λ (c : ℕ). getD kinds c 0) last ∙ ask .else-kind) (s .grown .kinds-same (getD classes q 0) (omega arith))
           (s .grown .payloads-same (getD classes q 0) (omega arith)))
 
-  -- none were found
+  -- the THEN of the class k is done
   module _ {then next used′ : ℕ} {w₂ classes₂ kinds₂ payloads₂ : List ℕ} (d : ThenClassed rule then next table t code w₁ n k used classes₁ kinds₁ payloads₁ used′ w₂ classes₂ kinds₂ payloads₂) where
     pub then-longs : (length classes₂ ≡ 512) × Arrays kinds₂ payloads₂
     then-longs = then-long d (s .classes-long) (s .grown .arrays)
 
+    -- where no classes were found
     pub classed-not : ThensClassed rule at table t code count w n classes kinds payloads false w₂ classes₂ kinds₂ payloads₂
     classed-not = record {
       long = d .long ∙ s .long;

@@ -16,7 +16,7 @@ ghost use Prim.Native.Nat.{ℕ, _+_, _*_, _<_, _≤_};
 ghost use lib.ListN.{length, getD};
 ghost use Rattle.case.specs.Frame.{Rows, Listed};
 ghost use Rattle.case.specs.Evaluation.{Framed};
-ghost use Rattle.case.specs.Classes.{allOfKind, Arrays, BlockCopied, BlockRead, Grown, Numbered, wantedRows, CaseClassed, ThenClassed, ThensAsk, ThensClassed};
+ghost use Rattle.case.specs.Classes.{allOfKind, Arrays, BlockCopied, BlockRead, Grown, Numbered, CaseClassed, ThenClassed, ThensAsk, ThensClassed};
 
 // A literal's tag.
 const LITERAL: u8 = 17;

@@ -3,7 +3,7 @@ use mathlib.Core.Path.{sym, _∙_}
 use native.Mathlib.Omega.{arith}
 use denote.Ref.{now}
 use Rattle.case.proofs.FrameLaws.{rows-small}
-use Rattle.case.proofs.TakeLaws.{picked-asks, picked-room}
+use Rattle.case.proofs.TakeLaws.{picked-asks}
 use Rattle.case.proofs.NestedLaws.{then-same, then-case}
 use Rattle.case.proofs.nested.nested_then.Statement.{statement}
 use Rattle.case.proofs.nested.nested_then.Tie as tie
