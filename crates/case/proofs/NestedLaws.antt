@@ -68,6 +68,10 @@ kind-at kinds k from (suc n) all j h = go (eqb (getD kinds (from + suc n) 0) k) 
 
 -- ---- the literals of a block
 
+-- arrays that nothing was put into
+pub grown-none : {from : ℕ} {kinds payloads : List ℕ} → Arrays kinds payloads → Grown from kinds payloads kinds payloads
+grown-none a = record { arrays = a; kinds-same = λ c h. refl; payloads-same = λ c h. refl }
+
 -- where the loop stands: those below k are copied
 pub record CopiedSoFar (from count : ℕ) (block-kinds block-payloads kinds payloads kinds′ payloads′ : List ℕ) (k : ℕ) : Type 0 where
   pub first : 1 ≤ k
@@ -80,7 +84,7 @@ copied-none a = record {
   first = omega arith;
   few = omega arith;
   copied = record {
-    grown = record { arrays = a; kinds-same = λ c h. refl; payloads-same = λ c h. refl };
+    grown = grown-none a;
     kinds-are = λ k l h. absurd (omega arith);
     payloads-are = λ k l h. absurd (omega arith);
   };
@@ -178,10 +182,6 @@ module _ {w : List ℕ} {n : ℕ} {values : List ℕ} {from : ℕ} {classes clas
             earlier k = d (sym (l .2) ∙ ap (rowAt w 0) k ∙ sym e)
 
 -- ---- the rows of a CASE
-
--- arrays that nothing was put into
-pub grown-none : {from : ℕ} {kinds payloads : List ℕ} → Arrays kinds payloads → Grown from kinds payloads kinds payloads
-grown-none a = record { arrays = a; kinds-same = λ c h. refl; payloads-same = λ c h. refl }
 
 -- no classes were found
 pub case-none : {wanted : ℕ → Type 0} {rule : List ℕ} {start end : ℕ} {table : List ℕ} {t : Table} {code from : ℕ} {classes kinds payloads kinds′ payloads′ : List ℕ} → length classes ≡ 512
