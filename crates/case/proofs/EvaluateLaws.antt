@@ -2,7 +2,7 @@
 use mathlib.Core.Path.{_≡_, refl, sym, ap, ap₂, _∙_}
 use mathlib.Core.Bool.{Bool, true, false, cond, not}
 use mathlib.Core.List.{List, _∷_, map}
-use Prim.Native.Nat.{ℕ, zero, suc, _+_, _<_, _≤_}
+use Prim.Native.Nat.{ℕ, zero, suc, _+_, _*_, _<_, _≤_}
 use native.Mathlib.Omega.{arith}
 use lib.Dec.{leb}
 use lib.ListN.{length, replicate}
@@ -42,6 +42,7 @@ use Rattle.case.specs.Classes.{RootAsks, ClassesGive}
 use Rattle.case.proofs.RunLaws.{run-is, run-rows, entries-refused}
 use Rattle.case.proofs.RowsTyped.{run-sound}
 use Rattle.case.proofs.RowsLaws.{all-rise, all-listed}
+use Rattle.case.proofs.FrameLaws.{Kept, kept-rows, listed-to, framed-kept}
 
 -- ---- a refusal before anything is written
 
@@ -92,30 +93,44 @@ module _ {rule table : List ℕ} {t : Places} {result : DataType} {w w₁ : List
   pub root-asks : RootAsks t w₁ table
   root-asks = record { few = asks .few; room = (let l = all .long in let r = asks .room in omega arith); short = asks .table-short; rows-are = all .rows-are }
 
-  pub rows-framed : Framed table t w₁ (t .rows) 8
-  rows-framed = record { list-ok = all-rise all (asks .few); small = asks .few; room = (let l = all .long in let r = asks .room in omega arith); short = (let s = asks .table-short in omega arith) }
+  module _ {found : Bool} {w₂ classes kinds payloads : List ℕ} (c : ClassesGive rule table t result w₁ found w₂ classes kinds payloads) where
+    -- the rows by their classes
+    pub by-classes : {n : Bool} {output output′ : List ℕ} {r : RunAnswer} → found ≡ true
+        → ((rule table : List ℕ) → WriteGives rule table (classValue classes kinds payloads) (t .rows) result n output r output′) → AnswerGives rule table t result n w output r w₂ output′
+    by-classes is wrote = record { long = c .long ∙ all .long; value = classValue classes kinds payloads; right = c .right is; wrote = wrote rule table }
 
-  -- the rows by their classes
-  pub by-classes : {n found : Bool} {classes kinds payloads output output′ : List ℕ} {r : RunAnswer} → ClassesGive rule table t result found classes kinds payloads → found ≡ true
-      → ((rule table : List ℕ) → WriteGives rule table (classValue classes kinds payloads) (t .rows) result n output r output′) → AnswerGives rule table t result n w output r w₁ output′
-  by-classes {classes = classes} {kinds} {payloads} c is wrote = record { long = all .long; value = classValue classes kinds payloads; right = c .right is; wrote = wrote rule table }
+    -- the list is still there
+    kept-list : Kept 1024 w₁ w₂
+    kept-list j h = c .low j (omega arith)
 
-  -- the rows by their slots
-  module _ {w₂ : List ℕ} (d : Done (ExprRight rule 0 (length rule) table t 8) w₁ (t .rows) w₂) where
-    slots-right : RowsRight rule table t (slotAt w₂)
-    slots-right = record { right = λ e node i h. d .here i (all-listed all i h) .is e node }
+    pub rows-framed : Framed table t w₂ (t .rows) 8
+    rows-framed = framed-kept {depth = 8} (record {
+      list-ok = all-rise all (asks .few);
+      small = asks .few;
+      room = (let l = all .long in let r = asks .room in omega arith);
+      short = (let s = asks .table-short in omega arith);
+    }) 8 (omega arith) w₂ (c .long) kept-list
 
-    pub write-asks : WriteAsks rule table w₂ (t .rows) result
-    write-asks = record {
-      few = asks .few;
-      room = (let k = d .long in let l = all .long in let r = asks .room in omega arith);
-      rule-short = asks .rule-short;
-      table-short = asks .table-short;
-      each = asks .typed (slotAt w₂) slots-right;
-    }
+    -- the rows by their slots
+    module _ {w₃ : List ℕ} (d : Done (ExprRight rule 0 (length rule) table t 8) w₂ (t .rows) w₃) where
+      slots-right : RowsRight rule table t (slotAt w₃)
+      slots-right = record {
+        right = λ e node i h.
+            let fits : 0 + 2 * t .rows ≤ 1024 = (let f = asks .few in omega arith) in
+            d .here i (listed-to w₁ w₂ 0 0 (t .rows) (kept-rows 1024 w₁ w₂ 0 (t .rows) fits kept-list) i (all-listed all i h)) .is e node;
+      }
 
-    pub by-slots : {n : Bool} {output output′ : List ℕ} {r : RunAnswer} → WriteGives rule table (slotAt w₂) (t .rows) result n output r output′ → AnswerGives rule table t result n w output r w₂ output′
-    by-slots wrote = record { long = d .long ∙ all .long; value = slotAt w₂; right = slots-right; wrote = wrote }
+      pub write-asks : WriteAsks rule table w₃ (t .rows) result
+      write-asks = record {
+        few = asks .few;
+        room = (let k = d .long in let m = c .long in let l = all .long in let r = asks .room in omega arith);
+        rule-short = asks .rule-short;
+        table-short = asks .table-short;
+        each = asks .typed (slotAt w₃) slots-right;
+      }
+
+      pub by-slots : {n : Bool} {output output′ : List ℕ} {r : RunAnswer} → WriteGives rule table (slotAt w₃) (t .rows) result n output r output′ → AnswerGives rule table t result n w output r w₃ output′
+      by-slots wrote = record { long = d .long ∙ c .long ∙ all .long; value = slotAt w₃; right = slots-right; wrote = wrote }
 
 -- ---- a rule and a table that were read
 

@@ -15,6 +15,7 @@ pub mod TakingLaws
 pub mod FrameLaws
 pub mod ExprLaws
 pub mod CaseLaws
+pub mod CaseValueLaws
 pub mod BranchLaws
 pub mod ChooseLaws
 pub mod WroteLaws
@@ -40,6 +41,7 @@ pub mod LookUpCase
 pub mod ResultLaws
 pub mod StepLaws
 pub mod SpanLaws
+pub mod NestedLaws
 pub mod RootLaws
 pub mod EvaluateLaws
 pub mod AnswerLaws
