@@ -14,7 +14,7 @@ use Rattle.rule.specs.Typing.{typeOf}
 use Rattle.rule.specs.Row.{isTrueTest, withBase, eval, evalBranches, evalElse}
 use Rattle.rule.specs.Strategy.{strategy, strategyOf}
 use Rattle.rule.specs.Node.{NodeAt}
-use Rattle.rule.specs.Walks.{branchTrees, optionalTrees, TreesAt, EndGives, ChildrenGives, TypeGives}
+use Rattle.rule.specs.Walks.{branchTrees, optionalTrees, TreesAt, EndGives, ChildrenGives}
 use Rattle.rule.specs.AnswerWalks.{StrategyGives}
 use Rattle.rule.proofs.NodeLaws.{Tagged, ofCase, node-byte}
 use Rattle.rule.proofs.WalkLaws.{node-of-tag, first-tree}
