@@ -21,7 +21,7 @@ abbrev pub markFits : ℕ → Option TableColumn → Bool
 markFits m none = false
 markFits m (some d) = eqb (m % 8) (typeNumber (d .type)) && (leb 8 m || not (d .nullable))
 
--- the greatest of the marks from 16 on and below n; a table has at most 16 columns (01, Bytes of a table)
+-- the greatest of the marks from 16 on and below n; a table has at most 16 columns (01, Where a call stops: 10)
 pub record Beyond (marks : List ℕ) (n most : ℕ) : Type 0 where
   pub above : (i : ℕ) → 16 ≤ i → i < n → getD marks i 0 ≤ most
   pub one : (most ≡ 0 → ⊥) → (i : ℕ) × (16 ≤ i) × (getD marks i 0 ≡ most)
