@@ -307,7 +307,7 @@ module _ {rule : List ℕ} {start at then end : ℕ} {table : List ℕ} {t : Tab
           let (test, rest) = first-tree ends (children-below children node′) in
           let count-is = counted ∙ node-byte 1 (start + 4) node′ (omega arith) (omega arith) in
           let type-is = types end (caseWhen (present x) bs els) (depth + 1) node′ in
-          g bs els depth (rowIn table t r) rest (sym count-is) s (sym type-is)
+          g bs els depth (rowIn table t r) rest (sym count-is) (omega (arith, count-is, case-counted node′ .1)) s (sym type-is)
           ∙ ap₂ (λ (o : Outcome) (f : DataType). withBase o (λ test. evalBranches bs (rowIn table t r) test (evalElse els (rowIn table t r) f)) (evalElse els (rowIn table t r) f)) (base .is x test) type-is
           ∙ ap (λ (e : Expr). eval e (rowIn table t r)) (sym same)
 

@@ -130,11 +130,11 @@ key-number Keys.Text {x} e p h = let z : x .kind ≡ 0 = ap (λ (y : NumberKey).
 -- where the loop stands: the numbers of k keys are read
 pub record NumbersSoFar (kinds keys : List ℕ) (size kind k : ℕ) (numbers hints : List ℕ) : Type 0 where
   pub few : k ≤ size
-  pub numbers-long : length numbers ≡ 256
+  pub numbers-long : length numbers ≡ 32
   pub each : (j : ℕ) → j < k → NumberOf (valueAt kinds keys j) kind (getD numbers j 0)
   pub hinted : Hinted (λ j. numberHint (getD numbers j 0)) k hints
 
-pub numbers-none : {kinds keys : List ℕ} {size kind : ℕ} {numbers hints : List ℕ} → length numbers ≡ 256 → length hints ≡ 256 → ((h : ℕ) → getD hints h 0 ≡ 0) → NumbersSoFar kinds keys size kind 0 numbers hints
+pub numbers-none : {kinds keys : List ℕ} {size kind : ℕ} {numbers hints : List ℕ} → length numbers ≡ 32 → length hints ≡ 256 → ((h : ℕ) → getD hints h 0 ≡ 0) → NumbersSoFar kinds keys size kind 0 numbers hints
 numbers-none {numbers = numbers} a b zeros = record {
   few = omega arith;
   numbers-long = a;
@@ -144,7 +144,7 @@ numbers-none {numbers = numbers} a b zeros = record {
 
 module _ {kinds keys : List ℕ} {size kind k : ℕ} {numbers hints : List ℕ} (s : NumbersSoFar kinds keys size kind k numbers hints) where
   -- one more
-  pub numbers-more : {v : Value} {key : Key} {x : NumberKey} {h : ℕ} → k < size → size ≤ 255 → 0 < kind → getD keys k 0 < 2 ^ 64 → v ≡ valueAt kinds keys k → key ≡ keyOf v → x ≡ numberKey key → x .kind ≡ kind
+  pub numbers-more : {v : Value} {key : Key} {x : NumberKey} {h : ℕ} → k < size → size ≤ 32 → 0 < kind → getD keys k 0 < 2 ^ 64 → v ≡ valueAt kinds keys k → key ≡ keyOf v → x ≡ numberKey key → x .kind ≡ kind
       → h ≡ numberHint (x .number) → NumbersSoFar kinds keys size kind (k + 1) (set numbers k (x .number)) (set hints h (k + 1))
   numbers-more {v} {key} {x} {h} more room some fits value-is key-is x-is kind-is hint-is = record {
     few = omega arith;

@@ -331,10 +331,10 @@ module _ (rule table : List ℕ) {kinds keys indices : List ℕ} {size otherwise
       go false = both .of-false
 
   -- an index lies in the arrays of the literals
-  pub index-below : {r : ℕ} (v : Value) → r ≡ baseIndex (keyIndex rule table kinds keys indices size otherwise) otherwise (meaning rule table v) → otherwise < 511 → r < 512
+  pub index-below : {r : ℕ} (v : Value) → r ≡ baseIndex (keyIndex rule table kinds keys indices size otherwise) otherwise (meaning rule table v) → otherwise < 65 → r < 66
   index-below {r} v p h = go (meaning rule table v) p
     where
-      go : (o : Outcome) → r ≡ baseIndex (keyIndex rule table kinds keys indices size otherwise) otherwise o → r < 512
+      go : (o : Outcome) → r ≡ baseIndex (keyIndex rule table kinds keys indices size otherwise) otherwise o → r < 66
       go (entry e) q = omega (arith, found-below (λ k. sameKey (entry e) (meaning rule table (valueAt kinds keys k))) (λ k. getD indices k 0) otherwise size 0 (λ i l. t .below i (omega arith)))
       go unfit q = omega arith
 
@@ -393,7 +393,7 @@ module _ (rule table : List ℕ) {v : Value} {index otherwise : ℕ} {kinds keys
       go o m i q false s = refl
 
   -- any other is added
-  pub key-added : {kind payload nulled known : ℕ} → size < 255 → index < otherwise → Storable v → nulled ≡ kindOf v → (nulled ≡ 0 → ⊥)
+  pub key-added : {kind payload nulled known : ℕ} → size < 32 → index < otherwise → Storable v → nulled ≡ kindOf v → (nulled ≡ 0 → ⊥)
       → known ≡ baseIndex (keyIndex rule table kinds keys indices size otherwise) otherwise (meaning rule table v) → known ≡ otherwise → kind ≡ kindOf v → payload ≡ payloadOf v
       → Added rule table v index otherwise kinds keys indices size (set kinds size kind) (set keys size payload) (set indices size index) (size + 1)
   key-added {kind} {payload} {nulled} {known} room small stores kinded not-null searched unknown a b = record {

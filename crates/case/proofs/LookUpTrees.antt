@@ -88,14 +88,14 @@ pub record Left (rule : List ℕ) (end place i depth : ℕ) (es : List Expr) (ki
 -- where the loop stands: i literals are read
 pub record LiteralsSoFar (rule : List ℕ) (at end most place i : ℕ) (kinds payloads : List ℕ) : Type 0 where
   pub few : i ≤ most
-  pub small : most < 512
-  pub kinds-long : length kinds ≡ 512
-  pub payloads-long : length payloads ≡ 512
+  pub small : most < 66
+  pub kinds-long : length kinds ≡ 66
+  pub payloads-long : length payloads ≡ 66
   pub failed : getD kinds most 0 ≡ 7
   pub unread : (j : ℕ) → i ≤ j → j < most → getD kinds j 0 ≡ 0
   pub held : (es : List Expr) (depth : ℕ) → TreesAt rule at end es depth → treesLiteral es ≡ true → Left rule end place i depth es kinds payloads
 
-pub literals-none : {rule : List ℕ} {at end most : ℕ} (kinds : List ℕ) {payloads : List ℕ} → length kinds ≡ 512 → length payloads ≡ 512 → most < 512 → ((i : ℕ) → getD kinds i 0 ≡ 0)
+pub literals-none : {rule : List ℕ} {at end most : ℕ} (kinds : List ℕ) {payloads : List ℕ} → length kinds ≡ 66 → length payloads ≡ 66 → most < 66 → ((i : ℕ) → getD kinds i 0 ≡ 0)
     → LiteralsSoFar rule at end most at 0 (set kinds most 7) payloads
 literals-none {most = most} kinds {payloads} a b small zeros = record {
   few = omega arith;
@@ -436,7 +436,7 @@ module _ {rule : List ℕ} (table : List ℕ) {kinds payloads : List ℕ} {at en
   -- by the table
   pub looked-up : {ks ps is : List ℕ} {size : ℕ} (w : List ℕ) (to : DataType) → TableOf rule table kinds payloads count (2 * count) ks ps is size → (r : ℕ) (v : Value)
       → MappedBy rule table kinds payloads (keyIndex rule table ks ps is size (2 * count)) (2 * count) w r v → LookedUp rule at end count to table w r v
-  looked-up {ks} {ps} {is} {size} w to t r v mapped bs els depth row trees counted serves result =
+  looked-up {ks} {ps} {is} {size} w to t r v mapped bs els depth row trees counted few serves result =
       let (all, else-serves) = serves-told bs (dropNull els) serves in
       ap (meaning rule table) mapped
       ∙ ap (λ (x : ℕ). meaning rule table (valueAt kinds payloads x)) (by-table (meaning rule table (slotAt w r)))
@@ -464,12 +464,12 @@ module _ {rule : List ℕ} (table : List ℕ) {kinds payloads : List ℕ} {at en
     pub based-by : {w : List ℕ} {n : ℕ} {served : Bool} {values : List ℕ} → ColumnKeyed table place ks ps is size (2 * count) w n rule served values → BaseGives rule at end table place count w n served values
     based-by {values = values} g = record { long = g .long; each = λ s q l. keyed-base q (getD values q 0) (g .each s q l) }
 
--- what is right for each row
-pub filled-right : {right right′ : ℕ → Value → Type 0} {w : List ℕ} {n : ℕ} {w′ : List ℕ} → ((r : ℕ) (v : Value) → right r v → right′ r v) → Filled right w n w′ → Filled right′ w n w′
-filled-right {w′ = w′} f s = record { long = s .long; here = λ r l. f r (slotAt w′ r) (s .here r l); others = s .others; low = s .low; high = s .high }
-
 -- arrays that are new
 pub zeros : (n i : ℕ) → _≡_ {A = ℕ} (getD (replicate n 0) i 0) 0
 zeros zero i = refl
 zeros (suc n) zero = refl
 zeros (suc n) (suc i) = zeros n i
+
+-- nothing is done where more branches stand than a table serves
+pub not-served : {rule : List ℕ} {at end count : ℕ} {to : DataType} {table w : List ℕ} {n : ℕ} → 32 < count → Filled (LookedUp rule at end count to table w) w n w
+not-served h = record { long = refl; here = λ r l bs els depth row trees counted few serves result. absurd (omega arith); others = λ r l no. refl; low = λ j l. refl; high = λ j l. refl }

@@ -64,7 +64,7 @@ no-mark e h p = absurd (omega (arith, ap length e))
 pub mark-of : {t text : List ℕ} {r : ℕ} → text ≡ t → r ≡ textMark text → 4 ≤ length t → r ≡ textMark t
 mark-of e is p = is ∙ ap (λ (l : List ℕ). textMark l) e
 
-pub marks-none : {rule kinds keys sizes marks : List ℕ} → length sizes ≡ 256 → length marks ≡ 256 → ((k : ℕ) → getD sizes k 0 ≡ 0) → Marked rule kinds keys sizes marks
+pub marks-none : {rule kinds keys sizes marks : List ℕ} → length sizes ≡ 32 → length marks ≡ 32 → ((k : ℕ) → getD sizes k 0 ≡ 0) → Marked rule kinds keys sizes marks
 marks-none a b zeros = record {
   sizes-long = a;
   marks-long = b;
@@ -73,7 +73,7 @@ marks-none a b zeros = record {
 }
 
 -- a key more
-pub marks-more : {rule kinds keys sizes marks : List ℕ} {k s m : ℕ} → Marked rule kinds keys sizes marks → k < 256 → KeySize rule (getD kinds k 0) (getD keys k 0) s
+pub marks-more : {rule kinds keys sizes marks : List ℕ} {k s m : ℕ} → Marked rule kinds keys sizes marks → k < 32 → KeySize rule (getD kinds k 0) (getD keys k 0) s
     → (4 ≤ length (ruleText rule (getD keys k 0)) → m ≡ textMark (ruleText rule (getD keys k 0))) → Marked rule kinds keys (set sizes k s) (set marks k m)
 marks-more {rule} {kinds} {keys} {sizes} {marks} {k} {s} {m} x h size mark = record {
   sizes-long = length-set sizes k s ∙ x .sizes-long;

@@ -21,7 +21,7 @@ use Rattle.case.specs.Evaluation.{rowIn, indexed}
 abbrev pub LookedUp : List ℕ → ℕ → ℕ → ℕ → DataType → List ℕ → List ℕ → ℕ → Value → Type 0
 LookedUp rule at end count to table w r v =
     (bs : Branches) (els : Optional) (depth : ℕ) (row : Row) → TreesAt rule at end (branchTrees bs ++ optionalTrees els) depth → branchCount bs ≡ count
-    → tableServes bs (dropNull els) ≡ true → resultType bs ≡ to
+    → count ≤ 32 → tableServes bs (dropNull els) ≡ true → resultType bs ≡ to
     → meaning rule table v ≡ withBase (meaning rule table (slotAt w r)) (λ test. evalBranches bs row test (evalElse els row to)) (evalElse els row to)
 
 -- the index that whatever base, branches and ELSE stand at a place give a row, where a table serves them: from 1, ELSE's behind them

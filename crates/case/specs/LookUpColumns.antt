@@ -73,7 +73,7 @@ pub record NumberOf (v : Value) (kind x : ℕ) : Type 0 where
 
 -- the numbers of the keys and their hints, where every key is of the kind
 pub record NumbersRead (kinds keys : List ℕ) (size kind : ℕ) (read : Bool) (numbers hints : List ℕ) : Type 0 where
-  pub numbers-long : length numbers ≡ 256
+  pub numbers-long : length numbers ≡ 32
   pub hints-long : length hints ≡ 256
   pub each : read ≡ true → (k : ℕ) → k < size → NumberOf (valueAt kinds keys k) kind (getD numbers k 0)
   pub hinted : read ≡ true → Hinted (λ k. numberHint (getD numbers k 0)) size hints
@@ -84,9 +84,9 @@ numberFound numbers indices size otherwise x = found (λ k. eqb x (getD numbers 
 
 -- the arrays of a table of numbers, each once
 pub record NumberTable (numbers indices hints : List ℕ) (size otherwise : ℕ) : Type 0 where
-  pub numbers-long : length numbers ≡ 256
-  pub indices-long : length indices ≡ 256
-  pub few : size ≤ 255
+  pub numbers-long : length numbers ≡ 32
+  pub indices-long : length indices ≡ 32
+  pub few : size ≤ 32
   pub small : otherwise ≤ 64
   pub below : (k : ℕ) → k < size → getD indices k 0 < otherwise
   pub hinted : Hinted (λ k. numberHint (getD numbers k 0)) size hints
@@ -122,8 +122,8 @@ pub record KeySize (rule : List ℕ) (kind p size : ℕ) : Type 0 where
 
 -- the sizes of the keys, and the marks of those that have one
 pub record Marked (rule kinds keys sizes marks : List ℕ) : Type 0 where
-  pub sizes-long : length sizes ≡ 256
-  pub marks-long : length marks ≡ 256
+  pub sizes-long : length sizes ≡ 32
+  pub marks-long : length marks ≡ 32
   pub each-size : (k : ℕ) → KeySize rule (getD kinds k 0) (getD keys k 0) (getD sizes k 0)
   pub each-mark : (k : ℕ) → (getD sizes k 0 ≡ 0 → ⊥) → getD marks k 0 ≡ textMark (ruleText rule (getD keys k 0))
 

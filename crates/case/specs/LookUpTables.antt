@@ -56,10 +56,10 @@ numberIndex kinds keys indices size otherwise kind payload =
 
 -- the arrays of a table with so many keys: each key's kind and payload are those of its value, and its index is below ELSE's
 pub record Keys (kinds keys indices : List ℕ) (size otherwise : ℕ) : Type 0 where
-  pub kinds-long : length kinds ≡ 256
-  pub keys-long : length keys ≡ 256
-  pub indices-long : length indices ≡ 256
-  pub few : size ≤ 255
+  pub kinds-long : length kinds ≡ 32
+  pub keys-long : length keys ≡ 32
+  pub indices-long : length indices ≡ 32
+  pub few : size ≤ 32
   pub kind-is : (k : ℕ) → k < size → kindOf (valueAt kinds keys k) ≡ getD kinds k 0
   pub payload-is : (k : ℕ) → k < size → payloadOf (valueAt kinds keys k) ≡ getD keys k 0
   pub below : (k : ℕ) → k < size → getD indices k 0 < otherwise
@@ -105,8 +105,8 @@ entryAt (e ∷ es) (suc i) = entryAt es i
 
 -- the arrays hold whatever literals stand at a place, and a failure behind the last of them
 pub record LiteralsRead (rule : List ℕ) (at end most : ℕ) (kinds payloads : List ℕ) : Type 0 where
-  pub kinds-long : length kinds ≡ 512
-  pub payloads-long : length payloads ≡ 512
+  pub kinds-long : length kinds ≡ 66
+  pub payloads-long : length payloads ≡ 66
   pub failed : getD kinds most 0 ≡ 7
   pub held : (es : List Expr) (depth : ℕ) → TreesAt rule at end es depth → treesLiteral es ≡ true → (table : List ℕ) (i : ℕ) → i < most
       → meaning rule table (valueAt kinds payloads i) ≡ entry (entryAt es i)

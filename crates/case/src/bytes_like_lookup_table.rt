@@ -146,7 +146,7 @@ pub(crate) fn read_hints(
     size: usize,
     hints: &mut [u8],
 )
-    requires { ⌜ (length (now kinds) ≡ 256) × (length (now keys) ≡ 256) × (size ≤ 255) ⌝ }
+    requires { ⌜ (length (now kinds) ≡ 32) × (length (now keys) ≡ 32) × (size ≤ 32) ⌝ }
     requires { ⌜ (length (now hints) ≡ 256) × ((h : ℕ) → getD (now hints) h 0 ≡ 0) ⌝ }
     ensures { λ _. ⌜ Hinted (λ k. outcomeHint (meaning (now (rule .entry)) (now (table .entry)) (valueAt (now (kinds .entry)) (now (keys .entry)) k))) size (now (hints .exit)) ⌝ }
 {
@@ -208,8 +208,8 @@ pub(crate) fn read_marks(
     sizes: &mut [u8],
     marks: &mut [u64],
 )
-    requires { ⌜ (length (now kinds) ≡ 256) × (length (now keys) ≡ 256) × (size ≤ 255) ⌝ }
-    requires { ⌜ (length (now sizes) ≡ 256) × (length (now marks) ≡ 256) × ((k : ℕ) → getD (now sizes) k 0 ≡ 0) ⌝ }
+    requires { ⌜ (length (now kinds) ≡ 32) × (length (now keys) ≡ 32) × (size ≤ 32) ⌝ }
+    requires { ⌜ (length (now sizes) ≡ 32) × (length (now marks) ≡ 32) × ((k : ℕ) → getD (now sizes) k 0 ≡ 0) ⌝ }
     ensures { λ _. ⌜ Marked (now (rule .entry)) (now (kinds .entry)) (now (keys .entry)) (now (sizes .exit)) (now (marks .exit)) ⌝ }
 {
     let mut k = 0;
@@ -222,7 +222,7 @@ pub(crate) fn read_marks(
 
 // Whether a text of four bytes or more has the size and the mark of a key.
 fn is_marked(sizes: &[u8], marks: &[u64], k: usize, text: &[u8]) -> bool
-    requires { ⌜ (length (now sizes) ≡ 256) × (length (now marks) ≡ 256) × (k < 256) ⌝ }
+    requires { ⌜ (length (now sizes) ≡ 32) × (length (now marks) ≡ 32) × (k < 32) ⌝ }
     ensures { λ r. ⌜ (r ≡ true → MarkIs (getD (now (sizes .entry)) k 0) (getD (now (marks .entry)) k 0) (now (text .entry))) ⌝ }
 {
     if text.len() < 4 {

@@ -3,6 +3,7 @@ use crate::bytes_like_lookup_table::read_hints;
 use crate::bytes_like_lookup_table::read_marks;
 use crate::bytes_like_lookup_table::text_index;
 use crate::keys::column_keys;
+use crate::literal_lookup_table::BRANCHES_MOST;
 use crate::literal_lookup_table::read_table;
 use crate::primitive_lookup_table::number_index;
 use crate::primitive_lookup_table::read_numbers;
@@ -28,9 +29,6 @@ ghost use Rattle.case.specs.Steps.{RowsIndexed};
 ghost use Rattle.case.specs.LookUp.{KeyedGive};
 ghost use Rattle.case.specs.LookUpTables.{Keys, EachOnce};
 ghost use Rattle.case.specs.LookUpColumns.{NumberTable, NumberRow, Marked, TextTable, TextRow, ColumnKeyed, BaseGives};
-
-// Most branches of a CASE.
-const BRANCHES_MOST: u8 = 32;
 
 // Most columns of a table.
 const COLUMNS_MOST: usize = 16;
@@ -211,7 +209,7 @@ fn number_column(
     ensures { λ r. ⌜ ((rule : List ℕ) → ColumnKeyed (now (table .entry)) place (now (kinds .entry)) (now (keys .entry)) (now (indices .entry)) size otherwise (now (work .entry)) n rule r (now (values .exit))) ⌝ }
 {
     let kind = place.data_type;
-    let mut numbers = [0u64; 256];
+    let mut numbers = [0u64; 32];
     let mut hints = [0u8; 256];
     let code = type_number(kind);
     if !read_numbers(kinds, keys, size, code, &mut numbers, &mut hints) {
@@ -256,8 +254,8 @@ fn text_column(
 {
     let mut hints = [0u8; 256];
     read_hints(rule, table, kinds, keys, size, &mut hints);
-    let mut sizes = [0u8; 256];
-    let mut marks = [0u64; 256];
+    let mut sizes = [0u8; 32];
+    let mut marks = [0u64; 32];
     read_marks(rule, kinds, keys, size, &mut sizes, &mut marks);
     let validity = part_of(table, place.validity_start, place.validity_end);
     let offsets = part_of(table, place.offsets_start, place.offsets_end);
@@ -301,11 +299,11 @@ fn base_values(
 {
     let whens = count as usize;
     let otherwise = 2 * whens;
-    let mut literal_kinds = [0u8; 512];
-    let mut payloads = [0u64; 512];
-    let mut kinds = [0u8; 256];
-    let mut keys = [0u64; 256];
-    let mut indices = [0u16; 256];
+    let mut literal_kinds = [0u8; 66];
+    let mut payloads = [0u64; 66];
+    let mut kinds = [0u8; 32];
+    let mut keys = [0u64; 32];
+    let mut indices = [0u16; 32];
     let size = read_table(
         rule,
         at,

@@ -1,6 +1,6 @@
 // CASE base WHEN literal THEN literal .. ELSE literal END, by a table of the WHENs: a row's base is searched once, and the row has the literal that stands
 // at the index found. Literals are arrays of kinds and payloads, in the order of the rule. A key of the table is its kind, its payload (of a text its place
-// and length in the rule) and the index of its THEN among the literals. The arrays have room for as many branches as a byte counts.
+// and length in the rule) and the index of its THEN among the literals. The arrays have room for as many branches as a CASE may have.
 use crate::boolean_lookup_table::BooleanIndexMap;
 use crate::boolean_lookup_table::boolean_index_map;
 use crate::boolean_lookup_table::map_boolean;
@@ -19,7 +19,7 @@ use scalar::value::kind;
 use scalar::value::payload;
 use scalar::value::value_of;
 ghost use mathlib.Core.Path.{_≡_};
-ghost use Prim.Native.Nat.{ℕ, _+_, _*_, _<_};
+ghost use Prim.Native.Nat.{ℕ, _+_, _*_, _<_, _≤_};
 ghost use lib.ListN.{length, getD};
 ghost use Rattle.scalar.specs.Value.{meaning, valueOf};
 ghost use Rattle.case.specs.Frame.{Fillable, Filled};
@@ -30,6 +30,9 @@ ghost use Rattle.case.specs.LookUpTables.{Keys, EachOnce, TableOf, Added
 // The kind of a failure.
 const FAILED: u8 = 7;
 
+// Most branches of a CASE.
+pub(crate) const BRANCHES_MOST: u8 = 32;
+
 // The literals at a place, at most so many, and behind them a failure.
 fn read_literals(
     rule: &[u8],
@@ -39,7 +42,7 @@ fn read_literals(
     kinds: &mut [u8],
     payloads: &mut [u64],
 )
-    requires { ⌜ (length (now kinds) ≡ 512) × (length (now payloads) ≡ 512) × (most < 512) × ((i : ℕ) → getD (now kinds) i 0 ≡ 0) ⌝ }
+    requires { ⌜ (length (now kinds) ≡ 66) × (length (now payloads) ≡ 66) × (most < 66) × ((i : ℕ) → getD (now kinds) i 0 ≡ 0) ⌝ }
     ensures { λ _. ⌜ LiteralsRead (now (rule .entry)) at end most (now (kinds .exit)) (now (payloads .exit)) ⌝ }
 {
     kinds[most] = FAILED;
@@ -69,7 +72,7 @@ fn map_to_when_index(
     otherwise: usize,
     v: Value,
 ) -> usize
-    requires { ⌜ Keys (now kinds) (now keys) (now indices) size otherwise × (otherwise < 511) ⌝ }
+    requires { ⌜ Keys (now kinds) (now keys) (now indices) size otherwise × (otherwise < 65) ⌝ }
     ensures { λ r. ⌜ r ≡ baseIndex (keyIndex (now (rule .entry)) (now (table .entry)) (now (kinds .entry)) (now (keys .entry)) (now (indices .entry)) size otherwise) otherwise (meaning (now (rule .entry)) (now (table .entry)) v) ⌝ }
 {
     match v {
@@ -112,7 +115,7 @@ fn add_key(
     indices: &mut [u16],
     size: usize,
 ) -> usize
-    requires { ⌜ Keys (now kinds) (now keys) (now indices) size otherwise × (size < 255) × (index < otherwise) × (otherwise < 511) × EachOnce (now rule) (now table) (now kinds) (now keys) size ⌝ }
+    requires { ⌜ Keys (now kinds) (now keys) (now indices) size otherwise × (size < 32) × (index < otherwise) × (otherwise < 65) × EachOnce (now rule) (now table) (now kinds) (now keys) size ⌝ }
     ensures { λ r. ⌜ Added (now (rule .entry)) (now (table .entry)) (valueOf code key) index otherwise (now (kinds .entry)) (now (keys .entry)) (now (indices .entry)) size (now (kinds .exit)) (now (keys .exit)) (now (indices .exit)) r ⌝ }
 {
     let v = value_of(code, key);
@@ -140,7 +143,7 @@ fn fill_table(
     keys: &mut [u64],
     indices: &mut [u16],
 ) -> usize
-    requires { ⌜ (length (now «literal_kinds») ≡ 512) × (length (now payloads) ≡ 512) × (count < 256) ⌝ }
+    requires { ⌜ (length (now «literal_kinds») ≡ 66) × (length (now payloads) ≡ 66) × (count ≤ 32) ⌝ }
     requires { ⌜ Keys (now kinds) (now keys) (now indices) 0 0 ⌝ }
     ensures { λ r. ⌜ TableOf (now (rule .entry)) (now (table .entry)) (now («literal_kinds» .entry)) (now (payloads .entry)) count (2 * count) (now (kinds .exit)) (now (keys .exit)) (now (indices .exit)) r ⌝ }
 {
@@ -180,7 +183,7 @@ pub(crate) fn read_table(
     keys: &mut [u64],
     indices: &mut [u16],
 ) -> usize
-    requires { ⌜ (length (now «literal_kinds») ≡ 512) × (length (now payloads) ≡ 512) × (count < 256) × ((i : ℕ) → getD (now «literal_kinds») i 0 ≡ 0) ⌝ }
+    requires { ⌜ (length (now «literal_kinds») ≡ 66) × (length (now payloads) ≡ 66) × (count ≤ 32) × ((i : ℕ) → getD (now «literal_kinds») i 0 ≡ 0) ⌝ }
     requires { ⌜ Keys (now kinds) (now keys) (now indices) 0 0 ⌝ }
     ensures { λ r. ⌜ TableRead (now (rule .entry)) at end (now (table .entry)) count (now («literal_kinds» .exit)) (now (payloads .exit)) (now (kinds .exit)) (now (keys .exit)) (now (indices .exit)) r ⌝ }
 {
@@ -209,7 +212,7 @@ fn base_index(
     booleans: BooleanIndexMap,
     v: Value,
 ) -> usize
-    requires { ⌜ Keys (now kinds) (now keys) (now indices) size otherwise × (otherwise < 511) × BooleansOf (now kinds) (now keys) (now indices) size otherwise booleans ⌝ }
+    requires { ⌜ Keys (now kinds) (now keys) (now indices) size otherwise × (otherwise < 65) × BooleansOf (now kinds) (now keys) (now indices) size otherwise booleans ⌝ }
     ensures { λ r. ⌜ r ≡ baseIndex (keyIndex (now (rule .entry)) (now (table .entry)) (now (kinds .entry)) (now (keys .entry)) (now (indices .entry)) size otherwise) otherwise (meaning (now (rule .entry)) (now (table .entry)) v) ⌝ }
 {
     match v {
@@ -258,7 +261,7 @@ fn map_rows(
     work: &mut [u8],
     n: usize,
 )
-    requires { ⌜ (length (now «literal_kinds») ≡ 512) × (length (now payloads) ≡ 512) × (otherwise < 511) × Keys (now kinds) (now keys) (now indices) size otherwise × BooleansOf (now kinds) (now keys) (now indices) size otherwise booleans ⌝ }
+    requires { ⌜ (length (now «literal_kinds») ≡ 66) × (length (now payloads) ≡ 66) × (otherwise < 65) × Keys (now kinds) (now keys) (now indices) size otherwise × BooleansOf (now kinds) (now keys) (now indices) size otherwise booleans ⌝ }
     requires { ⌜ Fillable (now work) n ⌝ }
     ensures { λ _. ⌜ Filled (MappedBy (now (rule .entry)) (now (table .entry)) (now («literal_kinds» .entry)) (now (payloads .entry)) (keyIndex (now (rule .entry)) (now (table .entry)) (now (kinds .entry)) (now (keys .entry)) (now (indices .entry)) size otherwise) otherwise (now (work .entry))) (now (work .entry)) n (now (work .exit)) ⌝ }
 {
@@ -297,13 +300,16 @@ pub(crate) fn look_up(
     requires { ⌜ Fillable (now work) n ⌝ }
     ensures { λ _. ⌜ Filled (LookedUp (now (rule .entry)) at end count to (now (table .entry)) (now (work .entry))) (now (work .entry)) n (now (work .exit)) ⌝ }
 {
+    if BRANCHES_MOST < count {
+        return;
+    }
     let whens = count as usize;
     let otherwise = 2 * whens;
-    let mut literal_kinds = [0u8; 512];
-    let mut payloads = [0u64; 512];
-    let mut kinds = [0u8; 256];
-    let mut keys = [0u64; 256];
-    let mut indices = [0u16; 256];
+    let mut literal_kinds = [0u8; 66];
+    let mut payloads = [0u64; 66];
+    let mut kinds = [0u8; 32];
+    let mut keys = [0u64; 32];
+    let mut indices = [0u16; 32];
     let size = read_table(
         rule,
         at,

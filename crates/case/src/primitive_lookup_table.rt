@@ -77,8 +77,8 @@ pub(crate) fn read_numbers(
     numbers: &mut [u64],
     hints: &mut [u8],
 ) -> bool
-    requires { ⌜ (length (now kinds) ≡ 256) × (length (now keys) ≡ 256) × (size ≤ 255) × (0 < kind) ⌝ }
-    requires { ⌜ (length (now numbers) ≡ 256) × (length (now hints) ≡ 256) × ((h : ℕ) → getD (now hints) h 0 ≡ 0) ⌝ }
+    requires { ⌜ (length (now kinds) ≡ 32) × (length (now keys) ≡ 32) × (size ≤ 32) × (0 < kind) ⌝ }
+    requires { ⌜ (length (now numbers) ≡ 32) × (length (now hints) ≡ 256) × ((h : ℕ) → getD (now hints) h 0 ≡ 0) ⌝ }
     ensures { λ r. ⌜ NumbersRead (now (kinds .entry)) (now (keys .entry)) size kind r (now (numbers .exit)) (now (hints .exit)) ⌝ }
 {
     let mut k = 0;
@@ -96,7 +96,7 @@ pub(crate) fn read_numbers(
 
 // The index of the first key of this number, or the ELSE index.
 fn find_key(numbers: &[u64], indices: &[u16], size: usize, otherwise: usize, x: u64) -> usize
-    requires { ⌜ (length (now numbers) ≡ 256) × (length (now indices) ≡ 256) × (size ≤ 255) ⌝ }
+    requires { ⌜ (length (now numbers) ≡ 32) × (length (now indices) ≡ 32) × (size ≤ 32) ⌝ }
     ensures { λ r. ⌜ r ≡ numberFound (now (numbers .entry)) (now (indices .entry)) size otherwise x ⌝ }
 {
     let mut k = 0;

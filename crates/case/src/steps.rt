@@ -1,6 +1,7 @@
 // WHENs that each compare the numbers of one column with a literal. A row's branch is found from the one number by which its entry is compared:
 // the first WHEN that the number passes.
 use crate::keys::column_keys;
+use crate::literal_lookup_table::BRANCHES_MOST;
 use crate::rows::row_at;
 use layout::number::byte_at;
 use layout::part::part_of;
@@ -20,9 +21,6 @@ ghost use lib.ListN.{length};
 ghost use Rattle.table.specs.Places.{columnIn};
 ghost use Rattle.case.specs.Frame.{Rows};
 ghost use Rattle.case.specs.Steps.{StepsGive, noStep, stepOf, SidesGive, StepGives, StepsRead, stepLow, stepHigh, SpansOf, oneSpan, inSpan, spanIndex, rowSpan, RowIndex, RowsIndexed, ColumnGives, StepRows, WhenGives};
-
-// Most branches of a CASE.
-const BRANCHES_MOST: u8 = 32;
 
 // The greatest number of 64 bits.
 const NUMBER_MOST: u64 = 0xffff_ffff_ffff_ffff;

@@ -19,7 +19,7 @@ base-values-spec =
     (λ c. search needs)
     (λ c. search needs)
     (λ c. search needs)
-    (λ c κs. ((refl, refl, omega arith, zeros 512), search needs))
+    (λ c κs. ((refl, refl, omega arith, zeros 66), search needs))
     (λ c κs. search needs)
     (λ c. search needs)
     (λ c. search needs)

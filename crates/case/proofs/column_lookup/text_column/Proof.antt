@@ -14,7 +14,7 @@ text-column-spec =
     (λ c κs. ((c .before .before .before .before .before .before .before .before .pre .0 .0 .kinds-long, c .before .before .before .before .before .before .before .before .pre .0 .0 .keys-long, c .before .before .before .before .before .before .before .before .pre .0 .0 .few), (refl, zeros 256)))
     (λ c. search needs)
     (λ c. search needs)
-    (λ c κs. ((c .before .before .before .before .before .before .before .before .before .before .before .before .pre .0 .0 .kinds-long, c .before .before .before .before .before .before .before .before .before .before .before .before .pre .0 .0 .keys-long, c .before .before .before .before .before .before .before .before .before .before .before .before .pre .0 .0 .few), (refl, refl, zeros 256)))
+    (λ c κs. ((c .before .before .before .before .before .before .before .before .before .before .before .before .pre .0 .0 .kinds-long, c .before .before .before .before .before .before .before .before .before .before .before .before .pre .0 .0 .keys-long, c .before .before .before .before .before .before .before .before .before .before .before .before .pre .0 .0 .few), (refl, refl, zeros 32)))
     (λ c κs. search needs)
     (λ c κs. search needs)
     (λ c κs. search needs)
