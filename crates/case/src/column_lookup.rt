@@ -128,7 +128,7 @@ fn text_row(
         return (otherwise / 2 + 1) as u16;
     }
     let text = row_text(offsets, texts, row);
-    let j = text_index(
+    let found = text_index(
         rule,
         table,
         kinds,
@@ -141,7 +141,7 @@ fn text_row(
         otherwise,
         text,
     );
-    (j / 2 + 1) as u16
+    (found / 2 + 1) as u16
 }
 
 // The index of each listed row of text.

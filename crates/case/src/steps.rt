@@ -250,12 +250,12 @@ fn one_index(low: u64, high: u64, x: u64) -> u16
     ensures { λ r. ⌜ r ≡ cond (inSpan low high x) 1 2 ⌝ }
 {
     if x < low {
-        return 2;
+        2
+    } else if high < x {
+        2
+    } else {
+        1
     }
-    if high < x {
-        return 2;
-    }
-    1
 }
 
 // The index of a row by one span: of a null the ELSE index.
