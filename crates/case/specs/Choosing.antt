@@ -44,7 +44,7 @@ classAt Rest rule table w index failed r = index
 abbrev pub classBy : List ℕ → ℕ → ℕ → ℕ
 classBy whens index r = cond (eqb (getD whens r 0) 1) index 0
 
--- the same, with the number that says whether its WHEN equals its base
+-- the same, with the number that says whether its WHEN equals its base; that a value is null, true or failed is told without the bytes of any text
 abbrev pub classCoded : Leave → List ℕ → List ℕ → ℕ → ℕ → ℕ → ℕ
 classCoded NullBase codes w index failed r = leaving nullOutcome index failed (meaning [] [] (slotAt w r))
 classCoded TrueWhen codes w index failed r = leaving trueOutcome index failed (meaning [] [] (nextSlot w r))

@@ -1,4 +1,5 @@
--- The classes of a table's rows, where every result of the rule is a number literal: the index of the literal that is the row's entry (01, What changes shape: one index a row).
+-- The classes of a table's rows, where every result of the rule is a number literal or, as a THEN, a CASE of number literals: the index of the literal that is the row's entry
+-- (01, What changes shape: one index a row).
 use mathlib.Core.Path.{_≡_}
 use mathlib.Core.Bool.{Bool, true, false, cond}
 use mathlib.Core.List.{List, _++_}
