@@ -36,6 +36,7 @@ pub mod LookUpTrees
 pub mod WordLaws
 pub mod MarkLaws
 pub mod LookUpColumnLaws
+pub mod DenseLaws
 pub mod KeyLaws
 pub mod LookUpCase
 pub mod ResultLaws

@@ -60,11 +60,11 @@ found-from same index otherwise (suc n) k i a b here before = go (ℕ-discrete i
     go (yes e) later = ap (λ (x : Bool). cond x (index k) (found same index (suc k) n otherwise)) (ap same (sym e) ∙ here) ∙ ap index (sym e)
     go (no d) later = ap (λ (x : Bool). cond x (index k) (found same index (suc k) n otherwise)) (before k (omega arith)) ∙ later (omega arith)
 
-found-at : (same : ℕ → Bool) (index : ℕ → ℕ) (otherwise n i : ℕ) → i < n → same i ≡ true → ((j : ℕ) → j < i → same j ≡ false) → index i ≡ found same index 0 n otherwise
+pub found-at : (same : ℕ → Bool) (index : ℕ → ℕ) (otherwise n i : ℕ) → i < n → same i ≡ true → ((j : ℕ) → j < i → same j ≡ false) → index i ≡ found same index 0 n otherwise
 found-at same index otherwise n i h here before = sym (found-from same index otherwise n 0 i (omega arith) (omega arith) here before)
 
 -- none of those that it passes is the same
-found-nowhere : (same : ℕ → Bool) (index : ℕ → ℕ) (otherwise n : ℕ) → ((i : ℕ) → i < n → same i ≡ false) → otherwise ≡ found same index 0 n otherwise
+pub found-nowhere : (same : ℕ → Bool) (index : ℕ → ℕ) (otherwise n : ℕ) → ((i : ℕ) → i < n → same i ≡ false) → otherwise ≡ found same index 0 n otherwise
 found-nowhere same index otherwise n none =
     sym (found-same {same = same} {same′ = λ (i : ℕ). false} {index = index} {index′ = index} otherwise n 0 (λ i h. none i (omega arith)) (λ i h. refl) ∙ found-none (λ i. false) index otherwise n 0 (λ i. refl))
 

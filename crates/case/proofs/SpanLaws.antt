@@ -89,7 +89,7 @@ pub spans-none : {tags keys lows highs : List ℕ} → length lows ≡ 32 → le
 spans-none p q = record { lows-long = p; highs-long = q; low-is = λ k h. absurd (omega arith); high-is = λ k h. absurd (omega arith) }
 
 -- one more of a list
-set-more : {f : ℕ → ℕ} (l : List ℕ) (k x : ℕ) → k < length l → ((j : ℕ) → j < k → getD l j 0 ≡ f j) → x ≡ f k → (j : ℕ) → j < k + 1 → getD (set l k x) j 0 ≡ f j
+pub set-more : {f : ℕ → ℕ} (l : List ℕ) (k x : ℕ) → k < length l → ((j : ℕ) → j < k → getD l j 0 ≡ f j) → x ≡ f k → (j : ℕ) → j < k + 1 → getD (set l k x) j 0 ≡ f j
 set-more {f} l k x room before here j h = go (ℕ-discrete j k)
   where
     go : Dec (j ≡ k) → getD (set l k x) j 0 ≡ f j

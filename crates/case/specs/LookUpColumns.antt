@@ -4,8 +4,9 @@
 use mathlib.Core.Path.{_≡_}
 use mathlib.Core.Bool.{Bool, true, cond}
 use mathlib.Core.List.{List, _++_}
+use mathlib.Core.Logic.{_⊎_}
 use Prim.Native.Nat.{ℕ, _+_, _-_, _*_, _/_, _%_, _^_, _<_, _≤_}
-use lib.Dec.{eqb}
+use lib.Dec.{eqb, ltb}
 use lib.ListN.{length, getD}
 use Rattle.layout.specs.Bytes.{numberAt}
 use Rattle.scalar.specs.declared.order.Key.{Key}
@@ -95,6 +96,26 @@ pub record NumberTable (numbers indices hints : List ℕ) (size otherwise : ℕ)
 -- the index of a row, from 1, by the numbers of a column: of a null ELSE's
 pub record NumberRow (validity column numbers indices : List ℕ) (size otherwise row c : ℕ) : Type 0 where
   pub is : c ≡ cond (validIn validity row) (numberFound numbers indices size otherwise (getD column row 0)) otherwise / 2 + 1
+
+-- ---- a dense table of number keys: at a number's distance from the least, the index from 1
+
+-- the ELSE index at the first distances
+pub record ElseFilled (otherwise many : ℕ) (answers : List ℕ) : Type 0 where
+  pub long : length answers ≡ 256
+  pub each : (d : ℕ) → d < many → getD answers d 0 ≡ otherwise / 2 + 1
+
+-- each number's index, and none is beyond the table, where it was filled
+pub record DenseFilled (numbers indices : List ℕ) (size otherwise least : ℕ) (filled : Bool) (answers : List ℕ) : Type 0 where
+  pub long : length answers ≡ 256
+  pub inside : filled ≡ true → (d : ℕ) → d < 256 → getD answers d 0 ≡ numberFound numbers indices size otherwise (least + d) / 2 + 1
+  pub outside : filled ≡ true → (x : ℕ) → (x < least) ⊎ (least + 255 < x) → numberFound numbers indices size otherwise x ≡ otherwise
+
+-- the index of a row: of a null, and of a number beyond the table, ELSE's
+abbrev pub denseRow : List ℕ → List ℕ → ℕ → List ℕ → ℕ → ℕ → ℕ
+denseRow validity column least answers otherwise row =
+    cond (validIn validity row)
+    (cond (ltb (getD column row 0) least) (otherwise / 2 + 1) (cond (ltb 255 (getD column row 0 - least)) (otherwise / 2 + 1) (getD answers (getD column row 0 - least) 0)))
+    (otherwise / 2 + 1)
 
 -- ---- text keys
 

@@ -5,6 +5,9 @@ use crate::bytes_like_lookup_table::text_index;
 use crate::keys::column_keys;
 use crate::literal_lookup_table::BRANCHES_MOST;
 use crate::literal_lookup_table::read_table;
+use crate::primitive_lookup_table::fill_dense;
+use crate::primitive_lookup_table::fill_else;
+use crate::primitive_lookup_table::least_number;
 use crate::primitive_lookup_table::number_index;
 use crate::primitive_lookup_table::read_numbers;
 use crate::rows::row_at;
@@ -28,7 +31,7 @@ ghost use Rattle.case.specs.Frame.{Rows};
 ghost use Rattle.case.specs.Steps.{RowsIndexed};
 ghost use Rattle.case.specs.LookUp.{KeyedGive};
 ghost use Rattle.case.specs.LookUpTables.{Keys, EachOnce};
-ghost use Rattle.case.specs.LookUpColumns.{NumberTable, NumberRow, Marked, TextTable, TextRow, ColumnKeyed, BaseGives};
+ghost use Rattle.case.specs.LookUpColumns.{NumberTable, NumberRow, denseRow, Marked, TextTable, TextRow, ColumnKeyed, BaseGives};
 
 // Most columns of a table.
 const COLUMNS_MOST: usize = 16;
@@ -86,6 +89,102 @@ fn number_rows(
         );
         i += 1;
     }
+}
+
+// The index of a row, from 1, by a dense table: at a number's distance from the least. Of a null, and of a number beyond the table, the ELSE index.
+fn dense_row(
+    validity: &[u8],
+    column: &[u64],
+    least: u64,
+    answers: &[u16],
+    otherwise: usize,
+    row: usize,
+) -> u16
+    requires { ⌜ (length (now answers) ≡ 256) × (length (now column) ≡ 512) × (row < 512) × (otherwise ≤ 64) ⌝ }
+    ensures { λ r. ⌜ r ≡ denseRow (now (validity .entry)) (now (column .entry)) least (now (answers .entry)) otherwise row ⌝ }
+{
+    if !valid_at(validity, row) {
+        return (otherwise / 2 + 1) as u16;
+    }
+    let x = column[row];
+    if x < least {
+        return (otherwise / 2 + 1) as u16;
+    }
+    let d = x - least;
+    if 255 < d {
+        return (otherwise / 2 + 1) as u16;
+    }
+    answers[d as usize]
+}
+
+// The index of each listed row by a dense table.
+fn dense_rows(
+    validity: &[u8],
+    column: &[u64],
+    least: u64,
+    answers: &[u16],
+    otherwise: usize,
+    work: &[u8],
+    n: usize,
+    values: &mut [u16],
+)
+    requires { ⌜ (length (now answers) ≡ 256) × (length (now column) ≡ 512) × (otherwise ≤ 64) ⌝ }
+    requires { ⌜ Rows (now work) 0 n 512 × (2 * n ≤ length (now work)) × (length (now values) ≡ 512) ⌝ }
+    ensures { λ _. ⌜ RowsIndexed (λ r c. c ≡ denseRow (now (validity .entry)) (now (column .entry)) least (now (answers .entry)) otherwise r) (now (work .entry)) 0 n (now (values .exit)) ⌝ }
+{
+    let mut i = 0;
+    while i < n {
+        let r = row_at(work, 0, i);
+        values[r] = dense_row(validity, column, least, answers, otherwise, r);
+        i += 1;
+    }
+}
+
+// The index of each listed row by the numbers of a column: by a dense table where the keys allow it, else by the hints.
+fn keyed_rows(
+    validity: &[u8],
+    column: &[u64],
+    numbers: &[u64],
+    indices: &[u16],
+    hints: &[u8],
+    size: usize,
+    otherwise: usize,
+    work: &[u8],
+    n: usize,
+    values: &mut [u16],
+)
+    requires { ⌜ NumberTable (now numbers) (now indices) (now hints) size otherwise × (length (now column) ≡ 512) ⌝ }
+    requires { ⌜ Rows (now work) 0 n 512 × (2 * n ≤ length (now work)) × (length (now values) ≡ 512) ⌝ }
+    ensures { λ _. ⌜ RowsIndexed (NumberRow (now (validity .entry)) (now (column .entry)) (now (numbers .entry)) (now (indices .entry)) size otherwise) (now (work .entry)) 0 n (now (values .exit)) ⌝ }
+{
+    let least = least_number(numbers, size);
+    let mut answers = [0u16; 256];
+    fill_else(otherwise, &mut answers);
+    if fill_dense(numbers, indices, size, otherwise, least, &mut answers) {
+        dense_rows(
+            validity,
+            column,
+            least,
+            &answers,
+            otherwise,
+            work,
+            n,
+            values,
+        );
+        return;
+    }
+    number_rows(
+        validity,
+        column,
+        numbers,
+        indices,
+        hints,
+        size,
+        otherwise,
+        work,
+        n,
+        values,
+    );
 }
 
 // The text of a row.
@@ -219,7 +318,7 @@ fn number_column(
     let mut column = [0u64; 512];
     column_keys(kind, entries, rows, &mut column);
     let validity = part_of(table, place.validity_start, place.validity_end);
-    number_rows(
+    keyed_rows(
         validity,
         &column,
         &numbers,

@@ -6,7 +6,7 @@ ghost use mathlib.Core.Path.{_≡_};
 ghost use Prim.Native.Nat.{ℕ, _<_, _≤_};
 ghost use lib.ListN.{length, getD};
 ghost use Rattle.case.specs.LookUpTables.{Keys, numberIndex};
-ghost use Rattle.case.specs.LookUpColumns.{numberKey, numberHint, NumbersRead, NumberTable, numberFound};
+ghost use Rattle.case.specs.LookUpColumns.{numberKey, numberHint, NumbersRead, NumberTable, numberFound, ElseFilled, DenseFilled};
 
 // The index of the first key of this kind and this payload, or the ELSE index.
 pub(crate) fn find_number(
@@ -132,4 +132,60 @@ pub(crate) fn number_index(
         return indices[h - 1] as usize;
     }
     find_key(numbers, indices, size, otherwise, x)
+}
+
+// The least of the keys' numbers, or another number: whether it serves is seen as the table is filled.
+pub(crate) fn least_number(numbers: &[u64], size: usize) -> u64
+    requires { ⌜ (length (now numbers) ≡ 32) × (size ≤ 32) ⌝ }
+{
+    let mut least = 0xffff_ffff_ffff_ffff;
+    let mut k = 0;
+    while k < size {
+        if numbers[k] < least {
+            least = numbers[k];
+        }
+        k += 1;
+    }
+    least
+}
+
+// The ELSE index, from 1, at each distance of a dense table.
+pub(crate) fn fill_else(otherwise: usize, answers: &mut [u16])
+    requires { ⌜ (length (now answers) ≡ 256) × (otherwise ≤ 64) ⌝ }
+    ensures { λ _. ⌜ ElseFilled otherwise 256 (now (answers .exit)) ⌝ }
+{
+    let mut d = 0;
+    while d < 256 {
+        answers[d] = (otherwise / 2 + 1) as u16;
+        d += 1;
+    }
+}
+
+// At each key's distance from the least number the key's index, from 1, where no distance is above 255; at any other the ELSE index, which is there.
+pub(crate) fn fill_dense(
+    numbers: &[u64],
+    indices: &[u16],
+    size: usize,
+    otherwise: usize,
+    least: u64,
+    answers: &mut [u16],
+) -> bool
+    requires { ⌜ (length (now numbers) ≡ 32) × (length (now indices) ≡ 32) × (size ≤ 32) × ((k : ℕ) → k < size → getD (now indices) k 0 < otherwise) × (otherwise ≤ 64) ⌝ }
+    requires { ⌜ ElseFilled otherwise 256 (now answers) × ((j k : ℕ) → j < k → k < size → getD (now numbers) k 0 ≡ getD (now numbers) j 0 → ⊥) ⌝ }
+    ensures { λ r. ⌜ DenseFilled (now (numbers .entry)) (now (indices .entry)) size otherwise least r (now (answers .exit)) ⌝ }
+{
+    let mut key = 0;
+    while key < size {
+        let x = numbers[key];
+        if x < least {
+            return false;
+        }
+        let d = x - least;
+        if 255 < d {
+            return false;
+        }
+        answers[d as usize] = indices[key] / 2 + 1;
+        key += 1;
+    }
+    true
 }
