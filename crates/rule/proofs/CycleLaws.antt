@@ -61,7 +61,7 @@ binary-plain tag a b = go (eqb tag 23)
     go true = (refl, refl, refl)
     go false = (refl, refl, refl)
 
--- nodes whose children `child` reads; `after` are the marks behind a node
+-- nodes whose children `child` reads; the marks behind a node are `after`, and those between its parts `middle` and `late`
 module _ (child : Reader Expr) (content : List ℕ) (cols : List Column) (outer : List ℕ) (end : ℕ) {after : List ℕ} where
   -- one child
   pub unary-gives : (tag : ℕ) (a : FieldFound) (fits : Bool) (t : DataType) (r : FieldFound) → ReadGives content (child content cols) a after
@@ -162,10 +162,10 @@ module _ (child : Reader Expr) (bytes : List ℕ) (when : DataType) (earlier : T
       (subst (λ (c : ℕ). (x : Read Expr) → FieldRead bytes w middle x → Gives (BranchesAre bytes when earlier r after) (readThen child (x .tree) c (x .rest) (x .seen)) (r .refused)) back e)
 
   -- behind a WHEN that was read
-  module _ (w : FieldFound) {middle : List ℕ} (x : Read Expr) (g : FieldRead bytes w middle x) (count : ℕ) (t : FieldFound) {behind : List ℕ}
-      (then-is : (met : List Column) → Marked met middle → ReadGives bytes (child (drop (w .next) bytes) met) t behind) where
-    then-read : ReadGives bytes (child (x .rest) (x .seen)) t behind
-    then-read = subst (λ (l : List ℕ). ReadGives bytes (child l (x .seen)) t behind) (sym (g .behind .rest-is)) (then-is (x .seen) (g .behind .seen-are))
+  module _ (w : FieldFound) {middle : List ℕ} (x : Read Expr) (g : FieldRead bytes w middle x) (count : ℕ) (t : FieldFound) {late : List ℕ}
+      (then-is : (met : List Column) → Marked met middle → ReadGives bytes (child (drop (w .next) bytes) met) t late) where
+    then-read : ReadGives bytes (child (x .rest) (x .seen)) t late
+    then-read = subst (λ (l : List ℕ). ReadGives bytes (child l (x .seen)) t late) (sym (g .behind .rest-is)) (then-is (x .seen) (g .behind .seen-are))
 
     pub then-refused : (r : BranchesRead) {after : List ℕ} → (t .refused ≡ 0 → ⊥) → r .refused ≡ t .refused
         → Gives (BranchesAre bytes when earlier r after) (readThen child (x .tree) count (x .rest) (x .seen)) (r .refused)
@@ -173,7 +173,7 @@ module _ (child : Reader Expr) (bytes : List ℕ) (when : DataType) (earlier : T
     then-refused r n e = behind-refused (child (x .rest) (x .seen)) _ then-read n e
 
     pub then-gives : (result : DataType) (later r : BranchesRead) {after : List ℕ} → t .refused ≡ 0 → result ≡ typeOr earlier (t .result)
-        → ((met : List Column) → Marked met behind → Gives (BranchesAre bytes when (Known result) later after) (readBranches child count (drop (t .next) bytes) met) (later .refused))
+        → ((met : List Column) → Marked met late → Gives (BranchesAre bytes when (Known result) later after) (readBranches child count (drop (t .next) bytes) met) (later .refused))
         → r ≡ branched (w .result) when (t .result) later
         → Gives (BranchesAre bytes when earlier r after) (readThen child (x .tree) count (x .rest) (x .seen)) (r .refused)
     unfolding readThen branchesTyped typeOf
@@ -197,11 +197,11 @@ module _ (child : Reader Expr) (bytes : List ℕ) (cols : List Column) (outer : 
   unfolding readParts
   parts-unbased n = behind-refused (readOptional (hasBase flags) child (drop 2 bytes) cols) _ base n refl
 
-  module _ (z : b .refused ≡ 0) (bs : BranchesRead) {behind : List ℕ}
-      (branches : (met : List Column) → Marked met middle → Gives (BranchesAre bytes (b .result) Unknown bs behind) (readBranches child count (drop (b .next) bytes) met) (bs .refused)) where
-    branches-read : (x : Read Optional) → OptionalRead bytes b middle x → Gives (BranchesAre bytes (b .result) Unknown bs behind) (readBranches child count (x .rest) (x .seen)) (bs .refused)
+  module _ (z : b .refused ≡ 0) (bs : BranchesRead) {late : List ℕ}
+      (branches : (met : List Column) → Marked met middle → Gives (BranchesAre bytes (b .result) Unknown bs late) (readBranches child count (drop (b .next) bytes) met) (bs .refused)) where
+    branches-read : (x : Read Optional) → OptionalRead bytes b middle x → Gives (BranchesAre bytes (b .result) Unknown bs late) (readBranches child count (x .rest) (x .seen)) (bs .refused)
     branches-read x g =
-        subst (λ (l : List ℕ). Gives (BranchesAre bytes (b .result) Unknown bs behind) (readBranches child count l (x .seen)) (bs .refused))
+        subst (λ (l : List ℕ). Gives (BranchesAre bytes (b .result) Unknown bs late) (readBranches child count l (x .seen)) (bs .refused))
         (sym (g .behind .rest-is)) (branches (x .seen) (g .behind .seen-are))
 
     pub parts-unbranched : (r : FieldFound) {after : List ℕ} → (bs .refused ≡ 0 → ⊥) → r .refused ≡ bs .refused → ReadGives outer (readParts child flags count (drop 2 bytes) cols (drop end outer)) r after
@@ -211,7 +211,7 @@ module _ (child : Reader Expr) (bytes : List ℕ) (cols : List Column) (outer : 
         (λ x g. behind-refused (readBranches child count (x .rest) (x .seen)) _ (branches-read x g) n q)
 
     pub parts-give : (e : FieldFound) (fits : Bool) (r : FieldFound) {after : List ℕ} → bs .refused ≡ 0
-        → ((met : List Column) → Marked met behind → Gives (OptionalRead bytes e after) (readOptional (hasElse flags) child (drop (bs .next) bytes) met) (e .refused))
+        → ((met : List Column) → Marked met late → Gives (OptionalRead bytes e after) (readOptional (hasElse flags) child (drop (bs .next) bytes) met) (e .refused))
         → fits ≡ (bs .fits && (e .null || listed (e .result) (bs .result))) → r ≡ closed e (length bytes) fits (bs .result) end
         → ReadGives outer (readParts child flags count (drop 2 bytes) cols (drop end outer)) r after
     unfolding readParts nodeTyped typeOf
@@ -224,7 +224,7 @@ module _ (child : Reader Expr) (bytes : List ℕ) (cols : List Column) (outer : 
         (subst (λ (l : List ℕ). Gives (OptionalRead bytes e after) (readOptional (hasElse flags) child l (y .seen)) (e .refused))
         (sym (k .behind .rest-is)) (last (y .seen) (k .behind .seen-are))))))
       where
-        case-typed : (x : Read Optional) → OptionalRead bytes b middle x → (y : Read Branches) → BranchesAre bytes (b .result) Unknown bs behind y → (u : Read Optional) → OptionalRead bytes e after u
+        case-typed : (x : Read Optional) → OptionalRead bytes b middle x → (y : Read Branches) → BranchesAre bytes (b .result) Unknown bs late y → (u : Read Optional) → OptionalRead bytes e after u
             → (bs .fits && (e .null || listed (e .result) (bs .result))) ≡ (branchesTyped (whenType (x .tree)) (resultType (y .tree)) (y .tree) && elseTyped (resultType (y .tree)) (u .tree))
         case-typed x g y k u m =
             ap₂ (λ (p q : Bool). p && q)

@@ -2,7 +2,7 @@
 use mathlib.Core.Path.{_≡_, refl, ap, sym, subst, _∙_}
 use mathlib.Core.Bool.{Bool, true, false, cond}
 use mathlib.Core.List.{List, [], _∷_}
-use Prim.Native.Nat.{ℕ, zero, suc, _-_, _<_, _≤_}
+use Prim.Native.Nat.{ℕ, zero, suc, _<_, _≤_}
 use native.Mathlib.Omega.{arith}
 use lib.Dec.{eqb, ltb}
 use lib.ListN.{length, drop}
@@ -91,7 +91,7 @@ some-drop n [] h = absurd (omega arith)
 some-drop zero (a ∷ l) h = refl
 some-drop (suc n) (a ∷ l) h = some-drop n l (omega arith)
 
--- a node behind its last child
+-- a node behind its last child, with the marks `after`
 module _ {A : Type 0} {good : Read A → Type 0} (node : A → Expr) (bytes outer after : List ℕ) (last : FieldFound) (size : ℕ) (fits : Bool) (t : DataType) (end : ℕ)
     (size-is : size ≡ length bytes)
     (fine : (x : Read A) → good x → Behind bytes (last .next) after x × (fits ≡ nodeTyped (node (x .tree))) × (t ≡ typeOf (node (x .tree))) × (false ≡ isNullLiteral (node (x .tree)))) where

@@ -74,7 +74,7 @@ pub record FieldRead (bytes : List ℕ) (r : FieldFound) (after : List ℕ) (x :
 abbrev pub ReadGives : List ℕ → Result (Read Expr) → FieldFound → List ℕ → Type 0
 ReadGives bytes definition r after = Gives (FieldRead bytes r after) definition (r .refused)
 
--- the tree of a rule, with the marks
+-- the tree of a rule
 abbrev pub TreeGives : List ℕ → Result (Read Expr) → NodeRead → Type 0
 TreeGives bytes definition r = ReadGives bytes definition (record { refused = r .refused; result = r .result; null = r .null; next = r .next }) (r .seen .marks)
 
@@ -98,7 +98,7 @@ pub record BranchesAre (bytes : List ℕ) (when : DataType) (earlier : TypeAnswe
   pub fits-is : r .fits ≡ branchesTyped when (r .result) (x .tree)
   pub behind : Behind bytes (r .next) after x
 
--- a step promises this whatever columns the marks are of before it; of a refused one's marks nothing is said: one that reads a field, a part
+-- a step promises this whatever columns the marks before it are of, and of the marks after a refusal nothing: one that reads a field, a part
 -- that may be absent, branches,
 abbrev pub FieldGives : List ℕ → List ℕ → (List Column → Result (Read Expr)) → FieldFound → List ℕ → Type 0
 FieldGives bytes before definition r after = (cols : List Column) → Marked cols before → ReadGives bytes (definition cols) r after

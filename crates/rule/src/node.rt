@@ -24,7 +24,8 @@ pub struct NodeRead {
     pub seen: Seen,
 }
 
-// What reading a field found, but for the columns met, whose marks are lent.
+// What reading a field found, beside the marks, which are lent: the number with which it is refused (0: none), its type, whether it is a
+// null literal, and where it ends in the slice.
 pub(crate) struct FieldFound {
     pub(crate) refused: u8,
     pub(crate) result: DataType,
@@ -50,9 +51,7 @@ pub(crate) fn refuse_rule(n: u8) -> NodeRead
         result: DataType::Boolean,
         null: false,
         next: 0,
-        seen: Seen {
-            marks: [0u8; 256],
-        },
+        seen: Seen { marks: [0u8; 256] },
     }
 }
 

@@ -1,4 +1,4 @@
-// Reading a rule, front to back. Each function follows a definition of specs/Reading.antt and needs no buffer.
+// Reading a rule, front to back. Each function follows a definition of specs/Reading.antt; the marks of the columns met are lent to it.
 use crate::fails::constant_fails;
 use crate::leaf::read_column;
 use crate::leaf::read_literal;
@@ -155,7 +155,13 @@ fn read_binary(
 }
 
 // CASE: flags and branch count, then its parts.
-fn read_case(content: &[u8], end: usize, depth: usize, cases: usize, marks: &mut [u8; 256]) -> FieldFound
+fn read_case(
+    content: &[u8],
+    end: usize,
+    depth: usize,
+    cases: usize,
+    marks: &mut [u8; 256],
+) -> FieldFound
     ensures { λ r. ⌜ NodeGives end (now (marks .entry)) (readLimitedCase (readField depth) cases (now (content .entry))) r (now (marks .exit)) ⌝ }
 {
     if cases == 0 {
