@@ -19,6 +19,7 @@ use Rattle.case.specs.Frame.{rowAt, Listed}
 use Rattle.case.specs.LookUpTables.{valueAt}
 use Rattle.case.specs.Evaluation.{rowIn, resultAt, indexed}
 use Rattle.case.specs.LookUp.{KeyedGive}
+use Rattle.case.specs.Results.{ResultsRead}
 use Rattle.case.specs.Steps.{StepsGive}
 use Rattle.case.specs.Readings.{RowsRight}
 use Rattle.case.specs.Write.{classValue, ClassesAsk}
@@ -29,6 +30,15 @@ pub record RootAsks (t : Table) (w table : List ℕ) : Type 0 where
   pub room : 13312 ≤ length w
   pub short : length table ≤ 65536
   pub rows-are : (i : ℕ) → i < t .rows → rowAt w 0 i ≡ i
+
+-- the literals among the root CASE's results, ELSE's of a kind, and where its branches stand; place 0 is none
+pub record RootResults (rule : List ℕ) (code place : ℕ) (kinds payloads : List ℕ) : Type 0 where
+  pub kinds-long : length kinds ≡ 258
+  pub payloads-long : length payloads ≡ 258
+  pub type : DataType
+  pub type-is : TypeGives rule 0 type
+  pub read : (place ≡ 0 → ⊥) → ResultsRead rule place (length rule) (byte rule 4) type kinds payloads
+  pub else-kind : (place ≡ 0 → ⊥) → getD kinds (byte rule 4 + 1) 0 ≡ code
 
 -- the branches and ELSE of a CASE, which stand at a place, and the outcome of a row by an index of them
 pub record CaseTree (rule : List ℕ) (start end : ℕ) (table : List ℕ) (t : Table) (place depth q c : ℕ) (e : Expr) : Type 0 where
