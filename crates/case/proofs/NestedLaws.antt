@@ -24,7 +24,7 @@ use Rattle.case.specs.Taking.{Picked, HasIndex}
 use Rattle.case.specs.LookUpTables.{valueAt}
 use Rattle.case.specs.Evaluation.{Framed, rowIn, resultAt, indexed}
 use Rattle.case.specs.Results.{ResultsRead}
-use Rattle.case.specs.Classes.{CaseTree, CaseIndex, CaseValues, allOfKind, Arrays, Grown, BlockCopied, BlockRead, Numbered, ClassRight, CaseClassed, wantedRows, ThenClassed, ThensAsk, ResultClass, ThensClassed}
+use Rattle.case.specs.Classes.{CaseTree, CaseIndex, CaseValues, allOfKind, Arrays, Grown, BlockCopied, BlockRead, Numbered, ClassRight, CaseClassed, WantedRows, ThenClassed, ThensAsk, ResultClass, ThensClassed}
 use Rattle.case.proofs.FrameLaws.{SameRows, kept-rows, listed-to, listed-from, framed-kept, lent, lent-rows}
 use Rattle.case.proofs.BranchLaws.{branch-at, branch-stands, behind-none, behind-two}
 
@@ -380,8 +380,8 @@ module _ {rule : List ℕ} {at : ℕ} {table : List ℕ} {t : Table} {code count
         pub onward : used ≤ used′
         pub few : used′ ≤ 258
         pub grown : Grown used kinds₁ payloads₁ kinds₂ payloads₂
-        pub others : (q : ℕ) → (wantedRows w₁ n classes₁ k q → ⊥) → getD classes₂ q 0 ≡ getD classes₁ q 0
-        pub here : (q : ℕ) → wantedRows w₁ n classes₁ k q → Now q (getD classes₂ q 0)
+        pub others : (q : ℕ) → (WantedRows w₁ n classes₁ k q → ⊥) → getD classes₂ q 0 ≡ getD classes₁ q 0
+        pub here : (q : ℕ) → WantedRows w₁ n classes₁ k q → Now q (getD classes₂ q 0)
 
       stepped : Stepped
       stepped = go (ℕ-discrete (getD kinds₁ k 0) code)

@@ -124,15 +124,15 @@ pub record CaseClassed (wanted : ℕ → Type 0) (rule : List ℕ) (start end : 
   pub here : (used ≡ 0 → ⊥) → (q : ℕ) → wanted q → ClassRight rule start end table t kinds′ payloads′ code from used q (getD classes′ q 0)
 
 -- the listed rows of a class
-abbrev pub wantedRows : List ℕ → ℕ → List ℕ → ℕ → ℕ → Type 0
-wantedRows w n classes class q = Listed w 0 n q × (getD classes q 0 ≡ class)
+abbrev pub WantedRows : List ℕ → ℕ → List ℕ → ℕ → ℕ → Type 0
+WantedRows w n classes class q = Listed w 0 n q × (getD classes q 0 ≡ class)
 
 -- the rows of a class: unchanged where it is a literal of the kind, else classed by a node
 pub record ThenClassed (rule : List ℕ) (start end : ℕ) (table : List ℕ) (t : Table) (code : ℕ) (w : List ℕ) (n class from : ℕ) (classes kinds payloads : List ℕ) (used : ℕ) (w′ classes′ kinds′ payloads′ : List ℕ) : Type 0 where
   pub long : length w′ ≡ length w
   pub low : (j : ℕ) → j < 6656 → byte w′ j ≡ byte w j
   pub same : getD kinds class 0 ≡ code → (used ≡ from) × (classes′ ≡ classes) × (kinds′ ≡ kinds) × (payloads′ ≡ payloads)
-  pub found : (getD kinds class 0 ≡ code → ⊥) → CaseClassed (wantedRows w n classes class) rule start end table t code from classes kinds payloads used classes′ kinds′ payloads′
+  pub found : (getD kinds class 0 ≡ code → ⊥) → CaseClassed (WantedRows w n classes class) rule start end table t code from classes kinds payloads used classes′ kinds′ payloads′
 
 -- what the THENs of the root CASE ask: each listed row has the class of a result, from 1, and that of ELSE is of the kind
 pub record ThensAsk (code count : ℕ) (w : List ℕ) (n : ℕ) (classes kinds payloads : List ℕ) : Type 0 where

@@ -88,7 +88,7 @@ fn read_block(
 }
 
 // The class of each listed row: its index behind a class.
-fn number_rows(work: &[u8], n: usize, values: &[u16], from: usize, classes: &mut [u16])
+fn class_listed(work: &[u8], n: usize, values: &[u16], from: usize, classes: &mut [u16])
     requires { ⌜ Rows (now work) 0 n 512 × (2 * n ≤ length (now work)) ⌝ }
     requires { ⌜ (length (now values) ≡ 512) × (length (now classes) ≡ 512) × ((q : ℕ) → Listed (now work) 0 n q → from + getD (now values) q 0 < 258) ⌝ }
     ensures { λ _. ⌜ Numbered (now (work .entry)) n (now (values .entry)) from (now (classes .entry)) (now (classes .exit)) ⌝ }
@@ -153,7 +153,7 @@ fn nested_case(
     if found != place {
         return 0;
     }
-    number_rows(work, n, &values, from, classes);
+    class_listed(work, n, &values, from, classes);
     from + count + 3
 }
 
