@@ -99,6 +99,20 @@ pub record BlockRead (rule : List ℕ) (at end count : ℕ) (to : DataType) (fro
   pub held : (bs : Branches) (els : Optional) (depth : ℕ) (row : Row) (table : List ℕ) → TreesAt rule at end (branchTrees bs ++ optionalTrees els) depth → branchCount bs ≡ count
       → (j : ℕ) → j ≤ count → (getD kinds (from + suc j) 0 ≡ 0 → ⊥) → meaning rule table (valueAt kinds payloads (from + suc j)) ≡ resultAt bs row (evalElse els row to) j
 
+-- the results of the CASE at a place are the classes behind a class, all of a kind; its branches stand at a place
+pub record NestedRead (rule : List ℕ) (start end code from place : ℕ) (kinds payloads : List ℕ) : Type 0 where
+  pub inside : start < length rule
+  pub room : from + byte rule (start + 4) + 3 ≤ 258
+  pub type : DataType
+  pub type-is : TypeGives rule start type
+  pub read : BlockRead rule place end (byte rule (start + 4)) type from kinds payloads
+  pub of-kind : allOfKind kinds code from (byte rule (start + 4) + 1) ≡ true
+
+-- place 0 is none
+pub record NestedResults (rule : List ℕ) (start end code from : ℕ) (kinds payloads : List ℕ) (place : ℕ) (kinds′ payloads′ : List ℕ) : Type 0 where
+  pub grown : Grown from kinds payloads kinds′ payloads′
+  pub found : (place ≡ 0 → ⊥) → NestedRead rule start end code from place kinds′ payloads′
+
 -- ---- the classes of a list's rows
 
 -- the class of each listed row is its index behind a class, any other is unchanged
