@@ -24,7 +24,7 @@ use Rattle.case.specs.Taking.{Picked, HasIndex}
 use Rattle.case.specs.LookUpTables.{valueAt}
 use Rattle.case.specs.Evaluation.{Framed, rowIn, resultAt, indexed}
 use Rattle.case.specs.Results.{ResultsRead}
-use Rattle.case.specs.Classes.{CaseTree, CaseIndex, CaseValues, allOfKind, Arrays, Grown, BlockCopied, BlockRead, Numbered, ClassRight, CaseClassed, wantedRows, ThenClassed, ThensAsk, ResultClass, ThensClassed}
+use Rattle.case.specs.Classes.{CaseTree, CaseIndex, CaseValues, allOfKind, Arrays, Grown, BlockCopied, BlockRead, NestedResults, Numbered, ClassRight, CaseClassed, WantedRows, ThenClassed, ThensAsk, ResultClass, ThensClassed}
 use Rattle.case.proofs.FrameLaws.{SameRows, kept-rows, listed-to, listed-from, framed-kept, lent, lent-rows}
 use Rattle.case.proofs.BranchLaws.{branch-at, branch-stands, behind-none, behind-two}
 
@@ -195,47 +195,70 @@ case-none long grown = record {
   here = λ n. absurd (n refl);
 }
 
--- an index of a CASE's results lies in the classes behind a class
-pub index-in : {rule : List ℕ} {start end : ℕ} {table : List ℕ} {t : Table} {w : List ℕ} {n : ℕ} {values : List ℕ} {found count : ℕ} (from : ℕ) → CaseValues rule start end table t w n values found → (found ≡ 0 → ⊥)
-    → count ≡ byte rule (start + 4) → from + count + 3 ≤ 258 → (q : ℕ) → Listed w 0 n q → from + getD values q 0 < 258
-index-in from v there counted room q l = let f = v .each there q l .few in omega arith
+-- the results of a CASE were not read, or are as they have to be
+pub nested-none : {rule : List ℕ} {start end code from : ℕ} {kinds payloads kinds′ payloads′ : List ℕ} → Grown from kinds payloads kinds′ payloads′ → NestedResults rule start end code from kinds payloads 0 kinds′ payloads′
+nested-none grown = record { grown = grown; found = λ there. absurd (there refl) }
 
--- the literal at a row's index behind a class is the row's outcome
-pub case-classed : {rule : List ℕ} {start end : ℕ} {table : List ℕ} {t : Table} {code from : ℕ} {w : List ℕ} {n : ℕ} {values classes kinds payloads classes′ kinds′ payloads′ : List ℕ}
-    {found place count : ℕ} {to : DataType} {all : Bool} → CaseValues rule start end table t w n values found → (found ≡ 0 → ⊥) → found ≡ place → count ≡ byte rule (start + 4) → from + count + 3 ≤ 258
-    → TypeGives rule start to → Grown from kinds payloads kinds′ payloads′ → BlockRead rule place end count to from kinds′ payloads′ → all ≡ allOfKind kinds′ code from (count + 1) → all ≡ true → 0 < code
-    → Numbered w n values from classes classes′
-    → CaseClassed (Listed w 0 n) rule start end table t code from classes kinds payloads (from + count + 3) classes′ kinds′ payloads′
-case-classed {rule} {start} {end} {table} {t} {code} {from} {w} {n} {values} {classes′ = classes′} {kinds′} {payloads′} {found} {place} {count} {to} v there is counted room types grown read′ all-is all-of some numbered = record {
-  classes-long = numbered .long;
+pub nested-give : {rule : List ℕ} {start end code from place count : ℕ} {kinds payloads kinds′ payloads′ : List ℕ} {to : DataType} {all : Bool} → start < length rule → count ≡ byte rule (start + 4)
+    → from + count + 3 ≤ 258 → TypeGives rule start to → Grown from kinds payloads kinds′ payloads′ → BlockRead rule place end count to from kinds′ payloads′ → all ≡ allOfKind kinds′ code from (count + 1) → all ≡ true
+    → NestedResults rule start end code from kinds payloads place kinds′ payloads′
+nested-give {rule} {start} {end} {code} {from} {place} {count} {kinds′ = kinds′} {payloads′} {to} inside counted room types grown read all-is all-of = record {
   grown = grown;
-  few = room;
-  onward = λ m. omega arith;
-  others = numbered .others;
-  here = λ m q l. subst (ClassRight rule start end table t kinds′ payloads′ code from (from + count + 3) q) (sym (numbered .here q l)) (right-at q (v .each there q l));
+  found = λ there. record {
+    inside = inside;
+    room = (let c = counted in omega arith);
+    type = to;
+    type-is = types;
+    read = subst (λ (n : ℕ). BlockRead rule place end n to from kinds′ payloads′) counted read;
+    of-kind = subst (λ (n : ℕ). allOfKind kinds′ code from (n + 1) ≡ true) counted (sym all-is ∙ all-of);
+  };
 }
-  where
-    read : BlockRead rule found end count to from kinds′ payloads′
-    read = subst (λ (x : ℕ). BlockRead rule x end count to from kinds′ payloads′) (sym is) read′
 
-    of-kind : (c : ℕ) → 0 < c → c ≤ byte rule (start + 4) + 1 → getD kinds′ (from + c) 0 ≡ code
-    of-kind zero a b = absurd (omega arith)
-    of-kind (suc j) a b = kind-at kinds′ code from (count + 1) (sym all-is ∙ all-of) j (omega arith)
+module _ {rule : List ℕ} {start end : ℕ} {table : List ℕ} {t : Table} {code from : ℕ} {w : List ℕ} {n : ℕ} {values kinds payloads kinds′ payloads′ : List ℕ} {found place : ℕ}
+    (v : CaseValues rule start end table t w n values found) (is : found ≡ place) (there : place ≡ 0 → ⊥) (results : NestedResults rule start end code from kinds payloads place kinds′ payloads′) where
+  given-index : found ≡ 0 → ⊥
+  given-index e = there (sym is ∙ e)
 
-    by : (q c : ℕ) → 0 < c → c ≤ byte rule (start + 4) + 1 → (e : Expr) (depth : ℕ) → CaseTree rule start end table t found depth q c e
-        → meaning rule table (valueAt kinds′ payloads′ (from + c)) ≡ eval e (rowIn table t q)
-    by q zero a b e depth tree = absurd (omega arith)
-    by q (suc j) a b e depth tree =
-        read .held (tree .bs) (tree .els) depth (rowIn table t q) table (tree .trees) (tree .counted ∙ sym counted) j (omega arith) (λ z. let k = of-kind (suc j) a b in omega arith)
-        ∙ sym (tree .outcome to types)
+  -- an index of a CASE's results lies in the classes behind a class
+  pub index-in : (q : ℕ) → Listed w 0 n q → from + getD values q 0 < 258
+  index-in q l = let f = v .each given-index q l .few in let r = results .found there .room in omega arith
 
-    right-at : (q : ℕ) → CaseIndex rule start end table t found q (getD values q 0) → ClassRight rule start end table t kinds′ payloads′ code from (from + count + 3) q (from + getD values q 0)
-    right-at q x = record {
-      above = (let a = x .some in omega arith);
-      below = (let b = x .few in omega arith);
-      kind-is = of-kind (getD values q 0) (x .some) (x .few);
-      means = λ e depth node. by q (getD values q 0) (x .some) (x .few) e depth (x .is e depth node);
-    }
+  -- the literal at a row's index behind a class is the row's outcome
+  pub case-classed : {classes classes′ : List ℕ} {count : ℕ} → count ≡ byte rule (start + 4) → 0 < code → Numbered w n values from classes classes′
+      → CaseClassed (Listed w 0 n) rule start end table t code from classes kinds payloads (from + count + 3) classes′ kinds′ payloads′
+  case-classed {classes′ = classes′} {count} counted some numbered = record {
+    classes-long = numbered .long;
+    grown = results .grown;
+    few = room;
+    onward = λ m. omega arith;
+    others = numbered .others;
+    here = λ m q l. subst (ClassRight rule start end table t kinds′ payloads′ code from (from + count + 3) q) (sym (numbered .here q l)) (right-at q (v .each given-index q l));
+  }
+    where
+      room : from + count + 3 ≤ 258
+      room = let r = results .found there .room in omega arith
+
+      read : BlockRead rule found end (byte rule (start + 4)) (results .found there .type) from kinds′ payloads′
+      read = subst (λ (x : ℕ). BlockRead rule x end (byte rule (start + 4)) (results .found there .type) from kinds′ payloads′) (sym is) (results .found there .read)
+
+      of-kind : (c : ℕ) → 0 < c → c ≤ byte rule (start + 4) + 1 → getD kinds′ (from + c) 0 ≡ code
+      of-kind zero a b = absurd (omega arith)
+      of-kind (suc j) a b = kind-at kinds′ code from (byte rule (start + 4) + 1) (results .found there .of-kind) j (omega arith)
+
+      by : (q c : ℕ) → 0 < c → c ≤ byte rule (start + 4) + 1 → (e : Expr) (depth : ℕ) → CaseTree rule start end table t found depth q c e
+          → meaning rule table (valueAt kinds′ payloads′ (from + c)) ≡ eval e (rowIn table t q)
+      by q zero a b e depth tree = absurd (omega arith)
+      by q (suc j) a b e depth tree =
+          read .held (tree .bs) (tree .els) depth (rowIn table t q) table (tree .trees) (tree .counted) j (omega arith) (λ z. let k = of-kind (suc j) a b in omega arith)
+          ∙ sym (tree .outcome (results .found there .type) (results .found there .type-is))
+
+      right-at : (q : ℕ) → CaseIndex rule start end table t found q (getD values q 0) → ClassRight rule start end table t kinds′ payloads′ code from (from + count + 3) q (from + getD values q 0)
+      right-at q x = record {
+        above = (let a = x .some in omega arith);
+        below = (let b = x .few in omega arith);
+        kind-is = of-kind (getD values q 0) (x .some) (x .few);
+        means = λ e depth node. by q (getD values q 0) (x .some) (x .few) e depth (x .is e depth node);
+      }
 
 -- ---- the rows of a THEN
 
@@ -380,8 +403,8 @@ module _ {rule : List ℕ} {at : ℕ} {table : List ℕ} {t : Table} {code count
         pub onward : used ≤ used′
         pub few : used′ ≤ 258
         pub grown : Grown used kinds₁ payloads₁ kinds₂ payloads₂
-        pub others : (q : ℕ) → (wantedRows w₁ n classes₁ k q → ⊥) → getD classes₂ q 0 ≡ getD classes₁ q 0
-        pub here : (q : ℕ) → wantedRows w₁ n classes₁ k q → Now q (getD classes₂ q 0)
+        pub others : (q : ℕ) → (WantedRows w₁ n classes₁ k q → ⊥) → getD classes₂ q 0 ≡ getD classes₁ q 0
+        pub here : (q : ℕ) → WantedRows w₁ n classes₁ k q → Now q (getD classes₂ q 0)
 
       stepped : Stepped
       stepped = go (ℕ-discrete (getD kinds₁ k 0) code)

@@ -18,7 +18,7 @@ use Rattle.case.specs.Frame.{Listed}
 use Rattle.case.specs.Evaluation.{Framed, rowIn}
 use Rattle.case.specs.Results.{ResultsRead}
 use Rattle.case.specs.Write.{classValue}
-use Rattle.case.specs.Classes.{RootAsks, CaseTree, CaseValues, ThensAsk, ThensClassed, ClassesGive}
+use Rattle.case.specs.Classes.{RootAsks, RootResults, CaseTree, CaseValues, ThensAsk, ThensClassed, ClassesGive}
 
 -- ---- the list of all rows
 
@@ -52,22 +52,53 @@ classes-none a b c = record {
   right = λ h. absurd (false≢true h);
 }
 
-module _ {rule table : List ℕ} {t : Table} {w classes kinds payloads : List ℕ} {found place code count : ℕ} {to : DataType} (low : 2 ≤ code)
-    (values : CaseValues rule 0 (length rule) table t w (t .rows) classes found) (there : found ≡ 0 → ⊥) (counted : count ≡ byte rule 4) (small : count ≤ 255)
-    (read : ResultsRead rule place (length rule) count to kinds payloads) where
-  pub thens-ask : getD kinds (count + 1) 0 ≡ code → ThensAsk code count w (t .rows) classes kinds payloads
-  thens-ask last = record {
-    classes-long = values .long;
-    arrays = (read .kinds-long, read .payloads-long);
-    some-kind = omega arith;
-    few = small;
-    each = λ q l. let x = values .each there q l in (x .some, (let f = x .few in omega arith));
-    else-kind = last;
+-- ---- the root's results
+
+module _ {rule kinds payloads : List ℕ} {place code count : ℕ} {to : DataType} (counted : count ≡ byte rule 4) (types : TypeGives rule 0 to) (read : ResultsRead rule place (length rule) count to kinds payloads) where
+  pub results-none : RootResults rule code 0 kinds payloads
+  results-none = record {
+    kinds-long = read .kinds-long;
+    payloads-long = read .payloads-long;
+    type = to;
+    type-is = types;
+    read = λ there. absurd (there refl);
+    else-kind = λ there. absurd (there refl);
   }
 
-  pub classes-give : {result : DataType} {given : Bool} {w′ classes′ kinds′ payloads′ : List ℕ} → RootAsks t w table → code ≡ typeNumber result → code ≤ 4 → found ≡ place → TypeGives rule 0 to
+  pub results-give : getD kinds (count + 1) 0 ≡ code → RootResults rule code place kinds payloads
+  results-give last = record {
+    kinds-long = read .kinds-long;
+    payloads-long = read .payloads-long;
+    type = to;
+    type-is = types;
+    read = λ there. subst (λ (n : ℕ). ResultsRead rule place (length rule) n to kinds payloads) counted read;
+    else-kind = λ there. subst (λ (n : ℕ). getD kinds (n + 1) 0 ≡ code) counted last;
+  }
+
+-- ---- the classes
+
+module _ {rule table : List ℕ} {t : Table} {w classes kinds payloads : List ℕ} {found place code count : ℕ} (low : 2 ≤ code)
+    (values : CaseValues rule 0 (length rule) table t w (t .rows) classes found) (is : found ≡ place) (there : place ≡ 0 → ⊥) (counted : count ≡ byte rule 4) (small : count ≤ 255)
+    (results : RootResults rule code place kinds payloads) where
+  given-index : found ≡ 0 → ⊥
+  given-index e = there (sym is ∙ e)
+
+  read : ResultsRead rule place (length rule) count (results .type) kinds payloads
+  read = subst (λ (n : ℕ). ResultsRead rule place (length rule) n (results .type) kinds payloads) (sym counted) (results .read there)
+
+  pub thens-ask : ThensAsk code count w (t .rows) classes kinds payloads
+  thens-ask = record {
+    classes-long = values .long;
+    arrays = (results .kinds-long, results .payloads-long);
+    some-kind = omega arith;
+    few = small;
+    each = λ q l. let x = values .each given-index q l in (x .some, (let f = x .few in omega arith));
+    else-kind = subst (λ (n : ℕ). getD kinds (n + 1) 0 ≡ code) (sym counted) (results .else-kind there);
+  }
+
+  pub classes-give : {result : DataType} {given : Bool} {w′ classes′ kinds′ payloads′ : List ℕ} → RootAsks t w table → code ≡ typeNumber result → code ≤ 4
       → ThensClassed rule place table t code count w (t .rows) classes kinds payloads given w′ classes′ kinds′ payloads′ → ClassesGive rule table t result w given w′ classes′ kinds′ payloads′
-  classes-give {given = given} {classes′ = classes′} {kinds′} {payloads′} asks code-is high is types thens = record {
+  classes-give {given = given} {classes′ = classes′} {kinds′} {payloads′} asks code-is high thens = record {
     long = thens .long;
     low = thens .low;
     classes-long = thens .classes-long;
@@ -81,7 +112,7 @@ module _ {rule table : List ℕ} {t : Table} {w classes kinds payloads : List �
       number = (omega arith, omega arith);
       each = λ i l. let r = thens .here h i (root-listed asks i l) in (r .below, r .kind-is ∙ code-is);
     };
-    right = λ h. record { right = λ e node i l. means h e i l (values .each there i (root-listed asks i l) .is e 7 node) };
+    right = λ h. record { right = λ e node i l. means h e i l (values .each given-index i (root-listed asks i l) .is e 7 node) };
   }
     where
       means : given ≡ true → (e : Expr) (i : ℕ) → i < t .rows → CaseTree rule 0 (length rule) table t found 7 i (getD classes i 0) e
@@ -90,6 +121,6 @@ module _ {rule table : List ℕ} {t : Table} {w classes kinds payloads : List �
           let row = rowIn table t i in
           let trees = subst (λ (x : ℕ). TreesAt rule x (length rule) (branchTrees (tree .bs) ++ optionalTrees (tree .els)) 7) is (tree .trees) in
           let many = tree .counted ∙ sym counted in
-          thens .here h i (root-listed asks i l) .means (tree .bs) (optionalTrees (tree .els)) (length rule) (evalElse (tree .els) row to) trees many
+          thens .here h i (root-listed asks i l) .means (tree .bs) (optionalTrees (tree .els)) (length rule) (evalElse (tree .els) row (results .type)) trees many
           (λ j b k. read .held (tree .bs) (tree .els) 7 row table trees many j b (inr (λ z. omega arith)))
-          ∙ sym (tree .outcome to types)
+          ∙ sym (tree .outcome (results .type) (results .type-is))

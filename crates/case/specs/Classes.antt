@@ -19,6 +19,7 @@ use Rattle.case.specs.Frame.{rowAt, Listed}
 use Rattle.case.specs.LookUpTables.{valueAt}
 use Rattle.case.specs.Evaluation.{rowIn, resultAt, indexed}
 use Rattle.case.specs.LookUp.{KeyedGive}
+use Rattle.case.specs.Results.{ResultsRead}
 use Rattle.case.specs.Steps.{StepsGive}
 use Rattle.case.specs.Readings.{RowsRight}
 use Rattle.case.specs.Write.{classValue, ClassesAsk}
@@ -29,6 +30,15 @@ pub record RootAsks (t : Table) (w table : List ℕ) : Type 0 where
   pub room : 13312 ≤ length w
   pub short : length table ≤ 65536
   pub rows-are : (i : ℕ) → i < t .rows → rowAt w 0 i ≡ i
+
+-- the literals among the root CASE's results, ELSE's of a kind, and where its branches stand; place 0 is none
+pub record RootResults (rule : List ℕ) (code place : ℕ) (kinds payloads : List ℕ) : Type 0 where
+  pub kinds-long : length kinds ≡ 258
+  pub payloads-long : length payloads ≡ 258
+  pub type : DataType
+  pub type-is : TypeGives rule 0 type
+  pub read : (place ≡ 0 → ⊥) → ResultsRead rule place (length rule) (byte rule 4) type kinds payloads
+  pub else-kind : (place ≡ 0 → ⊥) → getD kinds (byte rule 4 + 1) 0 ≡ code
 
 -- the branches and ELSE of a CASE, which stand at a place, and the outcome of a row by an index of them
 pub record CaseTree (rule : List ℕ) (start end : ℕ) (table : List ℕ) (t : Table) (place depth q c : ℕ) (e : Expr) : Type 0 where
@@ -89,6 +99,20 @@ pub record BlockRead (rule : List ℕ) (at end count : ℕ) (to : DataType) (fro
   pub held : (bs : Branches) (els : Optional) (depth : ℕ) (row : Row) (table : List ℕ) → TreesAt rule at end (branchTrees bs ++ optionalTrees els) depth → branchCount bs ≡ count
       → (j : ℕ) → j ≤ count → (getD kinds (from + suc j) 0 ≡ 0 → ⊥) → meaning rule table (valueAt kinds payloads (from + suc j)) ≡ resultAt bs row (evalElse els row to) j
 
+-- the results of the CASE at a place are the classes behind a class, all of a kind; its branches stand at a place
+pub record NestedRead (rule : List ℕ) (start end code from place : ℕ) (kinds payloads : List ℕ) : Type 0 where
+  pub inside : start < length rule
+  pub room : from + byte rule (start + 4) + 3 ≤ 258
+  pub type : DataType
+  pub type-is : TypeGives rule start type
+  pub read : BlockRead rule place end (byte rule (start + 4)) type from kinds payloads
+  pub of-kind : allOfKind kinds code from (byte rule (start + 4) + 1) ≡ true
+
+-- place 0 is none
+pub record NestedResults (rule : List ℕ) (start end code from : ℕ) (kinds payloads : List ℕ) (place : ℕ) (kinds′ payloads′ : List ℕ) : Type 0 where
+  pub grown : Grown from kinds payloads kinds′ payloads′
+  pub found : (place ≡ 0 → ⊥) → NestedRead rule start end code from place kinds′ payloads′
+
 -- ---- the classes of a list's rows
 
 -- the class of each listed row is its index behind a class, any other is unchanged
@@ -114,15 +138,15 @@ pub record CaseClassed (wanted : ℕ → Type 0) (rule : List ℕ) (start end : 
   pub here : (used ≡ 0 → ⊥) → (q : ℕ) → wanted q → ClassRight rule start end table t kinds′ payloads′ code from used q (getD classes′ q 0)
 
 -- the listed rows of a class
-abbrev pub wantedRows : List ℕ → ℕ → List ℕ → ℕ → ℕ → Type 0
-wantedRows w n classes class q = Listed w 0 n q × (getD classes q 0 ≡ class)
+abbrev pub WantedRows : List ℕ → ℕ → List ℕ → ℕ → ℕ → Type 0
+WantedRows w n classes class q = Listed w 0 n q × (getD classes q 0 ≡ class)
 
 -- the rows of a class: unchanged where it is a literal of the kind, else classed by a node
 pub record ThenClassed (rule : List ℕ) (start end : ℕ) (table : List ℕ) (t : Table) (code : ℕ) (w : List ℕ) (n class from : ℕ) (classes kinds payloads : List ℕ) (used : ℕ) (w′ classes′ kinds′ payloads′ : List ℕ) : Type 0 where
   pub long : length w′ ≡ length w
   pub low : (j : ℕ) → j < 6656 → byte w′ j ≡ byte w j
   pub same : getD kinds class 0 ≡ code → (used ≡ from) × (classes′ ≡ classes) × (kinds′ ≡ kinds) × (payloads′ ≡ payloads)
-  pub found : (getD kinds class 0 ≡ code → ⊥) → CaseClassed (wantedRows w n classes class) rule start end table t code from classes kinds payloads used classes′ kinds′ payloads′
+  pub found : (getD kinds class 0 ≡ code → ⊥) → CaseClassed (WantedRows w n classes class) rule start end table t code from classes kinds payloads used classes′ kinds′ payloads′
 
 -- what the THENs of the root CASE ask: each listed row has the class of a result, from 1, and that of ELSE is of the kind
 pub record ThensAsk (code count : ℕ) (w : List ℕ) (n : ℕ) (classes kinds payloads : List ℕ) : Type 0 where

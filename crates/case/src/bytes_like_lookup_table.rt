@@ -44,21 +44,12 @@ fn byte_in(rule: &[u8], table: &[u8], kind: u8, at: usize) -> u8
     table[at]
 }
 
-// Whether a text is the bytes from a place on. Four at a time from the back: names often begin alike.
-fn same_in(rule: &[u8], table: &[u8], kind: u8, start: usize, text: &[u8]) -> bool
+// Whether a text is the bytes from a place on, one at a time from the back.
+fn same_short(rule: &[u8], table: &[u8], kind: u8, start: usize, text: &[u8]) -> bool
     requires { ⌜ length (now text) ≤ length (bytesOf kind (now rule) (now table)) - start ⌝ }
     ensures { λ r. ⌜ r ≡ sameBytes (now (text .entry)) (placeText (bytesOf kind (now (rule .entry)) (now (table .entry))) start (length (now (text .entry)))) ⌝ }
 {
     let mut left = text.len();
-    while 4 <= left {
-        left -= 4;
-        if word(text, left) != word_in(rule, table, kind, start + left) {
-            return false;
-        }
-    }
-    if 4 <= text.len() {
-        return word(text, 0) == word_in(rule, table, kind, start);
-    }
     while 0 < left {
         left -= 1;
         if text[left] != byte_in(rule, table, kind, start + left) {
@@ -66,6 +57,24 @@ fn same_in(rule: &[u8], table: &[u8], kind: u8, start: usize, text: &[u8]) -> bo
         }
     }
     true
+}
+
+// The same, four at a time where there are so many: names often begin alike.
+fn same_in(rule: &[u8], table: &[u8], kind: u8, start: usize, text: &[u8]) -> bool
+    requires { ⌜ length (now text) ≤ length (bytesOf kind (now rule) (now table)) - start ⌝ }
+    ensures { λ r. ⌜ r ≡ sameBytes (now (text .entry)) (placeText (bytesOf kind (now (rule .entry)) (now (table .entry))) start (length (now (text .entry)))) ⌝ }
+{
+    if text.len() < 4 {
+        return same_short(rule, table, kind, start, text);
+    }
+    let mut left = text.len();
+    while 4 <= left {
+        left -= 4;
+        if word(text, left) != word_in(rule, table, kind, start + left) {
+            return false;
+        }
+    }
+    word(text, 0) == word_in(rule, table, kind, start)
 }
 
 // Whether a key, by its kind and payload, is a text of these bytes. The sizes tell most texts apart.

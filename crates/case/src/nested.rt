@@ -16,7 +16,7 @@ ghost use Prim.Native.Nat.{ℕ, _+_, _*_, _<_, _≤_};
 ghost use lib.ListN.{length, getD};
 ghost use Rattle.case.specs.Frame.{Rows, Listed};
 ghost use Rattle.case.specs.Evaluation.{Framed};
-ghost use Rattle.case.specs.Classes.{allOfKind, Arrays, BlockCopied, BlockRead, Grown, Numbered, CaseClassed, ThenClassed, ThensAsk, ThensClassed};
+ghost use Rattle.case.specs.Classes.{allOfKind, Arrays, BlockCopied, BlockRead, NestedResults, Grown, Numbered, CaseClassed, ThenClassed, ThensAsk, ThensClassed};
 
 // A literal's tag.
 const LITERAL: u8 = 17;
@@ -88,7 +88,7 @@ fn read_block(
 }
 
 // The class of each listed row: its index behind a class.
-fn number_rows(work: &[u8], n: usize, values: &[u16], from: usize, classes: &mut [u16])
+fn class_listed(work: &[u8], n: usize, values: &[u16], from: usize, classes: &mut [u16])
     requires { ⌜ Rows (now work) 0 n 512 × (2 * n ≤ length (now work)) ⌝ }
     requires { ⌜ (length (now values) ≡ 512) × (length (now classes) ≡ 512) × ((q : ℕ) → Listed (now work) 0 n q → from + getD (now values) q 0 < 258) ⌝ }
     ensures { λ _. ⌜ Numbered (now (work .entry)) n (now (values .entry)) from (now (classes .entry)) (now (classes .exit)) ⌝ }
@@ -101,25 +101,18 @@ fn number_rows(work: &[u8], n: usize, values: &[u16], from: usize, classes: &mut
     }
 }
 
-// The class of each listed row by the CASE at a place, whose results are all literals of a kind, behind a class: the class behind them; 0 where they are not
-// found so.
-fn nested_case(
+// The results of the CASE at a place as the classes behind a class, and where its branches stand; 0 where they are not all literals of a kind or are too many.
+fn nested_results(
     rule: &[u8],
     start: usize,
     end: usize,
-    table: &[u8],
-    t: Table,
     code: u8,
-    work: &[u8],
-    n: usize,
-    classes: &mut [u16],
+    from: usize,
     kinds: &mut [u8],
     payloads: &mut [u64],
-    from: usize,
 ) -> usize
-    requires { ⌜ Framed (now table) t (now work) n 1 ⌝ }
-    requires { ⌜ (length (now classes) ≡ 512) × Arrays (now kinds) (now payloads) × (0 < code) ⌝ }
-    ensures { λ r. ⌜ CaseClassed (Listed (now (work .entry)) 0 n) (now (rule .entry)) start end (now (table .entry)) t code from (now (classes .entry)) (now (kinds .entry)) (now (payloads .entry)) r (now (classes .exit)) (now (kinds .exit)) (now (payloads .exit)) ⌝ }
+    requires { ⌜ Arrays (now kinds) (now payloads) ⌝ }
+    ensures { λ r. ⌜ NestedResults (now (rule .entry)) start end code from (now (kinds .entry)) (now (payloads .entry)) r (now (kinds .exit)) (now (payloads .exit)) ⌝ }
 {
     if rule.len() <= start {
         return 0;
@@ -142,19 +135,43 @@ fn nested_case(
         kinds,
         payloads,
     );
-    if !all_of_kind(kinds, from, count + 1, code) {
+    if all_of_kind(kinds, from, count + 1, code) {
+        return place;
+    }
+    0
+}
+
+// The class of each listed row by the CASE at a place, whose results are all literals of a kind, behind a class: the class behind them; 0 where they are not
+// found so.
+fn nested_case(
+    rule: &[u8],
+    start: usize,
+    end: usize,
+    table: &[u8],
+    t: Table,
+    code: u8,
+    work: &[u8],
+    n: usize,
+    classes: &mut [u16],
+    kinds: &mut [u8],
+    payloads: &mut [u64],
+    from: usize,
+) -> usize
+    requires { ⌜ Framed (now table) t (now work) n 1 ⌝ }
+    requires { ⌜ (length (now classes) ≡ 512) × Arrays (now kinds) (now payloads) × (0 < code) ⌝ }
+    ensures { λ r. ⌜ CaseClassed (Listed (now (work .entry)) 0 n) (now (rule .entry)) start end (now (table .entry)) t code from (now (classes .entry)) (now (kinds .entry)) (now (payloads .entry)) r (now (classes .exit)) (now (kinds .exit)) (now (payloads .exit)) ⌝ }
+{
+    let place = nested_results(rule, start, end, code, from, kinds, payloads);
+    if place == 0 {
         return 0;
     }
     let mut values = [0u16; 512];
     let found = case_values(rule, start, end, table, t, work, n, &mut values);
-    if found == 0 {
-        return 0;
-    }
     if found != place {
         return 0;
     }
-    number_rows(work, n, &values, from, classes);
-    from + count + 3
+    class_listed(work, n, &values, from, classes);
+    from + byte_at(rule, start + 4) as usize + 3
 }
 
 // The rows of a THEN's class, where that is no literal of the kind: their classes by the CASE that the THEN is, behind a class; the class behind them, 0 where they are

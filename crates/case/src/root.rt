@@ -14,7 +14,7 @@ use table::places::Table;
 ghost use mathlib.Core.Path.{_≡_};
 ghost use Prim.Native.Nat.{ℕ};
 ghost use lib.ListN.{length, getD};
-ghost use Rattle.case.specs.Classes.{RootAsks, ClassesGive};
+ghost use Rattle.case.specs.Classes.{RootAsks, RootResults, ClassesGive};
 
 // The class of each row and the literals of the classes, where every row has one and all are numbers of the result's type.
 pub(crate) fn class_rows(
@@ -38,6 +38,34 @@ pub(crate) fn class_rows(
     if 4 < code {
         return false;
     }
+    let place = root_results(rule, code, kinds, payloads);
+    if place == 0 {
+        return false;
+    }
+    let found = case_values(rule, 0, rule.len(), table, t, work, t.rows, classes);
+    if found != place {
+        return false;
+    }
+    nested_thens(
+        rule,
+        place,
+        byte_at(rule, 4) as usize,
+        table,
+        t,
+        code,
+        work,
+        t.rows,
+        classes,
+        kinds,
+        payloads,
+    )
+}
+
+// The literals among the root CASE's results, and where its branches stand; 0 where ELSE is no literal of the kind or the rows have no classes by the tags.
+fn root_results(rule: &[u8], code: u8, kinds: &mut [u8], payloads: &mut [u64]) -> usize
+    requires { ⌜ (length (now kinds) ≡ 258) × (length (now payloads) ≡ 258) × ((i : ℕ) → getD (now kinds) i 0 ≡ 0) ⌝ }
+    ensures { λ r. ⌜ RootResults (now (rule .entry)) code r (now (kinds .exit)) (now (payloads .exit)) ⌝ }
+{
     let at = children_at(rule, 0);
     let place = branches_at(rule, 0, at);
     let count = byte_at(rule, 4) as usize;
@@ -51,29 +79,10 @@ pub(crate) fn class_rows(
         payloads,
     );
     if kinds[count + 1] != code {
-        return false;
+        return 0;
     }
-    if !may_class(rule, place, count, kinds, code) {
-        return false;
+    if may_class(rule, place, count, kinds, code) {
+        return place;
     }
-    let found = case_values(rule, 0, rule.len(), table, t, work, t.rows, classes);
-    if found == 0 {
-        return false;
-    }
-    if found != place {
-        return false;
-    }
-    nested_thens(
-        rule,
-        place,
-        count,
-        table,
-        t,
-        code,
-        work,
-        t.rows,
-        classes,
-        kinds,
-        payloads,
-    )
+    0
 }

@@ -1,10 +1,10 @@
--- `number_rows` puts a class for each listed row. The loop's invariant: the first rows have theirs.
+-- `class_listed` puts a class for each listed row. The loop's invariant: the first rows have theirs.
 use mathlib.Core.Path.{sym, _∙_}
 use Prim.Native.Nat.{_-_}
 use native.Mathlib.Omega.{arith}
 use Rattle.case.proofs.NestedLaws.{NumberedSoFar, numbered-none, numbered-all, number-in, number-listed, numbered-next}
-use Rattle.case.proofs.nested.number_rows.Statement.{statement}
-use Rattle.case.proofs.nested.number_rows.Tie as tie
+use Rattle.case.proofs.nested.class_listed.Statement.{statement}
+use Rattle.case.proofs.nested.class_listed.Tie as tie
 
 abbrev Inv-loop : tie.InvT-loop
 Inv-loop work n values from classes₀ i₀ classes i = NumberedSoFar work n values from classes₀ classes i
@@ -12,8 +12,8 @@ Inv-loop work n values from classes₀ i₀ classes i = NumberedSoFar work n val
 abbrev μ-loop : tie.MeasureT-loop
 μ-loop work n values from classes₀ i₀ classes i = n - i
 
-pub number-rows-spec : {M : Type 1} → statement M
-number-rows-spec =
+pub class-listed-spec : {M : Type 1} → statement M
+class-listed-spec =
     tie.close
     (tie.spec
     Inv-loop
