@@ -107,4 +107,5 @@ def main(count):
             print("  ", " ".join(counts), "instructions", flush=True)
 
 
-main("--count" in sys.argv[1:])
+if __name__ == "__main__":
+    main("--count" in sys.argv[1:])
