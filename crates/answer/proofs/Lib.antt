@@ -7,4 +7,5 @@ pub mod ColumnPutLaws
 pub mod ColumnLaws
 pub mod SlotRunLaws
 pub mod PlainLaws
+pub mod FitLaws
 pub mod ClearLaws

@@ -157,11 +157,15 @@ module _ {kind : ℕ → ℕ} {rows : ℕ} {t : DataType} (plain : PlainRows kin
       let a = plain .number in
       number-is (kind i) (payload i) (omega arith) (omega arith) (fit i)
 
+  -- its kind is the type's number
+  pub kind-plain : (i : ℕ) → i < rows → kindOf (plainValue i) ≡ typeNumber t
+  kind-plain i h = row-is i h .kind-is ∙ plain .kind-is i h
+
   -- no row is of a kind that is no number's
   none-other : (k : ℕ) → (typeNumber t ≡ k → ⊥) → false ≡ someOfKind plainValue k rows
   none-other k n =
       sym (any-none (λ i. eqb (kindOf (plainValue i)) k) rows
-      (λ i h. ne-eqb (kindOf (plainValue i)) k (λ e. n (sym (row-is i h .kind-is ∙ plain .kind-is i h) ∙ e))))
+      (λ i h. ne-eqb (kindOf (plainValue i)) k (λ e. n (sym (kind-plain i h) ∙ e))))
 
   -- none failed
   none-failed : false ≡ someOfKind plainValue 7 rows

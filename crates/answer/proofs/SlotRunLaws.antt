@@ -7,7 +7,7 @@ use native.Mathlib.Nat.{zero-add}
 use native.Mathlib.Omega.{arith}
 use lib.Dec.{eqb}
 use lib.ListN.{length, drop, length-append}
-use borrow.Author.Tests.{le-leb, lt-leb}
+use borrow.Author.Tests.{eqb-true, le-leb, lt-leb}
 use Rattle.layout.specs.Result.{Result, refused, ok, _>>=_}
 use Rattle.layout.specs.Bytes.{bitmapLength}
 use Rattle.layout.specs.Field.{fieldBytes}
@@ -15,7 +15,7 @@ use Rattle.scalar.specs.declared.types.DataType.{DataType}
 use Rattle.scalar.specs.declared.types.DataType.the-variants as DataType
 use Rattle.scalar.specs.declared.value.Value.{Value}
 use Rattle.scalar.specs.declared.value.Value.the-variants.{Null, Boolean, Int32, Int64, Float64, Nan, RuleText, TableText, Failed}
-use Rattle.scalar.specs.Entry.{Entry, utf8, Outcome, entry, unfit, ofType, outcomeOfType}
+use Rattle.scalar.specs.Entry.{Entry, Outcome, entry, unfit}
 use Rattle.scalar.specs.Value.{meaning, kindOf}
 use Rattle.scalar.specs.Order.{textIn}
 use Rattle.scalar.specs.TryCast.{orNull}
@@ -24,7 +24,8 @@ use Rattle.answer.specs.declared.RunAnswer.{RunAnswer}
 use Rattle.answer.specs.declared.RunAnswer.the-variants.{Answered, Refused}
 use Rattle.answer.specs.Answer.{columnOf, columnBytes, textLength}
 use Rattle.answer.specs.Written.{rowsFrom, entriesOf, textMost, writtenAs, runAnswer, outputAfter}
-use Rattle.answer.specs.Write.{rowOutcomes, rowsRun, RowsOfType, WriteGives}
+use Rattle.answer.specs.Slots.{slotAt}
+use Rattle.answer.specs.Write.{rowOutcomes, rowsRun, WriteGives, WriteAsks, kindFits}
 use Rattle.answer.specs.Writing.{wrote, Wrote, rowBytes, someOfKind, rowEntries, rowText, rowOffset, rowValidity, rowValues, rowColumn, validitySize, valuesSize}
 use Rattle.answer.proofs.WroteLaws.{length-field, wrote-as}
 use Rattle.answer.proofs.ColumnPutLaws.{bits-size, numbers-size, offsets-size, rows-empty, validity-size}
@@ -197,37 +198,33 @@ module _ (rule table : List ℕ) (v : ℕ → Value) (rows : ℕ) (t : DataType)
 
 -- ---- text only in a column of text
 
--- a value of a type that is not text has none
-text-typed : (rule table : List ℕ) (t : DataType) (v : Value) → ((x : List ℕ) → ofType t (utf8 x) ≡ false) → outcomeOfType t (meaning rule table v) ≡ true → textIn rule table v ≡ []
-text-typed rule table t Null never h = refl
-text-typed rule table t (Boolean b) never h = refl
-text-typed rule table t (Int32 n) never h = refl
-text-typed rule table t (Int64 n) never h = refl
-text-typed rule table t (Float64 f) never h = refl
-text-typed rule table t (Nan n) never h = refl
-text-typed rule table t (RuleText start size) never h = absurd (false≢true (sym (never _) ∙ h))
-text-typed rule table t (TableText start size) never h = absurd (false≢true (sym (never _) ∙ h))
-text-typed rule table t Failed never h = refl
+-- a value of a kind that fits a type that is not text has none
+text-typed : (rule table : List ℕ) (code : ℕ) (v : Value) → (code ≡ 5 → ⊥) → kindFits code (kindOf v) ≡ true → textIn rule table v ≡ []
+text-typed rule table code Null never h = refl
+text-typed rule table code (Boolean b) never h = refl
+text-typed rule table code (Int32 n) never h = refl
+text-typed rule table code (Int64 n) never h = refl
+text-typed rule table code (Float64 f) never h = refl
+text-typed rule table code (Nan n) never h = refl
+text-typed rule table code (RuleText start size) never h = absurd (never (sym (eqb-true 5 code h)))
+text-typed rule table code (TableText start size) never h = absurd (never (eqb-true code 5 h))
+text-typed rule table code Failed never h = refl
 
--- nor have the rows
-no-texts : (rule table : List ℕ) (v : ℕ → Value) (rows : ℕ) (t s : DataType) → RowsOfType rule table v rows t → t ≡ s → ((x : List ℕ) → ofType s (utf8 x) ≡ false) → 0 ≡ length (rowBytes (rowText rule table v) rows)
-no-texts rule table v rows t s ask e never =
-    sym (rows-empty (rowText rule table v) rows (λ i h. text-typed rule table t (v i) (λ x. ap (λ (d : DataType). ofType d (utf8 x)) e ∙ never x) (ask .typed i h)))
+module _ {rule table w : List ℕ} {rows : ℕ} {t : DataType} (ask : WriteAsks rule table w rows t) where
+  -- nor have the rows
+  no-texts : (s : DataType) → t ≡ s → (typeNumber s ≡ 5 → ⊥) → 0 ≡ length (rowBytes (rowText rule table (slotAt w)) rows)
+  no-texts s e never =
+      sym (rows-empty (rowText rule table (slotAt w)) rows (λ i h. text-typed rule table (typeNumber t) (slotAt w i) (λ x. never (ap typeNumber (sym e) ∙ x)) (ask .each i h)))
 
-module _ (rule table : List ℕ) (v : ℕ → Value) (rows : ℕ) (t : DataType) (ask : RowsOfType rule table v rows t) where
   -- each type that is not text
-  pub boolean-text : t ≡ DataType.Boolean → 0 ≡ length (rowBytes (rowText rule table v) rows)
-  unfolding ofType
-  boolean-text e = no-texts rule table v rows t DataType.Boolean ask e (λ x. refl)
+  pub boolean-text : t ≡ DataType.Boolean → 0 ≡ length (rowBytes (rowText rule table (slotAt w)) rows)
+  boolean-text e = no-texts DataType.Boolean e (λ x. omega arith)
 
-  pub int32-text : t ≡ DataType.Int32 → 0 ≡ length (rowBytes (rowText rule table v) rows)
-  unfolding ofType
-  int32-text e = no-texts rule table v rows t DataType.Int32 ask e (λ x. refl)
+  pub int32-text : t ≡ DataType.Int32 → 0 ≡ length (rowBytes (rowText rule table (slotAt w)) rows)
+  int32-text e = no-texts DataType.Int32 e (λ x. omega arith)
 
-  pub int64-text : t ≡ DataType.Int64 → 0 ≡ length (rowBytes (rowText rule table v) rows)
-  unfolding ofType
-  int64-text e = no-texts rule table v rows t DataType.Int64 ask e (λ x. refl)
+  pub int64-text : t ≡ DataType.Int64 → 0 ≡ length (rowBytes (rowText rule table (slotAt w)) rows)
+  int64-text e = no-texts DataType.Int64 e (λ x. omega arith)
 
-  pub float64-text : t ≡ DataType.Float64 → 0 ≡ length (rowBytes (rowText rule table v) rows)
-  unfolding ofType
-  float64-text e = no-texts rule table v rows t DataType.Float64 ask e (λ x. refl)
+  pub float64-text : t ≡ DataType.Float64 → 0 ≡ length (rowBytes (rowText rule table (slotAt w)) rows)
+  float64-text e = no-texts DataType.Float64 e (λ x. omega arith)

@@ -39,6 +39,11 @@ unfoldable pub anyRow : (ℕ → Bool) → ℕ → Bool
 anyRow f zero = false
 anyRow f (suc n) = cond (f n) true (anyRow f n)
 
+-- each of the first rows passes a test
+unfoldable pub eachRow : (ℕ → Bool) → ℕ → Bool
+eachRow f zero = true
+eachRow f (suc n) = cond (f n) (eachRow f n) false
+
 -- some of the first rows has a value of a kind
 abbrev pub someOfKind : (ℕ → Value) → ℕ → ℕ → Bool
 someOfKind v k rows = anyRow (λ i. eqb (kindOf (v i)) k) rows

@@ -3,11 +3,11 @@ use crate::RunAnswer;
 use crate::put::put_header;
 use crate::put::put_number;
 use crate::put::put_type;
-use layout::number::read_u64;
 use crate::write::VALIDITY;
 use crate::write::VALUES;
 use crate::write::column_size;
 use crate::write::values_size;
+use layout::number::read_u64;
 use rule::types::type_number;
 use scalar::types::DataType;
 ghost use mathlib.Core.List.{List};
@@ -20,7 +20,7 @@ ghost use Rattle.answer.specs.Writing.{Wrote, RowsAsk, rowBytes, plainFr
 // Numbers of the first and of the last type of numbers; an Int32 takes four bytes, any other eight.
 pub(crate) const INT32: u8 = 2;
 
-const FLOAT64: u8 = 4;
+pub(crate) const FLOAT64: u8 = 4;
 
 // Whether every row's slot has a number of the answer's type.
 pub(crate) fn plain_rows(work: &[u8], rows: usize, t: DataType) -> bool

@@ -12,5 +12,8 @@ pub(crate) fn get_slot(work: &[u8], row: usize) -> Value
     requires { ⌜ row < 512 ⌝ }
     ensures { λ r. ⌜ r ≡ slotAt (now (work .entry)) row ⌝ }
 {
-    value_of(byte_at(work, 1024 + 9 * row), read_u64(work, 1025 + 9 * row))
+    value_of(
+        byte_at(work, 1024 + 9 * row),
+        read_u64(work, 1025 + 9 * row),
+    )
 }

@@ -11,6 +11,7 @@ use crate::texts::put_offsets;
 use crate::texts::put_texts;
 use crate::texts::text_length;
 use layout::bits::bitmap_length;
+use rule::types::type_number;
 use scalar::types::DataType;
 use scalar::value::kind;
 ghost use mathlib.Core.Path.{_≡_};
@@ -20,16 +21,28 @@ ghost use lib.ListN.{length};
 ghost use Rattle.layout.specs.Bytes.{bitmapLength};
 ghost use Rattle.layout.specs.Field.{fieldBytes};
 ghost use Rattle.answer.specs.Slots.{slotAt};
-ghost use Rattle.answer.specs.Write.{WriteAsks, WriteGives};
+ghost use Rattle.answer.specs.Write.{RunGives, WriteGives, WriteAsks, kindFits, lengthsFit, slotsFit, slotsRun};
 ghost use Rattle.answer.specs.Writing.{Wrote, RowsAsk, someOfKind, rowBytes, rowNumbers, rowBits, rowText, rowOffset, rowValidity, rowValues, rowColumn, validitySize, valuesSize};
+
+// Most rows, where their slots end, and most bytes of a rule and of a table.
+pub(crate) const ROWS_MOST: usize = 512;
+
+const SLOTS_END: usize = 5632;
+
+const BYTES_MOST: usize = 65536;
 
 // Most bytes of the answer's text.
 const TEXT_MOST: usize = 65535;
 
-// Kinds of a slot's value.
+// Kinds of a slot's value; the others are the types' numbers.
 const NULL: u8 = 0;
 
+const TABLE_TEXT: u8 = 6;
+
 const FAILED: u8 = 7;
+
+// The number of the type of texts.
+const UTF8: u8 = 5;
 
 // Tags of a column's fields behind the first.
 pub(crate) const VALIDITY: u8 = 3;
@@ -38,8 +51,80 @@ pub(crate) const VALUES: u8 = 4;
 
 const OFFSETS: u8 = 5;
 
-// The answer at the front of the output, and its length; or 15, 16 or 17, and the output is unchanged.
-pub(crate) fn write_answer(
+// The answer at the front of the output, and its length; or 15, 16 or 17, and the output is unchanged. 0, which is no refusal of a run, says
+// that the slots are no column of the type.
+pub fn write_answer(
+    rule: &[u8],
+    table: &[u8],
+    work: &[u8],
+    rows: usize,
+    t: DataType,
+    nullable: bool,
+    output: &mut [u8],
+) -> RunAnswer
+    ensures { λ r. ⌜ RunGives (slotsRun (now (rule .entry)) (now (table .entry)) (now (work .entry)) rows t nullable (length (now (output .entry)))) (now (output .entry)) r (now (output .exit)) ⌝ }
+{
+    if !lengths_fit(rule, table, work, rows) {
+        return RunAnswer::Refused(0);
+    }
+    if plain_rows(work, rows, t) {
+        return write_plain(work, rows, t, nullable, output);
+    }
+    if !slots_fit(work, rows, type_number(t)) {
+        return RunAnswer::Refused(0);
+    }
+    write_rows(rule, table, work, rows, t, nullable, output)
+}
+
+// Whether the rows have slots, and their texts can be counted.
+fn lengths_fit(rule: &[u8], table: &[u8], work: &[u8], rows: usize) -> bool
+    ensures { λ r. ⌜ r ≡ lengthsFit (now (rule .entry)) (now (table .entry)) (now (work .entry)) rows ⌝ }
+{
+    if ROWS_MOST < rows {
+        return false;
+    }
+    if work.len() < SLOTS_END {
+        return false;
+    }
+    if BYTES_MOST < rule.len() {
+        return false;
+    }
+    table.len() <= BYTES_MOST
+}
+
+// Whether a column of the type with a number can have a value of a kind.
+fn kind_fits(code: u8, k: u8) -> bool
+    ensures { λ r. ⌜ r ≡ kindFits code k ⌝ }
+{
+    if k == NULL {
+        return true;
+    }
+    if k == FAILED {
+        return true;
+    }
+    if k == TABLE_TEXT {
+        return code == UTF8;
+    }
+    k == code
+}
+
+// Whether every row's slot has a value that a column of the type with a number can have.
+fn slots_fit(work: &[u8], rows: usize, code: u8) -> bool
+    requires { ⌜ RowsAsk (now work) rows ⌝ }
+    ensures { λ r. ⌜ r ≡ slotsFit code (now (work .entry)) rows ⌝ }
+{
+    let mut i = 0;
+    while i < rows {
+        if !kind_fits(code, kind(get_slot(work, i))) {
+            return false;
+        }
+        i += 1;
+    }
+    true
+}
+
+// The same of slots that are a column of the type: 15, 16, 17 or the answer.
+fn write_rows(
     rule: &[u8],
     table: &[u8],
     work: &[u8],
@@ -51,9 +136,6 @@ pub(crate) fn write_answer(
     requires { ⌜ WriteAsks (now rule) (now table) (now work) rows t ⌝ }
     ensures { λ r. ⌜ WriteGives (now (rule .entry)) (now (table .entry)) (slotAt (now (work .entry))) rows t nullable (now (output .entry)) r (now (output .exit)) ⌝ }
 {
-    if plain_rows(work, rows, t) {
-        return write_plain(work, rows, t, nullable, output);
-    }
     if some_of_kind(work, rows, FAILED) {
         return RunAnswer::Refused(15);
     }

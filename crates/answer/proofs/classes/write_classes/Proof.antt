@@ -1,8 +1,10 @@
--- `write_classes` gives 17, or puts the front and the numbers.
-use native.Mathlib.Omega.{arith}
+-- `write_classes` writes classes that are numbers of the type, and else says 0.
 use denote.Ref.{now}
-use Rattle.answer.specs.Write.{classPayload}
-use Rattle.answer.proofs.PlainLaws.{classes-plain, classes-in, class-fits, wide-is, plain-17, plain-room, plain-answer}
+use mathlib.Core.Path.{sym, _∙_}
+use lib.ListN.{length}
+use borrow.Author.Tests.{not-true, not-false}
+use Rattle.answer.specs.Write.{rowsRun, classValue}
+use Rattle.answer.proofs.FitLaws.{gives-0, gives-run, classes-ask}
 use borrow.Author.Needs.{needs}
 use Rattle.answer.proofs.classes.write_classes.Statement.{statement}
 use Rattle.answer.proofs.classes.write_classes.Tie as tie
@@ -12,9 +14,7 @@ write-classes-spec =
     tie.close
     (tie.spec
     (λ c κs. search needs)
-    (λ c. plain-17 (classes-plain (c .before .before .before .before .before .before .pre)) (classPayload (now (c .before .before .before .before .before .before .args .classes)) (now (c .before .before .before .before .before .before .args .payloads))) (class-fits (now (c .before .before .before .before .before .before .args .classes)) (now (c .before .before .before .before .before .before .args .payloads)) (λ i. omega (arith, c .before .before .before .shared-slice-known3 .given i))) (c .before .before .before .before .before .before .args .nullable) (c .before .column-size .ensures) (c .if1 .taken))
-    (λ c κs. search needs)
-    (λ c κs. search needs)
-    (λ c κs. (classes-in (c .before .before .before .before .before .before .before .before .before .before .before .before .pre), plain-room (classes-plain (c .before .before .before .before .before .before .before .before .before .before .before .before .pre)) (classPayload (now (c .before .before .before .before .before .before .before .before .before .before .before .before .args .classes)) (now (c .before .before .before .before .before .before .before .before .before .before .before .before .args .payloads))) (class-fits (now (c .before .before .before .before .before .before .before .before .before .before .before .before .args .classes)) (now (c .before .before .before .before .before .before .before .before .before .before .before .before .args .payloads)) (λ i. omega (arith, c .before .before .before .before .before .before .before .before .before .shared-slice-known3 .given i))) (c .before .before .before .before .before .before .before .before .before .before .before .before .args .nullable) (c .before .before .before .before .before .before .before .column-size .ensures) (c .before .before .before .before .before .before .if1 .left) (c .before .before .before .before .plain-front .ensures) (wide-is (c .before .before .before .before .before .before .before .before .before .before .before .before .args .t) (c .before .type-number .ensures))))
+    (λ c. λ rule table. gives-0 (rowsRun rule table (classValue (now (c .before .before .before .before .before .before .args .classes)) (now (c .before .before .before .before .before .before .args .kinds)) (now (c .before .before .before .before .before .before .args .payloads))) (c .before .before .before .before .before .before .args .rows) (c .before .before .before .before .before .before .args .t) (c .before .before .before .before .before .before .args .nullable) (length (now (c .before .before .before .before .before .before .args .output)))) (sym (c .before .classes-fit .ensures) ∙ not-true _ (c .if1 .taken)))
+    (λ c κs. classes-ask (c .before .before .before .before .before .before .before .args .rows) (now (c .before .before .before .before .before .before .before .args .classes)) (now (c .before .before .before .before .before .before .before .args .kinds)) (now (c .before .before .before .before .before .before .before .args .payloads)) (c .before .before .before .before .before .before .before .args .t) (sym (c .before .before .classes-fit .ensures) ∙ not-false _ (c .before .if1 .left)))
     (λ c. search needs)
-    (λ c. plain-answer (classes-plain (c .before .before .before .before .before .before .before .before .before .before .before .before .before .before .before .pre)) (classPayload (now (c .before .before .before .before .before .before .before .before .before .before .before .before .before .before .before .args .classes)) (now (c .before .before .before .before .before .before .before .before .before .before .before .before .before .before .before .args .payloads))) (class-fits (now (c .before .before .before .before .before .before .before .before .before .before .before .before .before .before .before .args .classes)) (now (c .before .before .before .before .before .before .before .before .before .before .before .before .before .before .before .args .payloads)) (λ i. omega (arith, c .before .before .before .before .before .before .before .before .before .before .before .before .shared-slice-known3 .given i))) (c .before .before .before .before .before .before .before .before .before .before .before .before .before .before .before .args .nullable) (c .before .before .before .before .before .before .before .before .before .before .column-size .ensures) (c .before .before .before .before .before .before .before .before .before .if1 .left) (c .before .before .before .before .before .before .before .plain-front .ensures) (wide-is (c .before .before .before .before .before .before .before .before .before .before .before .before .before .before .before .args .t) (c .before .before .before .before .type-number .ensures)) (c .before .before .put-classes .ensures)))
+    (λ c. λ rule table. gives-run (sym (c .before .before .before .before .before .classes-fit .ensures) ∙ not-false _ (c .before .before .before .before .if1 .left)) (c .before .before .write-classed .ensures rule table)))

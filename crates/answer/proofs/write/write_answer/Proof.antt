@@ -1,7 +1,11 @@
--- `write_answer` puts plain rows; of others it gives 15, 16 or 17, or puts the answer.
+-- `write_answer` writes plain rows, and others whose slots fit the type, and else says 0.
+use native.Mathlib.Omega.{arith}
 use denote.Ref.{now}
+use lib.ListN.{length}
+use borrow.Author.Tests.{not-true, not-false}
 use Rattle.answer.specs.Slots.{slotAt}
-use Rattle.answer.proofs.SlotRunLaws.{gives-15, gives-16, gives-17, gives-answer}
+use Rattle.answer.specs.Write.{rowsRun}
+use Rattle.answer.proofs.FitLaws.{gives-0, gives-run, lengths-refused, rows-ask, plain-written, slots-refused, slots-written, write-asks}
 use borrow.Author.Needs.{needs}
 use Rattle.answer.proofs.write.write_answer.Statement.{statement}
 use Rattle.answer.proofs.write.write_answer.Tie as tie
@@ -11,16 +15,14 @@ write-answer-spec =
     tie.close
     (tie.spec
     (λ c κs. search needs)
-    (λ c κs. (search needs, c .before .before .plain-rows .ensures .holds (c .before .if1 .taken)))
+    (λ c. gives-0 (rowsRun (now (c .before .before .before .before .before .before .args .rule)) (now (c .before .before .before .before .before .before .args .table)) (slotAt (now (c .before .before .before .before .before .before .args .work))) (c .before .before .before .before .before .before .args .rows) (c .before .before .before .before .before .before .args .t) (c .before .before .before .before .before .before .args .nullable) (length (now (c .before .before .before .before .before .before .args .output)))) (lengths-refused (now (c .before .before .before .before .before .before .args .rule)) (now (c .before .before .before .before .before .before .args .table)) (now (c .before .before .before .before .before .before .args .work)) (c .before .before .before .before .before .before .args .rows) (c .before .lengths-fit .ensures) (c .before .before .before .before .before .before .args .t) (not-true _ (c .if1 .taken))))
+    (λ c κs. rows-ask (now (c .before .before .before .before .before .before .args .rule)) (now (c .before .before .before .before .before .before .args .table)) (now (c .before .before .before .before .before .before .args .work)) (c .before .before .before .before .before .before .args .rows) (c .before .lengths-fit .ensures) (not-false _ (c .if1 .left)))
+    (λ c κs. (rows-ask (now (c .before .before .before .before .before .before .before .before .before .args .rule)) (now (c .before .before .before .before .before .before .before .before .before .args .table)) (now (c .before .before .before .before .before .before .before .before .before .args .work)) (c .before .before .before .before .before .before .before .before .before .args .rows) (c .before .before .before .before .lengths-fit .ensures) (not-false _ (c .before .before .before .if1 .left)), c .before .before .plain-rows .ensures .holds (c .before .if2 .taken)))
     (λ c. search needs)
-    (λ c. c .before .before .write-plain .ensures (now (c .before .before .before .before .before .before .before .before .before .before .args .rule)) (now (c .before .before .before .before .before .before .before .before .before .before .args .table)))
+    (λ c. gives-run (plain-written (now (c .before .before .before .before .before .before .before .before .before .before .before .before .args .rule)) (now (c .before .before .before .before .before .before .before .before .before .before .before .before .args .table)) (now (c .before .before .before .before .before .before .before .before .before .before .before .before .args .work)) (c .before .before .before .before .before .before .before .before .before .before .before .before .args .rows) (c .before .before .before .before .before .before .before .lengths-fit .ensures) (not-false _ (c .before .before .before .before .before .before .if1 .left)) (λ i. omega (arith, c .before .before .before .before .before .before .before .before .before .shared-slice-known3 .given i)) (c .before .before .before .before .before .plain-rows .ensures .holds (c .before .before .before .before .if2 .taken))) (c .before .before .write-plain .ensures (now (c .before .before .before .before .before .before .before .before .before .before .before .before .args .rule)) (now (c .before .before .before .before .before .before .before .before .before .before .before .before .args .table))))
     (λ c κs. search needs)
-    (λ c. gives-15 (now (c .before .before .before .before .before .before .before .before .args .rule)) (now (c .before .before .before .before .before .before .before .before .args .table)) (slotAt (now (c .before .before .before .before .before .before .before .before .args .work))) (c .before .before .before .before .before .before .before .before .args .rows) (c .before .before .before .before .before .before .before .before .args .t) (c .before .before .before .before .before .before .before .before .args .nullable) (now (c .before .before .before .before .before .before .before .before .args .output)) (c .before .some-of-kind .ensures) (c .if2 .taken))
-    (λ c κs. search needs)
-    (λ c. gives-16 (now (c .before .before .before .before .before .before .before .before .before .before .args .rule)) (now (c .before .before .before .before .before .before .before .before .before .before .args .table)) (slotAt (now (c .before .before .before .before .before .before .before .before .before .before .args .work))) (c .before .before .before .before .before .before .before .before .before .before .args .rows) (c .before .before .before .before .before .before .before .before .before .before .args .t) (c .before .before .before .before .before .before .before .before .before .before .args .nullable) (now (c .before .before .before .before .before .before .before .before .before .before .args .output)) (c .before .before .before .some-of-kind .ensures) (c .before .before .if2 .left) (c .before .answer-text .ensures) (c .if3 .taken))
-    (λ c κs. search needs)
-    (λ c κs. search needs)
-    (λ c. gives-17 (now (c .before .before .before .before .before .before .before .before .before .before .before .before .before .args .rule)) (now (c .before .before .before .before .before .before .before .before .before .before .before .before .before .args .table)) (slotAt (now (c .before .before .before .before .before .before .before .before .before .before .before .before .before .args .work))) (c .before .before .before .before .before .before .before .before .before .before .before .before .before .args .rows) (c .before .before .before .before .before .before .before .before .before .before .before .before .before .args .t) (c .before .before .before .before .before .before .before .before .before .before .before .before .before .args .nullable) (now (c .before .before .before .before .before .before .before .before .before .before .before .before .before .args .output)) (c .before .before .before .before .before .before .some-of-kind .ensures) (c .before .before .before .before .before .if2 .left) (c .before .before .before .before .answer-text .ensures) (c .before .before .before .if3 .left) (c .before .before .some-of-kind2 .ensures) (c .before .column-size .ensures) (c .if4 .taken))
-    (λ c κs. search needs)
+    (λ c κs. rows-ask (now (c .before .before .before .before .before .before .before .before .before .args .rule)) (now (c .before .before .before .before .before .before .before .before .before .args .table)) (now (c .before .before .before .before .before .before .before .before .before .args .work)) (c .before .before .before .before .before .before .before .before .before .args .rows) (c .before .before .before .before .lengths-fit .ensures) (not-false _ (c .before .before .before .if1 .left)))
+    (λ c. gives-0 (rowsRun (now (c .before .before .before .before .before .before .before .before .before .before .before .args .rule)) (now (c .before .before .before .before .before .before .before .before .before .before .before .args .table)) (slotAt (now (c .before .before .before .before .before .before .before .before .before .before .before .args .work))) (c .before .before .before .before .before .before .before .before .before .before .before .args .rows) (c .before .before .before .before .before .before .before .before .before .before .before .args .t) (c .before .before .before .before .before .before .before .before .before .before .before .args .nullable) (length (now (c .before .before .before .before .before .before .before .before .before .before .before .args .output)))) (slots-refused (now (c .before .before .before .before .before .before .before .before .before .before .before .args .rule)) (now (c .before .before .before .before .before .before .before .before .before .before .before .args .table)) (now (c .before .before .before .before .before .before .before .before .before .before .before .args .work)) (c .before .before .before .before .before .before .before .before .before .before .before .args .rows) (c .before .before .before .before .before .before .lengths-fit .ensures) (not-false _ (c .before .before .before .before .before .if1 .left)) (c .before .before .before .before .before .before .before .before .before .before .before .args .t) (c .before .slots-fit .ensures) (c .before .before .type-number .ensures) (not-true _ (c .if3 .taken))))
+    (λ c κs. write-asks (now (c .before .before .before .before .before .before .before .before .before .before .before .before .args .rule)) (now (c .before .before .before .before .before .before .before .before .before .before .before .before .args .table)) (now (c .before .before .before .before .before .before .before .before .before .before .before .before .args .work)) (c .before .before .before .before .before .before .before .before .before .before .before .before .args .rows) (c .before .before .before .before .before .before .before .before .before .before .before .before .args .t) (slots-written (now (c .before .before .before .before .before .before .before .before .before .before .before .before .args .rule)) (now (c .before .before .before .before .before .before .before .before .before .before .before .before .args .table)) (now (c .before .before .before .before .before .before .before .before .before .before .before .before .args .work)) (c .before .before .before .before .before .before .before .before .before .before .before .before .args .rows) (c .before .before .before .before .before .before .before .lengths-fit .ensures) (not-false _ (c .before .before .before .before .before .before .if1 .left)) (c .before .before .before .before .before .before .before .before .before .before .before .before .args .t) (c .before .before .slots-fit .ensures) (c .before .before .before .type-number .ensures) (not-false _ (c .before .if3 .left))))
     (λ c. search needs)
-    (λ c. gives-answer (now (c .before .before .before .before .before .before .before .before .before .before .before .before .before .before .before .before .before .args .rule)) (now (c .before .before .before .before .before .before .before .before .before .before .before .before .before .before .before .before .before .args .table)) (slotAt (now (c .before .before .before .before .before .before .before .before .before .before .before .before .before .before .before .before .before .args .work))) (c .before .before .before .before .before .before .before .before .before .before .before .before .before .before .before .before .before .args .rows) (c .before .before .before .before .before .before .before .before .before .before .before .before .before .before .before .before .before .args .t) (c .before .before .before .before .before .before .before .before .before .before .before .before .before .before .before .before .before .args .nullable) (now (c .before .before .before .before .before .before .before .before .before .before .before .before .before .before .before .before .before .args .output)) (c .before .before .before .before .before .before .before .before .before .before .some-of-kind .ensures) (c .before .before .before .before .before .before .before .before .before .if2 .left) (c .before .before .before .before .before .before .before .before .answer-text .ensures) (c .before .before .before .before .before .before .before .if3 .left) (c .before .before .before .before .before .before .some-of-kind2 .ensures) (c .before .before .put-column .ensures)))
+    (λ c. gives-run (slots-written (now (c .before .before .before .before .before .before .before .before .before .before .before .before .before .before .before .args .rule)) (now (c .before .before .before .before .before .before .before .before .before .before .before .before .before .before .before .args .table)) (now (c .before .before .before .before .before .before .before .before .before .before .before .before .before .before .before .args .work)) (c .before .before .before .before .before .before .before .before .before .before .before .before .before .before .before .args .rows) (c .before .before .before .before .before .before .before .before .before .before .lengths-fit .ensures) (not-false _ (c .before .before .before .before .before .before .before .before .before .if1 .left)) (c .before .before .before .before .before .before .before .before .before .before .before .before .before .before .before .args .t) (c .before .before .before .before .before .slots-fit .ensures) (c .before .before .before .before .before .before .type-number .ensures) (not-false _ (c .before .before .before .before .if3 .left))) (c .before .before .write-rows .ensures)))
