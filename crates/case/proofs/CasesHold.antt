@@ -17,9 +17,10 @@ use Rattle.rule.specs.Reading.{kindAmong, unlikeEarlier, readColumn, literalVal
 use Rattle.rule.specs.Nullable.{stripped, replaced, reachable, nullable}
 use Rattle.table.specs.Column.{valueAt, entryAt}
 use Rattle.table.specs.Reading.{tagged, taggedPair, readValidity, readValues, readBody, readParts as readTableParts, noNull, readColumn as readTableColumn, readColumns, readTable}
+use Rattle.answer.specs.Answer.{someNull, numbersOf, textsOf, columnBytes}
+use Rattle.answer.specs.Written.{rowsFrom, entriesOf, writtenAs}
 use Rattle.case.specs.Fits.{columnsFit}
-use Rattle.case.specs.Answer.{someNull, numbersOf, textsOf, columnBytes}
-use Rattle.case.specs.Run.{rowsFrom, entriesOf, writtenAs, runRead, run}
+use Rattle.case.specs.Run.{runRead, run}
 use Rattle.case.specs.Cases.{provedCases, given}
 
 -- every case gives what is expected

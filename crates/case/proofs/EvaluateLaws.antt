@@ -27,17 +27,19 @@ use Rattle.table.specs.declared.places.TableAnswer.{TableAnswer}
 use Rattle.table.specs.Places.{tableIn, readingIn, TableRead}
 use Rattle.table.proofs.TableInversions.{table-inv, table-few}
 use Rattle.table.proofs.RefusalLaws.{table-refusals}
-use Rattle.case.specs.declared.answer.RunAnswer.{RunAnswer}
-use Rattle.case.specs.declared.answer.RunAnswer.the-variants.{Refused}
+use Rattle.answer.specs.declared.RunAnswer.{RunAnswer}
+use Rattle.answer.specs.declared.RunAnswer.the-variants.{Refused}
+use Rattle.answer.specs.Answer.{columnOf, columnBytes, textLength}
+use Rattle.answer.specs.Written.{rowsFrom, entriesOf, textMost, writtenAs, runAnswer, zeros, outputAfter}
+use Rattle.answer.specs.Write.{rowOutcomes, rowsRun, RunGives, WriteGives, WriteAsks, slotsRun, classValue, classesRun}
+use Rattle.answer.proofs.FitLaws.{gives-rows, typed-fits, asks-write, asks-classed}
 use Rattle.case.specs.Fits.{fits}
 use Rattle.case.specs.Fitting.{FitsGives}
-use Rattle.case.specs.Answer.{columnOf, columnBytes, textLength}
-use Rattle.case.specs.Run.{rowsFrom, outcomes, entriesOf, textMost, writtenAs, runRead, run, zeros, workAfter, outputAfter}
-use Rattle.case.specs.Promise.{runAnswer, callRun, Evaluated}
+use Rattle.case.specs.Run.{outcomes, runRead, run, workAfter}
+use Rattle.case.specs.Promise.{callRun, Evaluated}
 use Rattle.case.specs.Frame.{slotAt, AllRows}
-use Rattle.case.specs.Write.{rowOutcomes, rowsRun, RowsOfType, WriteAsks, WriteGives, classValue}
 use Rattle.case.specs.Evaluation.{Framed, Done, ExprRight}
-use Rattle.case.specs.Readings.{ReadAsks, RowsRight, AnswerAsks, AnswerGives}
+use Rattle.case.specs.Readings.{ReadAsks, RowsRight, RowsOfType, AnswerAsks, AnswerGives}
 use Rattle.case.specs.Classes.{RootAsks, ClassesGive}
 use Rattle.case.proofs.RunLaws.{run-is, run-rows, entries-refused}
 use Rattle.case.proofs.RowsTyped.{run-sound}
@@ -96,8 +98,13 @@ module _ {rule table : List ℕ} {t : Places} {result : DataType} {w w₁ : List
   module _ {found : Bool} {w₂ classes kinds payloads : List ℕ} (c : ClassesGive rule table t result w₁ found w₂ classes kinds payloads) where
     -- the rows by their classes
     pub by-classes : {n : Bool} {output output′ : List ℕ} {r : RunAnswer} → found ≡ true
-        → ((rule table : List ℕ) → WriteGives rule table (classValue classes kinds payloads) (t .rows) result n output r output′) → AnswerGives rule table t result n w output r w₂ output′
-    by-classes is wrote = record { long = c .long ∙ all .long; value = classValue classes kinds payloads; right = c .right is; wrote = wrote rule table }
+        → ((rule table : List ℕ) → RunGives (classesRun rule table (t .rows) result n classes kinds payloads (length output)) output r output′) → AnswerGives rule table t result n w output r w₂ output′
+    by-classes is wrote = record {
+      long = c .long ∙ all .long;
+      value = classValue classes kinds payloads;
+      right = c .right is;
+      wrote = gives-rows (asks-classed (t .rows) classes kinds payloads (c .asks is)) (wrote rule table);
+    }
 
     -- the list is still there
     kept-list : Kept 1024 w₁ w₂
@@ -120,17 +127,23 @@ module _ {rule table : List ℕ} {t : Places} {result : DataType} {w w₁ : List
             d .here i (listed-to w₁ w₂ 0 0 (t .rows) (kept-rows 1024 w₁ w₂ 0 (t .rows) fits kept-list) i (all-listed all i h)) .is e node;
       }
 
-      pub write-asks : WriteAsks rule table w₃ (t .rows) result
+      -- which can be written
+      write-asks : WriteAsks rule table w₃ (t .rows) result
       write-asks = record {
         few = asks .few;
         room = (let k = d .long in let m = c .long in let l = all .long in let r = asks .room in omega arith);
-        rule-short = asks .rule-short;
+        rule-short = (let s = asks .rule-short in omega arith);
         table-short = asks .table-short;
-        each = asks .typed (slotAt w₃) slots-right;
+        each = λ i h. typed-fits rule table result (slotAt w₃ i) (asks .typed (slotAt w₃) slots-right .typed i h);
       }
 
-      pub by-slots : {n : Bool} {output output′ : List ℕ} {r : RunAnswer} → WriteGives rule table (slotAt w₃) (t .rows) result n output r output′ → AnswerGives rule table t result n w output r w₃ output′
-      by-slots wrote = record { long = d .long ∙ c .long ∙ all .long; value = slotAt w₃; right = slots-right; wrote = wrote }
+      pub by-slots : {n : Bool} {output output′ : List ℕ} {r : RunAnswer} → RunGives (slotsRun rule table w₃ (t .rows) result n (length output)) output r output′ → AnswerGives rule table t result n w output r w₃ output′
+      by-slots wrote = record {
+        long = d .long ∙ c .long ∙ all .long;
+        value = slotAt w₃;
+        right = slots-right;
+        wrote = gives-rows (asks-write rule table w₃ (t .rows) write-asks) wrote;
+      }
 
 -- ---- a rule and a table that were read
 

@@ -18,15 +18,6 @@ pub mod CaseLaws
 pub mod CaseValueLaws
 pub mod BranchLaws
 pub mod ChooseLaws
-pub mod WroteLaws
-pub mod RowTextLaws
-pub mod RowKindLaws
-pub mod RowBitLaws
-pub mod ColumnPutLaws
-pub mod ColumnLaws
-pub mod SlotRunLaws
-pub mod PlainLaws
-pub mod ClearLaws
 pub mod TakeLaws
 pub mod MergeLaws
 pub mod CellLaws

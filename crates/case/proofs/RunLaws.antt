@@ -15,9 +15,10 @@ use Rattle.rule.specs.Tree.{Expr}
 use Rattle.rule.specs.Row.{eval}
 use Rattle.rule.specs.Reading.{readRule}
 use Rattle.table.specs.Reading.{Table, readTable}
+use Rattle.answer.specs.Answer.{textLength}
+use Rattle.answer.specs.Written.{rowsFrom, entriesOf, textMost, writtenAs}
 use Rattle.case.specs.Fits.{fits, rowOf}
-use Rattle.case.specs.Answer.{textLength}
-use Rattle.case.specs.Run.{rowsFrom, outcomes, entriesOf, workLeast, textMost, answerBytes, writtenAs, written, runRead, run}
+use Rattle.case.specs.Run.{outcomes, workLeast, answerBytes, written, runRead, run}
 
 -- ---- the rows
 

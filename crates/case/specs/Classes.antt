@@ -15,6 +15,7 @@ use Rattle.rule.specs.Row.{Row, eval, evalElse}
 use Rattle.rule.specs.Node.{NodeAt}
 use Rattle.rule.specs.Walks.{branchTrees, optionalTrees, TreesAt, EndGives, TypeGives}
 use Rattle.table.specs.declared.places.Table.{Table}
+use Rattle.answer.specs.Write.{classValue, ClassesAsk}
 use Rattle.case.specs.Frame.{rowAt, Listed}
 use Rattle.case.specs.LookUpTables.{valueAt}
 use Rattle.case.specs.Evaluation.{rowIn, resultAt, indexed}
@@ -22,7 +23,6 @@ use Rattle.case.specs.LookUp.{KeyedGive}
 use Rattle.case.specs.Results.{ResultsRead}
 use Rattle.case.specs.Steps.{StepsGive}
 use Rattle.case.specs.Readings.{RowsRight}
-use Rattle.case.specs.Write.{classValue, ClassesAsk}
 
 -- what is asked: the list at the front of the buffer is all rows of the table
 pub record RootAsks (t : Table) (w table : List ℕ) : Type 0 where

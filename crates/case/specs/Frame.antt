@@ -17,16 +17,13 @@ use Rattle.scalar.specs.Negative.{negativeEntry}
 use Rattle.scalar.specs.IsNotNull.{isNotNullEntry}
 use Rattle.scalar.specs.Cast.{castEntry}
 use Rattle.scalar.specs.TryCast.{tryCastEntry}
+pub use Rattle.answer.specs.Slots.{slotAt}
 use Rattle.case.specs.declared.rows.Op.{Op}
 use Rattle.case.specs.declared.rows.Op.the-variants.{Not, Negative, IsNotNull, Cast, TryCast}
 
 -- the i-th row of the list at a place
 abbrev pub rowAt : List ℕ → ℕ → ℕ → ℕ
 rowAt w at i = numberAt 2 w (at + 2 * i)
-
--- the value in the slot of a row
-abbrev pub slotAt : List ℕ → ℕ → Value
-slotAt w r = valueOf (byte w (1024 + 9 * r)) (numberAt 8 w (1025 + 9 * r))
 
 -- the n rows of the list at a place rise, and are rows of a table of so many rows
 pub record Rows (w : List ℕ) (at n rows : ℕ) : Type 0 where

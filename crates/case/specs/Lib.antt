@@ -1,7 +1,6 @@
 -- The definitions of `case`.
 pub mod Fits
 pub mod Fitting
-pub mod Answer
 pub mod Run
 pub mod Promise
 pub mod Frame
@@ -13,12 +12,10 @@ pub mod LookUp
 pub mod LookUpTables
 pub mod LookUpBooleans
 pub mod LookUpColumns
-pub mod Write
 pub mod Evaluation
 pub mod Steps
 pub mod Results
 pub mod Readings
 pub mod Classes
-pub mod Writing
 pub mod Cases
 pub mod Demands

@@ -3,15 +3,10 @@ use mathlib.Core.Path.{_≡_}
 use mathlib.Core.List.{List}
 use Prim.Native.Nat.{ℕ}
 use lib.ListN.{length}
-use Rattle.layout.specs.Result.{Result, refused, ok}
-use Rattle.case.specs.declared.answer.RunAnswer.{RunAnswer}
-use Rattle.case.specs.declared.answer.RunAnswer.the-variants.{Answered, Refused}
-use Rattle.case.specs.Run.{run, workAfter, outputAfter}
-
--- the length of the answer, or the number
-abbrev pub runAnswer : Result (List ℕ) → RunAnswer
-runAnswer (refused n) = Refused n
-runAnswer (ok bytes) = Answered (length bytes)
+use Rattle.layout.specs.Result.{Result}
+use Rattle.answer.specs.declared.RunAnswer.{RunAnswer}
+use Rattle.answer.specs.Written.{runAnswer, outputAfter}
+use Rattle.case.specs.Run.{run, workAfter}
 
 -- the run that a call is
 abbrev pub callRun : List ℕ → List ℕ → List ℕ → List ℕ → Result (List ℕ)

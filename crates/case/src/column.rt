@@ -1,5 +1,4 @@
 // The entries of a column in the slots of the listed rows.
-use crate::put::mark_number;
 use crate::rows::row_at;
 use crate::slot::get_slot;
 use crate::slot::put_parts;
@@ -24,7 +23,7 @@ ghost use Prim.Native.Nat.{ℕ, _^_, _<_};
 ghost use lib.ListN.{length};
 ghost use Rattle.layout.specs.Bytes.{part};
 ghost use Rattle.scalar.specs.Entry.{Entry, entry};
-ghost use Rattle.scalar.specs.Types.{typeNumber};
+ghost use Rattle.scalar.specs.Types.{typeNumber, markNumber};
 ghost use Rattle.scalar.specs.Value.{meaning, Storable};
 ghost use Rattle.rule.specs.Row.{isTrueTest, chosen};
 ghost use Rattle.table.specs.Column.{validIn, entryAt};
@@ -71,6 +70,13 @@ fn kind_at(validity: &[u8], kind: DataType, row: usize) -> u8
     } else {
         0
     }
+}
+
+// The number of a Boolean.
+fn mark_number(b: bool) -> u8
+    ensures { λ r. ⌜ r ≡ markNumber b ⌝ }
+{
+    if b { 1 } else { 0 }
 }
 
 // The payload of a row's value, of any type but text.

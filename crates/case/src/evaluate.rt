@@ -1,12 +1,12 @@
 // Evaluation of a rule over a table, in a lent work buffer, into a lent output.
-use crate::answer::RunAnswer;
 use crate::case::expr;
-use crate::classes::write_classes;
-use crate::clear::clear;
 use crate::fits::fits_table;
 use crate::root::class_rows;
 use crate::rows::all_rows;
-use crate::write::write_answer;
+use answer::RunAnswer;
+use answer::classes::write_classes;
+use answer::clear::clear;
+use answer::write::write_answer;
 use rule::node::NodeRead;
 use rule::nullable::nullable_of;
 use rule::read::read_rule;

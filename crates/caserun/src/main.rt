@@ -2,7 +2,7 @@
 mod file;
 mod print;
 
-use case::answer::RunAnswer;
+use answer::RunAnswer;
 use case::evaluate::evaluate;
 use file::Loaded;
 use file::load;

@@ -3,7 +3,7 @@ use crate::bytes::FILLING;
 use crate::bytes::all_are;
 use crate::bytes::fill;
 use crate::bytes::same;
-use case::answer::RunAnswer;
+use answer::RunAnswer;
 use case::evaluate::evaluate;
 use layout::number::byte_at;
 use layout::part::part_of;

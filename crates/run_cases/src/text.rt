@@ -1,6 +1,6 @@
 // A listing, made line by line and compared with the stored text.
 use crate::bytes::same;
-use case::answer::RunAnswer;
+use answer::RunAnswer;
 use case::evaluate::evaluate;
 use layout::part::part_of;
 use listing::line::put_head;

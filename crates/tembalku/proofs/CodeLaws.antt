@@ -27,10 +27,11 @@ use Rattle.rule.specs.Strategy.{strategyNumber}
 use Rattle.rule.specs.Projection.{projection}
 use Rattle.rule.specs.Reading.{readRule}
 use Rattle.rule.specs.Answers.{ruleAnswer, strategyAnswer, nullableAnswer, projectionAnswer}
-use Rattle.case.specs.declared.answer.RunAnswer.{RunAnswer}
-use Rattle.case.specs.declared.answer.RunAnswer.the-variants as OfRun
+use Rattle.answer.specs.declared.RunAnswer.{RunAnswer}
+use Rattle.answer.specs.declared.RunAnswer.the-variants as OfRun
+use Rattle.answer.specs.Written.{runAnswer}
 use Rattle.case.specs.Run.{runRead, run}
-use Rattle.case.specs.Promise.{runAnswer, callRun, Evaluated}
+use Rattle.case.specs.Promise.{callRun, Evaluated}
 use Rattle.case.proofs.RunLaws.{run-answered}
 use Rattle.table.specs.declared.places.Table.{Table as TablePlaces}
 use Rattle.table.specs.declared.places.TableAnswer.{TableAnswer}

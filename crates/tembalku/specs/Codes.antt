@@ -14,7 +14,8 @@ use Rattle.rule.specs.Strategy.{strategyNumber, strategy}
 use Rattle.rule.specs.Nullable.{nullable}
 use Rattle.rule.specs.Projection.{projection}
 use Rattle.table.specs.Reading.{Table}
-use Rattle.case.specs.Run.{workAfter, outputAfter}
+use Rattle.answer.specs.Written.{outputAfter}
+use Rattle.case.specs.Run.{workAfter}
 use Rattle.case.specs.Promise.{callRun}
 
 -- a rule: its refusal number, or 256 and the number of the result's type

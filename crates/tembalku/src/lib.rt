@@ -1,5 +1,5 @@
 // The library for display makers: every function can be called from C and takes every argument.
-use case::answer::RunAnswer;
+use answer::RunAnswer;
 use case::evaluate::evaluate;
 use layout::part::part_of;
 use layout::part::put_part;
