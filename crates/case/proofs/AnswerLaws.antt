@@ -22,7 +22,7 @@ use Rattle.scalar.specs.Types.{typeNumber, typeNumbered, markNumber, markNumber
 use Rattle.scalar.specs.Entry.{Entry, null, boolean, int32, int64, float64, utf8, isNull, isTrue, ofType}
 use Rattle.table.specs.Column.{TableColumn, validIn, offsetAt, textBetween, valueAt, entryAt}
 use Rattle.table.specs.Reading.{tagged, taggedPair, readValidity, neverFalls, readTextOffsets, readOffsets, valuesLength, readValues, readBody, readParts, noNull, readColumn, readColumns, Table, bytesMost, rowsMost, readTable}
-use Rattle.answer.specs.Answer.{someNull, validityOf, numberIn, textIn, numbersOf, textsOf, offsetsFrom, offsetsOf, valuesOf, columnOf, offsetsField, columnBytes, textLength}
+use Rattle.writer.specs.Answer.{someNull, validityOf, numberIn, textIn, numbersOf, textsOf, offsetsFrom, offsetsOf, valuesOf, columnOf, offsetsField, columnBytes, textLength}
 
 -- numbers of k bytes, one behind the other
 abbrev packed : ℕ → List ℕ → List ℕ

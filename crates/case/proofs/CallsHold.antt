@@ -6,8 +6,8 @@ use native.Mathlib.Omega.{arith}
 use lib.ListN.{length, take, drop}
 use lib.Seq.{take-append-seam}
 use Rattle.layout.specs.Result.{Result, refused, ok}
-use Rattle.answer.specs.declared.RunAnswer.the-variants.{Answered, Refused}
-use Rattle.answer.specs.Written.{runAnswer, outputAfter}
+use Rattle.writer.specs.declared.RunAnswer.the-variants.{Answered, Refused}
+use Rattle.writer.specs.Written.{runAnswer, outputAfter}
 use Rattle.case.specs.Promise.{callRun}
 use Rattle.case.specs.Demands.{Holds, CallsAgree, CallFailsExactly}
 use Rattle.case.proofs.DemandsHold.{class-goes-with-target, fails-exactly}

@@ -27,12 +27,12 @@ use Rattle.table.specs.declared.places.TableAnswer.{TableAnswer}
 use Rattle.table.specs.Places.{tableIn, readingIn, TableRead}
 use Rattle.table.proofs.TableInversions.{table-inv, table-few}
 use Rattle.table.proofs.RefusalLaws.{table-refusals}
-use Rattle.answer.specs.declared.RunAnswer.{RunAnswer}
-use Rattle.answer.specs.declared.RunAnswer.the-variants.{Refused}
-use Rattle.answer.specs.Answer.{columnOf, columnBytes, textLength}
-use Rattle.answer.specs.Written.{rowsFrom, entriesOf, textMost, writtenAs, runAnswer, zeros, outputAfter}
-use Rattle.answer.specs.Write.{rowOutcomes, rowsRun, RunGives, WriteGives, WriteAsks, slotsRun, classValue, classesRun}
-use Rattle.answer.proofs.FitLaws.{gives-rows, typed-fits, asks-write, asks-classed}
+use Rattle.writer.specs.declared.RunAnswer.{RunAnswer}
+use Rattle.writer.specs.declared.RunAnswer.the-variants.{Refused}
+use Rattle.writer.specs.Answer.{columnOf, columnBytes, textLength}
+use Rattle.writer.specs.Written.{rowsFrom, entriesOf, textMost, writtenAs, runAnswer, zeros, outputAfter}
+use Rattle.writer.specs.Write.{rowOutcomes, rowsRun, RunGives, WriteGives, WriteAsks, slotsRun, classValue, classesRun}
+use Rattle.writer.proofs.FitLaws.{gives-rows, typed-fits, asks-write, asks-classed}
 use Rattle.case.specs.Fits.{fits}
 use Rattle.case.specs.Fitting.{FitsGives}
 use Rattle.case.specs.Run.{outcomes, runRead, run, workAfter}

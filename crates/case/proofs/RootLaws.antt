@@ -14,7 +14,7 @@ use Rattle.rule.specs.Tree.{Expr}
 use Rattle.rule.specs.Row.{eval, evalElse}
 use Rattle.rule.specs.Walks.{branchTrees, optionalTrees, TreesAt, TypeGives}
 use Rattle.table.specs.declared.places.Table.{Table}
-use Rattle.answer.specs.Write.{classValue}
+use Rattle.writer.specs.Write.{classValue}
 use Rattle.case.specs.Frame.{Listed}
 use Rattle.case.specs.Evaluation.{Framed, rowIn}
 use Rattle.case.specs.Results.{ResultsRead}

@@ -15,8 +15,8 @@ use Rattle.rule.specs.Tree.{Expr}
 use Rattle.rule.specs.Row.{eval}
 use Rattle.rule.specs.Reading.{readRule}
 use Rattle.table.specs.Reading.{Table, readTable}
-use Rattle.answer.specs.Answer.{textLength}
-use Rattle.answer.specs.Written.{rowsFrom, entriesOf, textMost, writtenAs}
+use Rattle.writer.specs.Answer.{textLength}
+use Rattle.writer.specs.Written.{rowsFrom, entriesOf, textMost, writtenAs}
 use Rattle.case.specs.Fits.{fits, rowOf}
 use Rattle.case.specs.Run.{outcomes, workLeast, answerBytes, written, runRead, run}
 

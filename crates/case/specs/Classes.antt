@@ -15,7 +15,7 @@ use Rattle.rule.specs.Row.{Row, eval, evalElse}
 use Rattle.rule.specs.Node.{NodeAt}
 use Rattle.rule.specs.Walks.{branchTrees, optionalTrees, TreesAt, EndGives, TypeGives}
 use Rattle.table.specs.declared.places.Table.{Table}
-use Rattle.answer.specs.Write.{classValue, ClassesAsk}
+use Rattle.writer.specs.Write.{classValue, ClassesAsk}
 use Rattle.case.specs.Frame.{rowAt, Listed}
 use Rattle.case.specs.LookUpTables.{valueAt}
 use Rattle.case.specs.Evaluation.{rowIn, resultAt, indexed}

@@ -18,8 +18,8 @@ use Rattle.rule.specs.Path.{path, columnsRead, holdsMisfit}
 use Rattle.rule.specs.Reading.{readRule}
 use Rattle.table.specs.Column.{TableColumn, entryAt}
 use Rattle.table.specs.Reading.{readParts, Table, readTable}
-use Rattle.answer.specs.declared.RunAnswer.{RunAnswer}
-use Rattle.answer.specs.declared.RunAnswer.the-variants.{Answered, Refused}
+use Rattle.writer.specs.declared.RunAnswer.{RunAnswer}
+use Rattle.writer.specs.declared.RunAnswer.the-variants.{Answered, Refused}
 use Rattle.case.specs.Fits.{fits, rowOf}
 use Rattle.case.specs.Run.{run, workLeast}
 use Rattle.case.specs.Promise.{Evaluated}

@@ -17,7 +17,7 @@ use Rattle.scalar.specs.Negative.{negativeEntry}
 use Rattle.scalar.specs.IsNotNull.{isNotNullEntry}
 use Rattle.scalar.specs.Cast.{castEntry}
 use Rattle.scalar.specs.TryCast.{tryCastEntry}
-pub use Rattle.answer.specs.Slots.{slotAt}
+pub use Rattle.writer.specs.Slots.{slotAt}
 use Rattle.case.specs.declared.rows.Op.{Op}
 use Rattle.case.specs.declared.rows.Op.the-variants.{Not, Negative, IsNotNull, Cast, TryCast}
 

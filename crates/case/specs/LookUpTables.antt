@@ -14,7 +14,7 @@ use Rattle.scalar.specs.Value.{meaning, kindOf, payloadOf}
 use Rattle.rule.specs.Tree.{Expr, column, literal, negation, negative, isNotNull, cast, tryCast, equal, less, caseWhen}
 use Rattle.rule.specs.Walks.{TreesAt}
 use Rattle.rule.specs.AnswerWalks.{treesLiteral}
-pub use Rattle.answer.specs.Slots.{valueAt}
+pub use Rattle.writer.specs.Slots.{valueAt}
 use Rattle.case.specs.Choosing.{trueOutcome}
 use Rattle.case.specs.Frame.{slotAt}
 

@@ -4,8 +4,8 @@ use mathlib.Core.List.{List}
 use Prim.Native.Nat.{ℕ}
 use lib.ListN.{length}
 use Rattle.layout.specs.Result.{Result}
-use Rattle.answer.specs.declared.RunAnswer.{RunAnswer}
-use Rattle.answer.specs.Written.{runAnswer, outputAfter}
+use Rattle.writer.specs.declared.RunAnswer.{RunAnswer}
+use Rattle.writer.specs.Written.{runAnswer, outputAfter}
 use Rattle.case.specs.Run.{run, workAfter}
 
 -- the run that a call is

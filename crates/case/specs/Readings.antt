@@ -18,8 +18,8 @@ use Rattle.rule.specs.Node.{NodeAt}
 use Rattle.table.specs.declared.places.Table.{Table}
 use Rattle.table.specs.Reading.{readTable}
 use Rattle.table.specs.Places.{tableIn}
-use Rattle.answer.specs.declared.RunAnswer.{RunAnswer}
-use Rattle.answer.specs.Write.{WriteGives}
+use Rattle.writer.specs.declared.RunAnswer.{RunAnswer}
+use Rattle.writer.specs.Write.{WriteGives}
 use Rattle.case.specs.Evaluation.{rowIn}
 
 -- what was read of a rule's and of a table's bytes

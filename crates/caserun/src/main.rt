@@ -2,7 +2,6 @@
 mod file;
 mod print;
 
-use answer::RunAnswer;
 use case::evaluate::evaluate;
 use file::Loaded;
 use file::load;
@@ -11,6 +10,7 @@ use listing::line::LINE_MOST;
 use print::print_answer;
 use print::print_refused;
 use table::read::read;
+use writer::RunAnswer;
 ghost use mathlib.Core.Path.{_≡_};
 ghost use lib.ListN.{length};
 ghost use Rattle.listing.specs.Listing.{lineMost};

@@ -3,10 +3,10 @@ use crate::bytes::FILLING;
 use crate::bytes::all_are;
 use crate::bytes::fill;
 use crate::bytes::same;
-use answer::RunAnswer;
 use case::evaluate::evaluate;
 use layout::number::byte_at;
 use layout::part::part_of;
+use writer::RunAnswer;
 
 // Whether an answer of a length is the stored one, with the work buffer zero and the output past the answer untouched.
 fn answer_agrees(want: &[u8], size: usize, work: &[u8], output: &[u8]) -> bool {

@@ -1,6 +1,5 @@
 // A listing, made line by line and compared with the stored text.
 use crate::bytes::same;
-use answer::RunAnswer;
 use case::evaluate::evaluate;
 use layout::part::part_of;
 use listing::line::put_head;
@@ -10,6 +9,7 @@ use listing::put::PutAnswer;
 use table::alone::read_alone;
 use table::places::ColumnPlace;
 use table::read::read;
+use writer::RunAnswer;
 
 // Whether the text has a line, and where it then goes on.
 struct Met {

@@ -27,9 +27,9 @@ use Rattle.rule.specs.Strategy.{strategyNumber}
 use Rattle.rule.specs.Projection.{projection}
 use Rattle.rule.specs.Reading.{readRule}
 use Rattle.rule.specs.Answers.{ruleAnswer, strategyAnswer, nullableAnswer, projectionAnswer}
-use Rattle.answer.specs.declared.RunAnswer.{RunAnswer}
-use Rattle.answer.specs.declared.RunAnswer.the-variants as OfRun
-use Rattle.answer.specs.Written.{runAnswer}
+use Rattle.writer.specs.declared.RunAnswer.{RunAnswer}
+use Rattle.writer.specs.declared.RunAnswer.the-variants as OfRun
+use Rattle.writer.specs.Written.{runAnswer}
 use Rattle.case.specs.Run.{runRead, run}
 use Rattle.case.specs.Promise.{callRun, Evaluated}
 use Rattle.case.proofs.RunLaws.{run-answered}

@@ -14,7 +14,7 @@ use Rattle.rule.specs.Strategy.{strategyNumber, strategy}
 use Rattle.rule.specs.Nullable.{nullable}
 use Rattle.rule.specs.Projection.{projection}
 use Rattle.table.specs.Reading.{Table}
-use Rattle.answer.specs.Written.{outputAfter}
+use Rattle.writer.specs.Written.{outputAfter}
 use Rattle.case.specs.Run.{workAfter}
 use Rattle.case.specs.Promise.{callRun}
 

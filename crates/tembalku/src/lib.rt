@@ -1,5 +1,4 @@
 // The library for display makers: every function can be called from C and takes every argument.
-use answer::RunAnswer;
 use case::evaluate::evaluate;
 use layout::part::part_of;
 use layout::part::put_part;
@@ -13,6 +12,7 @@ use rule::answer::strategy;
 use rule::strategy::Strategy;
 use scalar::types::DataType;
 use table::read::read as read_table;
+use writer::RunAnswer;
 ghost use mathlib.Core.Path.{_≡_};
 ghost use Rattle.rule.specs.Reading.{readRule};
 ghost use Rattle.scalar.specs.Types.{typeNumber};

@@ -1,6 +1,0 @@
--- The definitions of `answer`.
-pub mod Answer
-pub mod Written
-pub mod Slots
-pub mod Write
-pub mod Writing

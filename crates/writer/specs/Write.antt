@@ -1,0 +1,143 @@
+-- What writing the answer promises, for every argument: 0 where it is no column of the type; else 15, 16, 17 or the answer at the front of
+-- the output (01, Where a call stops).
+use mathlib.Core.Path.{_≡_}
+use mathlib.Core.Bool.{Bool, true, cond, _&&_, _||_}
+use mathlib.Core.List.{List, map}
+use Prim.Native.Nat.{ℕ, _+_, _*_, _<_, _≤_}
+use lib.Dec.{eqb, ltb, leb}
+use lib.ListN.{length, getD}
+use Rattle.layout.specs.Bytes.{byte, numberAt}
+use Rattle.layout.specs.Result.{Result, _>>=_, require}
+use Rattle.scalar.specs.declared.types.DataType.{DataType}
+use Rattle.scalar.specs.declared.value.Value.{Value}
+use Rattle.scalar.specs.Types.{typeNumber}
+use Rattle.scalar.specs.Entry.{Outcome}
+use Rattle.scalar.specs.Value.{meaning, kindOf}
+use Rattle.writer.specs.declared.RunAnswer.{RunAnswer}
+use Rattle.writer.specs.Written.{rowsFrom, entriesOf, writtenAs, runAnswer, outputAfter}
+use Rattle.writer.specs.Slots.{slotAt, valueAt}
+use Rattle.writer.specs.Writing.{eachRow}
+
+-- the outcomes that the first rows have
+abbrev pub rowOutcomes : List ℕ → List ℕ → (ℕ → Value) → ℕ → List Outcome
+rowOutcomes rule table v rows = map (λ i. meaning rule table (v i)) (rowsFrom 0 rows)
+
+-- 15, 16, 17, or the answer's bytes
+abbrev pub rowsRun : List ℕ → List ℕ → (ℕ → Value) → ℕ → DataType → Bool → ℕ → Result (List ℕ)
+rowsRun rule table v rows t n output = entriesOf (rowOutcomes rule table v rows) >>= λ es. writtenAs t n es output
+
+-- what a run says, and the final state of the output
+pub record RunGives (run : Result (List ℕ)) (output : List ℕ) (r : RunAnswer) (output′ : List ℕ) : Type 0 where
+  pub says : r ≡ runAnswer run
+  pub output-is : output′ ≡ outputAfter run output
+
+-- of rows that each have a value
+abbrev pub WriteGives : List ℕ → List ℕ → (ℕ → Value) → ℕ → DataType → Bool → List ℕ → RunAnswer → List ℕ → Type 0
+WriteGives rule table v rows t n output r output′ = RunGives (rowsRun rule table v rows t n (length output)) output r output′
+
+-- ---- rows by their slots
+
+-- a kind that a column of the type with a number can have: null, failed, or the type's; a text may be in the table
+abbrev pub kindFits : ℕ → ℕ → Bool
+kindFits code k = eqb k 0 || eqb k 7 || cond (eqb k 6) (eqb code 5) (eqb k code)
+
+-- at most 512 rows, a frame with their slots, and a rule and a table whose texts can be counted
+abbrev pub lengthsFit : List ℕ → List ℕ → List ℕ → ℕ → Bool
+lengthsFit rule table w rows = leb rows 512 && leb 5632 (length w) && leb (length rule) 65536 && leb (length table) 65536
+
+-- a row's slot has a kind that a column of the type with a number can have
+abbrev pub slotFits : ℕ → List ℕ → ℕ → Bool
+slotFits code w i = kindFits code (kindOf (slotAt w i))
+
+-- every row's has
+abbrev pub slotsFit : ℕ → List ℕ → ℕ → Bool
+slotsFit code w rows = eachRow (slotFits code w) rows
+
+-- the rows' slots can be written as a column of a type
+abbrev pub writable : List ℕ → List ℕ → List ℕ → ℕ → DataType → Bool
+writable rule table w rows t = lengthsFit rule table w rows && slotsFit (typeNumber t) w rows
+
+-- where they can't: 0
+abbrev pub slotsRun : List ℕ → List ℕ → List ℕ → ℕ → DataType → Bool → ℕ → Result (List ℕ)
+slotsRun rule table w rows t n output = require (writable rule table w rows t) 0 >>= λ _. rowsRun rule table (slotAt w) rows t n output
+
+-- the same, fact by fact
+pub record WriteAsks (rule table w : List ℕ) (rows : ℕ) (t : DataType) : Type 0 where
+  pub few : rows ≤ 512
+  pub room : 5632 ≤ length w
+  pub rule-short : length rule ≤ 65536
+  pub table-short : length table ≤ 65536
+  pub each : (i : ℕ) → i < rows → slotFits (typeNumber t) w i ≡ true
+
+-- the kind and the payload of a row's slot
+abbrev pub slotKind : List ℕ → ℕ → ℕ
+slotKind w i = byte w (1024 + 9 * i)
+
+abbrev pub slotPayload : List ℕ → ℕ → ℕ
+slotPayload w i = numberAt 8 w (1025 + 9 * i)
+
+-- a yes just where something holds
+pub record Tells (answer : Bool) (fact : Type 0) : Type 0 where
+  pub holds : answer ≡ true → fact
+  pub told : fact → answer ≡ true
+
+-- every row is of a kind
+abbrev pub RowsOfKind : (ℕ → ℕ) → ℕ → ℕ → Type 0
+RowsOfKind kind rows k = (i : ℕ) → i < rows → kind i ≡ k
+
+-- every row's kind is that of the answer's type, which is one of numbers
+pub record PlainRows (kind : ℕ → ℕ) (rows : ℕ) (t : DataType) : Type 0 where
+  pub few : rows ≤ 512
+  pub number : (2 ≤ typeNumber t) × (typeNumber t ≤ 4)
+  pub kind-is : RowsOfKind kind rows (typeNumber t)
+
+-- ---- rows by their classes
+
+-- the value of a row's class: the literal at its index
+abbrev pub classValue : List ℕ → List ℕ → List ℕ → ℕ → Value
+classValue classes kinds payloads i = valueAt kinds payloads (getD classes i 0)
+
+-- at most 512 rows, a class for each, and a kind and a payload for each class
+abbrev pub classesLong : ℕ → List ℕ → List ℕ → List ℕ → Bool
+classesLong rows classes kinds payloads = leb rows 512 && eqb (length classes) 512 && eqb (length kinds) 258 && eqb (length payloads) 258
+
+-- the number of a type of numbers
+abbrev pub numberType : ℕ → Bool
+numberType code = leb 2 code && leb code 4
+
+-- a row's class is of a kind
+abbrev pub classOfKind : ℕ → List ℕ → List ℕ → ℕ → Bool
+classOfKind k classes kinds i = ltb (getD classes i 0) 258 && eqb (getD kinds (getD classes i 0) 0) k
+
+-- every row's is
+abbrev pub classesOfKind : ℕ → List ℕ → List ℕ → ℕ → Bool
+classesOfKind k classes kinds rows = eachRow (classOfKind k classes kinds) rows
+
+-- the rows' classes can be written as a column of a type: each is a number of it
+abbrev pub classed : ℕ → DataType → List ℕ → List ℕ → List ℕ → Bool
+classed rows t classes kinds payloads = classesLong rows classes kinds payloads && numberType (typeNumber t) && classesOfKind (typeNumber t) classes kinds rows
+
+-- where they can't: 0
+abbrev pub classesRun : List ℕ → List ℕ → ℕ → DataType → Bool → List ℕ → List ℕ → List ℕ → ℕ → Result (List ℕ)
+classesRun rule table rows t n classes kinds payloads output =
+    require (classed rows t classes kinds payloads) 0 >>= λ _. rowsRun rule table (classValue classes kinds payloads) rows t n output
+
+-- the same, fact by fact
+pub record ClassesAsk (rows : ℕ) (t : DataType) (classes kinds payloads : List ℕ) : Type 0 where
+  pub few : rows ≤ 512
+  pub classes-long : length classes ≡ 512
+  pub kinds-long : length kinds ≡ 258
+  pub payloads-long : length payloads ≡ 258
+  pub number : (2 ≤ typeNumber t) × (typeNumber t ≤ 4)
+  pub each : (i : ℕ) → i < rows → (getD classes i 0 < 258) × (getD kinds (getD classes i 0) 0 ≡ typeNumber t)
+
+-- every row's class has a payload
+pub record ClassesIn (rows : ℕ) (classes payloads : List ℕ) : Type 0 where
+  pub few : rows ≤ 512
+  pub classes-long : length classes ≡ 512
+  pub payloads-long : length payloads ≡ 258
+  pub below : (i : ℕ) → i < rows → getD classes i 0 < 258
+
+-- the payload of a row's class
+abbrev pub classPayload : List ℕ → List ℕ → ℕ → ℕ
+classPayload classes payloads i = getD payloads (getD classes i 0) 0

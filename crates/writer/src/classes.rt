@@ -1,0 +1,141 @@
+// The answer's column of rows that each have the number of a class: 17 and nothing, or its bytes at the front of the output.
+use crate::RunAnswer;
+use crate::plain::FLOAT64;
+use crate::plain::INT32;
+use crate::plain::plain_front;
+use crate::put::put_number;
+use crate::write::ROWS_MOST;
+use crate::write::column_size;
+use rule::types::type_number;
+use scalar::types::DataType;
+ghost use mathlib.Core.Path.{_≡_};
+ghost use mathlib.Core.List.{List};
+ghost use Prim.Native.Nat.{ℕ, _+_, _≤_};
+ghost use lib.ListN.{length};
+ghost use Rattle.writer.specs.Write.{RunGives, WriteGives, ClassesAsk, ClassesIn, classValue, classPayload, classesLong, numberType, classesOfKind, classed, classesRun};
+ghost use Rattle.writer.specs.Writing.{Wrote, rowBytes, plainNumbers};
+
+// How many classes have a kind and a payload.
+const CLASSES: usize = 258;
+
+// The answer at the front of the output, and its length, of rows that each have the number of their class; or 17, and the output is unchanged. 0,
+// which is no refusal of a run, says that the classes are no numbers of the type.
+pub fn write_classes(
+    rows: usize,
+    t: DataType,
+    nullable: bool,
+    classes: &[u16],
+    kinds: &[u8],
+    payloads: &[u64],
+    output: &mut [u8],
+) -> RunAnswer
+    ensures { λ r. ⌜ ((rule table : List ℕ) → RunGives (classesRun rule table rows t nullable (now (classes .entry)) (now (kinds .entry)) (now (payloads .entry)) (length (now (output .entry)))) (now (output .entry)) r (now (output .exit))) ⌝ }
+{
+    if !classes_fit(rows, t, classes, kinds, payloads) {
+        return RunAnswer::Refused(0);
+    }
+    write_classed(rows, t, nullable, classes, kinds, payloads, output)
+}
+
+// Whether every row's class is a number of the type.
+fn classes_fit(rows: usize, t: DataType, classes: &[u16], kinds: &[u8], payloads: &[u64]) -> bool
+    ensures { λ r. ⌜ r ≡ classed rows t (now (classes .entry)) (now (kinds .entry)) (now (payloads .entry)) ⌝ }
+{
+    if !classes_long(rows, classes, kinds, payloads) {
+        return false;
+    }
+    let code = type_number(t);
+    if !number_type(code) {
+        return false;
+    }
+    classes_of_kind(rows, code, classes, kinds)
+}
+
+// Whether the arrays have a class for each row, and a kind and a payload for each class.
+fn classes_long(rows: usize, classes: &[u16], kinds: &[u8], payloads: &[u64]) -> bool
+    ensures { λ r. ⌜ r ≡ classesLong rows (now (classes .entry)) (now (kinds .entry)) (now (payloads .entry)) ⌝ }
+{
+    if ROWS_MOST < rows {
+        return false;
+    }
+    if classes.len() != ROWS_MOST {
+        return false;
+    }
+    if kinds.len() != CLASSES {
+        return false;
+    }
+    payloads.len() == CLASSES
+}
+
+// Whether a type's number is one of the types of numbers.
+fn number_type(code: u8) -> bool
+    ensures { λ r. ⌜ r ≡ numberType code ⌝ }
+{
+    if code < INT32 {
+        return false;
+    }
+    code <= FLOAT64
+}
+
+// Whether every row's class is of a kind.
+fn classes_of_kind(rows: usize, k: u8, classes: &[u16], kinds: &[u8]) -> bool
+    requires { ⌜ (rows ≤ length (now classes)) × (length (now kinds) ≡ 258) ⌝ }
+    ensures { λ r. ⌜ r ≡ classesOfKind k (now (classes .entry)) (now (kinds .entry)) rows ⌝ }
+{
+    let mut i = 0;
+    while i < rows {
+        let class = classes[i] as usize;
+        if CLASSES <= class {
+            return false;
+        }
+        if kinds[class] != k {
+            return false;
+        }
+        i += 1;
+    }
+    true
+}
+
+// The same of classes that are numbers of the type: 17 or the answer.
+fn write_classed(
+    rows: usize,
+    t: DataType,
+    nullable: bool,
+    classes: &[u16],
+    kinds: &[u8],
+    payloads: &[u64],
+    output: &mut [u8],
+) -> RunAnswer
+    requires { ⌜ ClassesAsk rows t (now classes) (now kinds) (now payloads) ⌝ }
+    ensures { λ r. ⌜ ((rule table : List ℕ) → WriteGives rule table (classValue (now (classes .entry)) (now (kinds .entry)) (now (payloads .entry))) rows t nullable (now (output .entry)) r (now (output .exit))) ⌝ }
+{
+    let size = column_size(rows, t, false, 0);
+    if output.len() < size {
+        return RunAnswer::Refused(17);
+    }
+    let p = plain_front(rows, t, nullable, output);
+    let wide = type_number(t) != INT32;
+    let end = put_classes(rows, wide, classes, payloads, p, output);
+    RunAnswer::Answered(end)
+}
+
+// The numbers of the rows' classes, of eight bytes or of four.
+fn put_classes(
+    rows: usize,
+    wide: bool,
+    classes: &[u16],
+    payloads: &[u64],
+    at: usize,
+    output: &mut [u8],
+) -> usize
+    requires { ⌜ ClassesIn rows (now classes) (now payloads) × (at + length (rowBytes (plainNumbers wide (classPayload (now classes) (now payloads))) rows) ≤ length (now output)) ⌝ }
+    ensures { λ r. ⌜ Wrote (now (output .entry)) at (rowBytes (plainNumbers wide (classPayload (now (classes .entry)) (now (payloads .entry)))) rows) r (now (output .exit)) ⌝ }
+{
+    let mut p = at;
+    let mut i = 0;
+    while i < rows {
+        p = put_number(output, p, wide, payloads[classes[i] as usize]);
+        i += 1;
+    }
+    p
+}
