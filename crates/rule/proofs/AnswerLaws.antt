@@ -18,7 +18,7 @@ use Rattle.rule.specs.Reading.{readTree, readRule}
 use Rattle.rule.specs.Projection.{indexes}
 use Rattle.rule.specs.Answers.{ruleAnswer, strategyAnswer, nullableAnswer, columnsIn256, projectionAnswer}
 use Rattle.rule.specs.Seen.{SeenIs}
-use Rattle.rule.specs.Steps.{Gives, ReadGives, RuleRead}
+use Rattle.rule.specs.Steps.{Gives, TreeGives, RuleRead}
 use Rattle.rule.specs.ConstantWalks.{FailsGives}
 use Rattle.rule.specs.AnswerWalks.{StrategyGives, RuleNullableGives}
 use Rattle.rule.proofs.ReadNode.{read-node, accepted-node}
@@ -26,7 +26,7 @@ use Rattle.rule.proofs.StepLaws.{gives-read, was-refused, was-read, on-
 use Rattle.rule.proofs.ReadColumns.{tree-columns, tree-projection}
 
 -- a rule from its tree
-module _ (rule : List ℕ) (a : NodeRead) (h : ReadGives rule (readTree rule) a) where
+module _ (rule : List ℕ) (a : NodeRead) (h : TreeGives rule (readTree rule) a) where
   pub rule-unread : (a .refused ≡ 0 → ⊥) → Gives (RuleRead a) (readRule rule) (a .refused)
   unfolding readRule
   rule-unread n = behind-refused (readTree rule) _ h n refl

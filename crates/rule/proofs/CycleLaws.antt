@@ -22,15 +22,15 @@ use Rattle.scalar.specs.Types.{sameType, typeNumbered}
 use Rattle.scalar.specs.Cast.{listed}
 use Rattle.rule.specs.declared.types.TypeAnswer.{TypeAnswer}
 use Rattle.rule.specs.declared.types.TypeAnswer.the-variants.{Known, Unknown}
-use Rattle.rule.specs.declared.seen.Seen.{Seen}
 use Rattle.rule.specs.declared.node.NodeRead.{NodeRead}
+use Rattle.rule.specs.declared.node.FieldFound.{FieldFound}
 use Rattle.rule.specs.declared.node.BranchesRead.{BranchesRead}
 use Rattle.rule.specs.Tree.{Column, Expr, negation, negative, isNotNull, cast, tryCast, equal, less, caseWhen, Branches, noMore, branch, Optional, absent, present, isNullLiteral}
 use Rattle.rule.specs.Typing.{typeOf, resultType, nodeTyped, whenType, branchesTyped, elseTyped}
 use Rattle.rule.specs.Constant.{isEmpty}
 use Rattle.rule.specs.Reading.{Read, Reader, Kind, aColumn, aLiteral, aNot, aNegative, anIsNotNull, aCast, aTryCast, anEqual, aLess, aCase, tagOf, kinds, kindAmong, kindOf, readColumn, readLiteral, readUnary, readCast, readBinary, readBranches, readOptional, hasBase, hasElse, readParts, readCase, readLimitedCase, readKind, readField, readRoot, readTree}
-use Rattle.rule.specs.Seen.{SeenIs}
-use Rattle.rule.specs.Steps.{typeOr, accepted, closed, unbranched, branched, Gives, FieldRead, ReadGives, OptionalRead, BranchesAre, readThen, unaryOf, castOf, binaryOf, readTagged}
+use Rattle.rule.specs.Seen.{Marked}
+use Rattle.rule.specs.Steps.{typeOr, accepted, closed, unbranched, branched, Gives, FieldRead, ReadGives, TreeGives, OptionalRead, BranchesAre, readThen, unaryOf, castOf, binaryOf, readTagged}
 use Rattle.rule.proofs.StepLaws.{gives-refusal, gives-read, on-ok, on-refused, behind-read, behind-refused, gives-map, empty-drop, some-drop, close-gives}
 
 -- no node with children is a null literal
@@ -61,65 +61,65 @@ binary-plain tag a b = go (eqb tag 23)
     go true = (refl, refl, refl)
     go false = (refl, refl, refl)
 
--- nodes whose children `child` reads
-module _ (child : Reader Expr) (content : List ℕ) (cols : List Column) (outer : List ℕ) (end : ℕ) where
+-- nodes whose children `child` reads; the marks behind a node are `after`, and those between its parts `middle` and `late`
+module _ (child : Reader Expr) (content : List ℕ) (cols : List Column) (outer : List ℕ) (end : ℕ) {after : List ℕ} where
   -- one child
-  pub unary-gives : (tag : ℕ) (a : NodeRead) (fits : Bool) (t : DataType) (r : NodeRead) → ReadGives content (child content cols) a
+  pub unary-gives : (tag : ℕ) (a : FieldFound) (fits : Bool) (t : DataType) (r : FieldFound) → ReadGives content (child content cols) a after
       → ((e : Expr) → a .result ≡ typeOf e → fits ≡ nodeTyped (unaryOf tag e)) → ((e : Expr) → a .result ≡ typeOf e → t ≡ typeOf (unaryOf tag e))
-      → r ≡ closed a (length content) fits t end → ReadGives outer (readUnary (unaryOf tag) child content cols (drop end outer)) r
+      → r ≡ closed a (length content) fits t end → ReadGives outer (readUnary (unaryOf tag) child content cols (drop end outer)) r after
   unfolding readUnary
   unary-gives tag a fits t r h fits-is type-is e =
-      rw e (close-gives (unaryOf tag) content outer a (length content) fits t end refl
+      rw e (close-gives (unaryOf tag) content outer after a (length content) fits t end refl
       (λ x g. (g .behind, fits-is (x .tree) (g .type-is), type-is (x .tree) (g .type-is), unary-plain tag (x .tree))) (child content cols) h)
 
   -- two children
-  pub binary-refused : (tag : ℕ) (a : NodeRead) → ReadGives content (child content cols) a → (a .refused ≡ 0 → ⊥)
-      → ReadGives outer (readBinary (binaryOf tag) child content cols (drop end outer)) a
+  pub binary-refused : (tag : ℕ) (a : FieldFound) → ReadGives content (child content cols) a after → (a .refused ≡ 0 → ⊥)
+      → ReadGives outer (readBinary (binaryOf tag) child content cols (drop end outer)) a after
   unfolding readBinary
   binary-refused tag a h n = behind-refused (child content cols) _ h n refl
 
-  pub binary-gives : (tag : ℕ) (a b : NodeRead) (fits : Bool) (r : NodeRead) → ReadGives content (child content cols) a → a .refused ≡ 0
-      → ((met : List Column) → SeenIs met (a .seen) → ReadGives content (child (drop (a .next) content) met) b)
+  pub binary-gives : (tag : ℕ) (a b : FieldFound) {middle : List ℕ} (fits : Bool) (r : FieldFound) → ReadGives content (child content cols) a middle → a .refused ≡ 0
+      → ((met : List Column) → Marked met middle → ReadGives content (child (drop (a .next) content) met) b after)
       → fits ≡ sameType (a .result) (b .result) → r ≡ closed b (length content) fits Boolean end
-      → ReadGives outer (readBinary (binaryOf tag) child content cols (drop end outer)) r
+      → ReadGives outer (readBinary (binaryOf tag) child content cols (drop end outer)) r after
   unfolding readBinary
   binary-gives tag a b fits r h z second fits-is e =
       behind-read (child content cols) _ h z
-      (λ x g. rw e (close-gives (binaryOf tag (x .tree)) content outer b (length content) fits Boolean end refl
+      (λ x g. rw e (close-gives (binaryOf tag (x .tree)) content outer after b (length content) fits Boolean end refl
       (λ y k. let (typed, type-is, null-is) = binary-plain tag (x .tree) (y .tree) in
       (k .behind, fits-is ∙ ap₂ sameType (g .type-is) (k .type-is) ∙ typed, type-is, null-is))
       (child (x .rest) (x .seen))
-      (subst (λ (l : List ℕ). ReadGives content (child l (x .seen)) b) (sym (g .behind .rest-is)) (second (x .seen) (g .behind .seen-are)))))
+      (subst (λ (l : List ℕ). ReadGives content (child l (x .seen)) b after) (sym (g .behind .rest-is)) (second (x .seen) (g .behind .seen-are)))))
 
 -- a target's type byte and one child
-module _ (child : Reader Expr) (cols : List Column) (outer : List ℕ) (end : ℕ) (tag : ℕ) where
-  pub cast-short : (content : List ℕ) {r : NodeRead} → length content ≡ 0 → r .refused ≡ 3 → ReadGives outer (readCast (castOf tag) child content cols (drop end outer)) r
+module _ (child : Reader Expr) (cols : List Column) (outer : List ℕ) (end : ℕ) (tag : ℕ) {after : List ℕ} where
+  pub cast-short : (content : List ℕ) {r : FieldFound} → length content ≡ 0 → r .refused ≡ 3 → ReadGives outer (readCast (castOf tag) child content cols (drop end outer)) r after
   unfolding readCast
   cast-short [] h e = gives-refusal 3 refl (omega arith) e
   cast-short (b ∷ l) h e = absurd (omega arith)
 
-  pub cast-untyped : (content : List ℕ) {r : NodeRead} → (length content ≡ 0 → ⊥) → typeNumbered 3 (byte content 0) ≡ refused 3 → r .refused ≡ 3
-      → ReadGives outer (readCast (castOf tag) child content cols (drop end outer)) r
+  pub cast-untyped : (content : List ℕ) {r : FieldFound} → (length content ≡ 0 → ⊥) → typeNumbered 3 (byte content 0) ≡ refused 3 → r .refused ≡ 3
+      → ReadGives outer (readCast (castOf tag) child content cols (drop end outer)) r after
   unfolding readCast
   cast-untyped [] h p e = absurd (h refl)
   cast-untyped (b ∷ l) h p e = on-refused (typeNumbered 3 b) _ 3 p (omega arith) e
 
-  pub cast-gives : (content : List ℕ) (t : DataType) (a : NodeRead) (fits : Bool) (r : NodeRead) → (length content ≡ 0 → ⊥) → typeNumbered 3 (byte content 0) ≡ ok t
-      → ReadGives content (child (drop 1 content) cols) a → fits ≡ listed (a .result) t → r ≡ closed a (length content) fits t end
-      → ReadGives outer (readCast (castOf tag) child content cols (drop end outer)) r
+  pub cast-gives : (content : List ℕ) (t : DataType) (a : FieldFound) (fits : Bool) (r : FieldFound) → (length content ≡ 0 → ⊥) → typeNumbered 3 (byte content 0) ≡ ok t
+      → ReadGives content (child (drop 1 content) cols) a after → fits ≡ listed (a .result) t → r ≡ closed a (length content) fits t end
+      → ReadGives outer (readCast (castOf tag) child content cols (drop end outer)) r after
   unfolding readCast readUnary
   cast-gives [] t a fits r h p g fits-is e = absurd (h refl)
   cast-gives (b ∷ l) t a fits r h p g fits-is e =
       on-ok (typeNumbered 3 b) _ t p
-      (rw e (close-gives (castOf tag t) (b ∷ l) outer a (length (b ∷ l)) fits t end refl
+      (rw e (close-gives (castOf tag t) (b ∷ l) outer after a (length (b ∷ l)) fits t end refl
       (λ x k. let (typed, type-is, null-is) = cast-plain tag t (x .tree) in
       (k .behind, fits-is ∙ ap (λ (from : DataType). listed from t) (k .type-is) ∙ typed, type-is, null-is))
       (child l cols) g))
 
 -- a part that may be absent
-module _ (child : Reader Expr) (bytes : List ℕ) (at : ℕ) (cols : List Column) where
-  pub optional-there : (r : NodeRead) (there : Bool) → there ≡ true → ReadGives bytes (child (drop at bytes) cols) r
-      → Gives (OptionalRead bytes r) (readOptional there child (drop at bytes) cols) (r .refused)
+module _ (child : Reader Expr) (bytes : List ℕ) (at : ℕ) (cols : List Column) {after : List ℕ} where
+  pub optional-there : (r : FieldFound) (there : Bool) → there ≡ true → ReadGives bytes (child (drop at bytes) cols) r after
+      → Gives (OptionalRead bytes r after) (readOptional there child (drop at bytes) cols) (r .refused)
   unfolding readOptional
   optional-there r there e h =
       rw e (gives-map (child (drop at bytes) cols) (λ x. record { tree = present (x .tree); seen = x .seen; rest = x .rest }) h refl
@@ -129,59 +129,59 @@ module _ (child : Reader Expr) (bytes : List ℕ) (at : ℕ) (cols : List Column
         behind = record { rest-is = g .behind .rest-is; seen-are = g .behind .seen-are };
       }))
 
-  pub optional-absent : (seen : Seen) (r : NodeRead) (there : Bool) → there ≡ false → SeenIs cols seen → r ≡ accepted Boolean true at seen
-      → Gives (OptionalRead bytes r) (readOptional there child (drop at bytes) cols) (r .refused)
+  pub optional-absent : (r : FieldFound) (there : Bool) → there ≡ false → Marked cols after → r ≡ accepted Boolean true at
+      → Gives (OptionalRead bytes r after) (readOptional there child (drop at bytes) cols) (r .refused)
   unfolding readOptional
-  optional-absent seen r there e s is =
+  optional-absent r there e s is =
       rw (e, is) (gives-read (record { tree = absent; seen = cols; rest = drop at bytes }) refl refl
       (record { when-is = refl; else-is = λ t. refl; behind = record { rest-is = refl; seen-are = s } }))
 
 -- branches
 module _ (child : Reader Expr) (bytes : List ℕ) (when : DataType) (earlier : TypeAnswer) where
-  pub branches-none : (at count : ℕ) (cols : List Column) (seen : Seen) (r : BranchesRead) → count ≡ 0 → SeenIs cols seen → r ≡ unbranched earlier at seen
-      → Gives (BranchesAre bytes when earlier r) (readBranches child count (drop at bytes) cols) (r .refused)
+  pub branches-none : (at count : ℕ) (cols : List Column) (r : BranchesRead) {after : List ℕ} → count ≡ 0 → Marked cols after → r ≡ unbranched earlier at
+      → Gives (BranchesAre bytes when earlier r after) (readBranches child count (drop at bytes) cols) (r .refused)
   unfolding readBranches branchesTyped typeOf
-  branches-none at count cols seen r z s is =
+  branches-none at count cols r z s is =
       rw (z, is) (gives-read (record { tree = noMore; seen = cols; rest = drop at bytes }) refl refl
       (record { result-is = refl; fits-is = refl; behind = record { rest-is = refl; seen-are = s } }))
 
-  pub branches-refused : (at count : ℕ) (cols : List Column) (w : NodeRead) (r : BranchesRead) → (count ≡ 0 → ⊥) → ReadGives bytes (child (drop at bytes) cols) w
-      → (w .refused ≡ 0 → ⊥) → r .refused ≡ w .refused → Gives (BranchesAre bytes when earlier r) (readBranches child count (drop at bytes) cols) (r .refused)
+  pub branches-refused : (at count : ℕ) (cols : List Column) (w : FieldFound) {middle : List ℕ} (r : BranchesRead) {after : List ℕ} → (count ≡ 0 → ⊥) → ReadGives bytes (child (drop at bytes) cols) w middle
+      → (w .refused ≡ 0 → ⊥) → r .refused ≡ w .refused → Gives (BranchesAre bytes when earlier r after) (readBranches child count (drop at bytes) cols) (r .refused)
   unfolding readBranches
   branches-refused at zero cols w r z h n e = absurd (z refl)
   branches-refused at (suc k) cols w r z h n e = behind-refused (child (drop at bytes) cols) _ h n e
 
-  pub branches-give : (at count : ℕ) (cols : List Column) (w : NodeRead) (r : BranchesRead) → (count ≡ 0 → ⊥) → ReadGives bytes (child (drop at bytes) cols) w
-      → w .refused ≡ 0 → ((x : Read Expr) → FieldRead bytes w x → Gives (BranchesAre bytes when earlier r) (readThen child (x .tree) (count - 1) (x .rest) (x .seen)) (r .refused))
-      → Gives (BranchesAre bytes when earlier r) (readBranches child count (drop at bytes) cols) (r .refused)
+  pub branches-give : (at count : ℕ) (cols : List Column) (w : FieldFound) {middle : List ℕ} (r : BranchesRead) {after : List ℕ} → (count ≡ 0 → ⊥) → ReadGives bytes (child (drop at bytes) cols) w middle
+      → w .refused ≡ 0 → ((x : Read Expr) → FieldRead bytes w middle x → Gives (BranchesAre bytes when earlier r after) (readThen child (x .tree) (count - 1) (x .rest) (x .seen)) (r .refused))
+      → Gives (BranchesAre bytes when earlier r after) (readBranches child count (drop at bytes) cols) (r .refused)
   unfolding readBranches readThen
   branches-give at zero cols w r z h n e = absurd (z refl)
-  branches-give at (suc k) cols w r z h n e =
+  branches-give at (suc k) cols w {middle} r {after} z h n e =
       let back : suc k - 1 ≡ k = omega arith in
       behind-read (child (drop at bytes) cols) _ h n
-      (subst (λ (c : ℕ). (x : Read Expr) → FieldRead bytes w x → Gives (BranchesAre bytes when earlier r) (readThen child (x .tree) c (x .rest) (x .seen)) (r .refused)) back e)
+      (subst (λ (c : ℕ). (x : Read Expr) → FieldRead bytes w middle x → Gives (BranchesAre bytes when earlier r after) (readThen child (x .tree) c (x .rest) (x .seen)) (r .refused)) back e)
 
   -- behind a WHEN that was read
-  module _ (w : NodeRead) (x : Read Expr) (g : FieldRead bytes w x) (count : ℕ) (t : NodeRead)
-      (then-is : (met : List Column) → SeenIs met (w .seen) → ReadGives bytes (child (drop (w .next) bytes) met) t) where
-    then-read : ReadGives bytes (child (x .rest) (x .seen)) t
-    then-read = subst (λ (l : List ℕ). ReadGives bytes (child l (x .seen)) t) (sym (g .behind .rest-is)) (then-is (x .seen) (g .behind .seen-are))
+  module _ (w : FieldFound) {middle : List ℕ} (x : Read Expr) (g : FieldRead bytes w middle x) (count : ℕ) (t : FieldFound) {late : List ℕ}
+      (then-is : (met : List Column) → Marked met middle → ReadGives bytes (child (drop (w .next) bytes) met) t late) where
+    then-read : ReadGives bytes (child (x .rest) (x .seen)) t late
+    then-read = subst (λ (l : List ℕ). ReadGives bytes (child l (x .seen)) t late) (sym (g .behind .rest-is)) (then-is (x .seen) (g .behind .seen-are))
 
-    pub then-refused : (r : BranchesRead) → (t .refused ≡ 0 → ⊥) → r .refused ≡ t .refused
-        → Gives (BranchesAre bytes when earlier r) (readThen child (x .tree) count (x .rest) (x .seen)) (r .refused)
+    pub then-refused : (r : BranchesRead) {after : List ℕ} → (t .refused ≡ 0 → ⊥) → r .refused ≡ t .refused
+        → Gives (BranchesAre bytes when earlier r after) (readThen child (x .tree) count (x .rest) (x .seen)) (r .refused)
     unfolding readThen
     then-refused r n e = behind-refused (child (x .rest) (x .seen)) _ then-read n e
 
-    pub then-gives : (result : DataType) (later r : BranchesRead) → t .refused ≡ 0 → result ≡ typeOr earlier (t .result)
-        → ((met : List Column) → SeenIs met (t .seen) → Gives (BranchesAre bytes when (Known result) later) (readBranches child count (drop (t .next) bytes) met) (later .refused))
+    pub then-gives : (result : DataType) (later r : BranchesRead) {after : List ℕ} → t .refused ≡ 0 → result ≡ typeOr earlier (t .result)
+        → ((met : List Column) → Marked met late → Gives (BranchesAre bytes when (Known result) later after) (readBranches child count (drop (t .next) bytes) met) (later .refused))
         → r ≡ branched (w .result) when (t .result) later
-        → Gives (BranchesAre bytes when earlier r) (readThen child (x .tree) count (x .rest) (x .seen)) (r .refused)
+        → Gives (BranchesAre bytes when earlier r after) (readThen child (x .tree) count (x .rest) (x .seen)) (r .refused)
     unfolding readThen branchesTyped typeOf
-    then-gives result later r z result-is rest e =
+    then-gives result later r {after} z result-is rest e =
         behind-read (child (x .rest) (x .seen)) _ then-read z
         (λ y k. rw e (gives-map (readBranches child count (y .rest) (y .seen))
         (λ bs. record { tree = branch (x .tree) (y .tree) (bs .tree); seen = bs .seen; rest = bs .rest })
-        (subst (λ (l : List ℕ). Gives (BranchesAre bytes when (Known result) later) (readBranches child count l (y .seen)) (later .refused))
+        (subst (λ (l : List ℕ). Gives (BranchesAre bytes when (Known result) later after) (readBranches child count l (y .seen)) (later .refused))
         (sym (k .behind .rest-is)) (rest (y .seen) (k .behind .seen-are)))
         refl
         (λ bs b. record {
@@ -191,40 +191,40 @@ module _ (child : Reader Expr) (bytes : List ℕ) (when : DataType) (earlier : T
         })))
 
 -- base, branches and ELSE
-module _ (child : Reader Expr) (bytes : List ℕ) (cols : List Column) (outer : List ℕ) (end flags count : ℕ) (b : NodeRead)
-    (base : Gives (OptionalRead bytes b) (readOptional (hasBase flags) child (drop 2 bytes) cols) (b .refused)) where
-  pub parts-unbased : (b .refused ≡ 0 → ⊥) → ReadGives outer (readParts child flags count (drop 2 bytes) cols (drop end outer)) b
+module _ (child : Reader Expr) (bytes : List ℕ) (cols : List Column) (outer : List ℕ) (end flags count : ℕ) (b : FieldFound) {middle : List ℕ}
+    (base : Gives (OptionalRead bytes b middle) (readOptional (hasBase flags) child (drop 2 bytes) cols) (b .refused)) where
+  pub parts-unbased : {after : List ℕ} → (b .refused ≡ 0 → ⊥) → ReadGives outer (readParts child flags count (drop 2 bytes) cols (drop end outer)) b after
   unfolding readParts
   parts-unbased n = behind-refused (readOptional (hasBase flags) child (drop 2 bytes) cols) _ base n refl
 
-  module _ (z : b .refused ≡ 0) (bs : BranchesRead)
-      (branches : (met : List Column) → SeenIs met (b .seen) → Gives (BranchesAre bytes (b .result) Unknown bs) (readBranches child count (drop (b .next) bytes) met) (bs .refused)) where
-    branches-read : (x : Read Optional) → OptionalRead bytes b x → Gives (BranchesAre bytes (b .result) Unknown bs) (readBranches child count (x .rest) (x .seen)) (bs .refused)
+  module _ (z : b .refused ≡ 0) (bs : BranchesRead) {late : List ℕ}
+      (branches : (met : List Column) → Marked met middle → Gives (BranchesAre bytes (b .result) Unknown bs late) (readBranches child count (drop (b .next) bytes) met) (bs .refused)) where
+    branches-read : (x : Read Optional) → OptionalRead bytes b middle x → Gives (BranchesAre bytes (b .result) Unknown bs late) (readBranches child count (x .rest) (x .seen)) (bs .refused)
     branches-read x g =
-        subst (λ (l : List ℕ). Gives (BranchesAre bytes (b .result) Unknown bs) (readBranches child count l (x .seen)) (bs .refused))
+        subst (λ (l : List ℕ). Gives (BranchesAre bytes (b .result) Unknown bs late) (readBranches child count l (x .seen)) (bs .refused))
         (sym (g .behind .rest-is)) (branches (x .seen) (g .behind .seen-are))
 
-    pub parts-unbranched : (r : NodeRead) → (bs .refused ≡ 0 → ⊥) → r .refused ≡ bs .refused → ReadGives outer (readParts child flags count (drop 2 bytes) cols (drop end outer)) r
+    pub parts-unbranched : (r : FieldFound) {after : List ℕ} → (bs .refused ≡ 0 → ⊥) → r .refused ≡ bs .refused → ReadGives outer (readParts child flags count (drop 2 bytes) cols (drop end outer)) r after
     unfolding readParts
     parts-unbranched r n q =
         behind-read (readOptional (hasBase flags) child (drop 2 bytes) cols) _ base z
         (λ x g. behind-refused (readBranches child count (x .rest) (x .seen)) _ (branches-read x g) n q)
 
-    pub parts-give : (e : NodeRead) (fits : Bool) (r : NodeRead) → bs .refused ≡ 0
-        → ((met : List Column) → SeenIs met (bs .seen) → Gives (OptionalRead bytes e) (readOptional (hasElse flags) child (drop (bs .next) bytes) met) (e .refused))
+    pub parts-give : (e : FieldFound) (fits : Bool) (r : FieldFound) {after : List ℕ} → bs .refused ≡ 0
+        → ((met : List Column) → Marked met late → Gives (OptionalRead bytes e after) (readOptional (hasElse flags) child (drop (bs .next) bytes) met) (e .refused))
         → fits ≡ (bs .fits && (e .null || listed (e .result) (bs .result))) → r ≡ closed e (length bytes) fits (bs .result) end
-        → ReadGives outer (readParts child flags count (drop 2 bytes) cols (drop end outer)) r
+        → ReadGives outer (readParts child flags count (drop 2 bytes) cols (drop end outer)) r after
     unfolding readParts nodeTyped typeOf
-    parts-give e fits r zz last fits-is q =
+    parts-give e fits r {after} zz last fits-is q =
         behind-read (readOptional (hasBase flags) child (drop 2 bytes) cols) _ base z
         (λ x g. behind-read (readBranches child count (x .rest) (x .seen)) _ (branches-read x g) zz
-        (λ y k. rw q (close-gives (caseWhen (x .tree) (y .tree)) bytes outer e (length bytes) fits (bs .result) end refl
+        (λ y k. rw q (close-gives (caseWhen (x .tree) (y .tree)) bytes outer after e (length bytes) fits (bs .result) end refl
         (λ u m. (m .behind, fits-is ∙ case-typed x g y k u m, k .result-is, refl))
         (readOptional (hasElse flags) child (y .rest) (y .seen))
-        (subst (λ (l : List ℕ). Gives (OptionalRead bytes e) (readOptional (hasElse flags) child l (y .seen)) (e .refused))
+        (subst (λ (l : List ℕ). Gives (OptionalRead bytes e after) (readOptional (hasElse flags) child l (y .seen)) (e .refused))
         (sym (k .behind .rest-is)) (last (y .seen) (k .behind .seen-are))))))
       where
-        case-typed : (x : Read Optional) → OptionalRead bytes b x → (y : Read Branches) → BranchesAre bytes (b .result) Unknown bs y → (u : Read Optional) → OptionalRead bytes e u
+        case-typed : (x : Read Optional) → OptionalRead bytes b middle x → (y : Read Branches) → BranchesAre bytes (b .result) Unknown bs late y → (u : Read Optional) → OptionalRead bytes e after u
             → (bs .fits && (e .null || listed (e .result) (bs .result))) ≡ (branchesTyped (whenType (x .tree)) (resultType (y .tree)) (y .tree) && elseTyped (resultType (y .tree)) (u .tree))
         case-typed x g y k u m =
             ap₂ (λ (p q : Bool). p && q)
@@ -232,38 +232,38 @@ module _ (child : Reader Expr) (bytes : List ℕ) (cols : List Column) (outer : 
             (m .else-is (bs .result) ∙ ap (λ (t : DataType). elseTyped t (u .tree)) (k .result-is))
 
 -- a CASE
-module _ (child : ℕ → Reader Expr) (cols : List Column) (outer : List ℕ) (end : ℕ) where
-  abbrev CaseGives : ℕ → List ℕ → NodeRead → Type 0
-  CaseGives cases content r = ReadGives outer (readLimitedCase child cases content cols (drop end outer)) r
+module _ (child : ℕ → Reader Expr) (cols : List Column) (outer : List ℕ) (end : ℕ) (after : List ℕ) where
+  abbrev CaseGives : ℕ → List ℕ → FieldFound → Type 0
+  CaseGives cases content r = ReadGives outer (readLimitedCase child cases content cols (drop end outer)) r after
 
-  pub case-none : (cases : ℕ) (content : List ℕ) {r : NodeRead} → cases ≡ 0 → r .refused ≡ 4 → CaseGives cases content r
+  pub case-none : (cases : ℕ) (content : List ℕ) {r : FieldFound} → cases ≡ 0 → r .refused ≡ 4 → CaseGives cases content r
   unfolding readLimitedCase
   case-none zero content z e = gives-refusal 4 refl (omega arith) e
   case-none (suc k) content z e = absurd (omega arith)
 
   -- with a CASE left
-  left : (cases : ℕ) (content : List ℕ) (r : NodeRead) → (cases ≡ 0 → ⊥) → ReadGives outer (readCase (child (cases - 1)) content cols (drop end outer)) r → CaseGives cases content r
+  left : (cases : ℕ) (content : List ℕ) (r : FieldFound) → (cases ≡ 0 → ⊥) → ReadGives outer (readCase (child (cases - 1)) content cols (drop end outer)) r after → CaseGives cases content r
   unfolding readLimitedCase
   left zero content r z g = absurd (z refl)
   left (suc k) content r z g =
       let back : suc k - 1 ≡ k = omega arith in
-      subst (λ (n : ℕ). ReadGives outer (readCase (child n) content cols (drop end outer)) r) back g
+      subst (λ (n : ℕ). ReadGives outer (readCase (child n) content cols (drop end outer)) r after) back g
 
   module _ (cases : ℕ) (some : cases ≡ 0 → ⊥) where
-    pub case-short : (content : List ℕ) {r : NodeRead} → length content < 2 → r .refused ≡ 3 → CaseGives cases content r
+    pub case-short : (content : List ℕ) {r : FieldFound} → length content < 2 → r .refused ≡ 3 → CaseGives cases content r
     unfolding readCase
     case-short [] h e = left cases [] _ some (gives-refusal 3 refl (omega arith) e)
     case-short (a ∷ []) h e = left cases (a ∷ []) _ some (gives-refusal 3 refl (omega arith) e)
     case-short (a ∷ b ∷ l) h e = absurd (omega arith)
 
-    pub case-flags : (content : List ℕ) {r : NodeRead} → 2 ≤ length content → 3 < byte content 0 → r .refused ≡ 3 → CaseGives cases content r
+    pub case-flags : (content : List ℕ) {r : FieldFound} → 2 ≤ length content → 3 < byte content 0 → r .refused ≡ 3 → CaseGives cases content r
     unfolding readCase
     case-flags [] h p e = absurd (omega arith)
     case-flags (a ∷ []) h p e = absurd (omega arith)
     case-flags (a ∷ b ∷ l) h p e =
         left cases (a ∷ b ∷ l) _ some (on-refused (require (leb a 3) 3) _ 3 (ap (λ (x : Bool). require x 3) (lt-leb _ _ p)) (omega arith) e)
 
-    pub case-unbranched : (content : List ℕ) {r : NodeRead} → 2 ≤ length content → byte content 0 ≤ 3 → byte content 1 ≡ 0 → r .refused ≡ 5 → CaseGives cases content r
+    pub case-unbranched : (content : List ℕ) {r : FieldFound} → 2 ≤ length content → byte content 0 ≤ 3 → byte content 1 ≡ 0 → r .refused ≡ 5 → CaseGives cases content r
     unfolding readCase
     case-unbranched [] h p q e = absurd (omega arith)
     case-unbranched (a ∷ []) h p q e = absurd (omega arith)
@@ -273,7 +273,7 @@ module _ (child : ℕ → Reader Expr) (cols : List Column) (outer : List ℕ) (
         (on-ok (require (leb a 3) 3) _ tt (ap (λ (x : Bool). require x 3) (le-leb _ _ p))
         (on-refused (require (ltb 0 b) 5) _ 5 (ap (λ (x : Bool). require x 5) (le-ltb _ _ few)) (omega arith) e))
 
-    pub case-many : (content : List ℕ) {r : NodeRead} → 2 ≤ length content → byte content 0 ≤ 3 → (byte content 1 ≡ 0 → ⊥) → 32 < byte content 1 → r .refused ≡ 6
+    pub case-many : (content : List ℕ) {r : FieldFound} → 2 ≤ length content → byte content 0 ≤ 3 → (byte content 1 ≡ 0 → ⊥) → 32 < byte content 1 → r .refused ≡ 6
         → CaseGives cases content r
     unfolding readCase
     case-many [] h p n q e = absurd (omega arith)
@@ -285,8 +285,8 @@ module _ (child : ℕ → Reader Expr) (cols : List Column) (outer : List ℕ) (
         (on-ok (require (ltb 0 b) 5) _ tt (ap (λ (x : Bool). require x 5) (lt-ltb _ _ more))
         (on-refused (require (leb b 32) 6) _ 6 (ap (λ (x : Bool). require x 6) (lt-leb _ _ q)) (omega arith) e)))
 
-    pub case-gives : (content : List ℕ) {r : NodeRead} → 2 ≤ length content → byte content 0 ≤ 3 → (byte content 1 ≡ 0 → ⊥) → byte content 1 ≤ 32
-        → ReadGives outer (readParts (child (cases - 1)) (byte content 0) (byte content 1) (drop 2 content) cols (drop end outer)) r → CaseGives cases content r
+    pub case-gives : (content : List ℕ) {r : FieldFound} → 2 ≤ length content → byte content 0 ≤ 3 → (byte content 1 ≡ 0 → ⊥) → byte content 1 ≤ 32
+        → ReadGives outer (readParts (child (cases - 1)) (byte content 0) (byte content 1) (drop 2 content) cols (drop end outer)) r after → CaseGives cases content r
     unfolding readCase
     case-gives [] h p n q g = absurd (omega arith)
     case-gives (a ∷ []) h p n q g = absurd (omega arith)
@@ -348,32 +348,32 @@ unfolding kindAmong
 none-among [] tag h = refl
 none-among (k ∷ ks) tag h = rw (ne-eqb tag (tagOf k) (h k)) (none-among ks tag h)
 
-module _ (child : ℕ → Reader Expr) (cases tag : ℕ) (content : List ℕ) (end : ℕ) (cols : List Column) (outer : List ℕ) (r : NodeRead) where
+module _ (child : ℕ → Reader Expr) (cases tag : ℕ) (content : List ℕ) (end : ℕ) (cols : List Column) (outer : List ℕ) (r : FieldFound) (after : List ℕ) where
   abbrev KindGives : Type 0
-  KindGives = ReadGives outer (readTagged child cases (record { tag = tag; content = content; rest = drop end outer }) cols) r
+  KindGives = ReadGives outer (readTagged child cases (record { tag = tag; content = content; rest = drop end outer }) cols) r after
 
-  pub kind-column : tag ≡ 16 → ReadGives outer (readColumn (record { tag = 16; content = content; rest = drop end outer }) cols) r → KindGives
+  pub kind-column : tag ≡ 16 → ReadGives outer (readColumn (record { tag = 16; content = content; rest = drop end outer }) cols) r after → KindGives
   unfolding readTagged
   kind-column e g = rw e g
 
-  pub kind-literal : tag ≡ 17 → ReadGives outer (readLiteral (record { tag = 17; content = content; rest = drop end outer }) cols) r → KindGives
+  pub kind-literal : tag ≡ 17 → ReadGives outer (readLiteral (record { tag = 17; content = content; rest = drop end outer }) cols) r after → KindGives
   unfolding readTagged
   kind-literal e g = rw e g
 
   module _ (n : tag ≡ 16 → ⊥) (m : tag ≡ 17 → ⊥) where
-    pub kind-unary : tag < 21 → ReadGives outer (readUnary (unaryOf tag) (child cases) content cols (drop end outer)) r → KindGives
+    pub kind-unary : tag < 21 → ReadGives outer (readUnary (unaryOf tag) (child cases) content cols (drop end outer)) r after → KindGives
     unfolding readTagged
     kind-unary h g = rw (ne-eqb _ _ n, ne-eqb _ _ m, lt-ltb _ _ h) g
 
-    pub kind-cast : 21 ≤ tag → tag < 23 → ReadGives outer (readCast (castOf tag) (child cases) content cols (drop end outer)) r → KindGives
+    pub kind-cast : 21 ≤ tag → tag < 23 → ReadGives outer (readCast (castOf tag) (child cases) content cols (drop end outer)) r after → KindGives
     unfolding readTagged
     kind-cast l h g = rw (ne-eqb _ _ n, ne-eqb _ _ m, le-ltb _ _ l, lt-ltb _ _ h) g
 
-    pub kind-binary : 23 ≤ tag → tag < 25 → ReadGives outer (readBinary (binaryOf tag) (child cases) content cols (drop end outer)) r → KindGives
+    pub kind-binary : 23 ≤ tag → tag < 25 → ReadGives outer (readBinary (binaryOf tag) (child cases) content cols (drop end outer)) r after → KindGives
     unfolding readTagged
     kind-binary l h g = let low : 21 ≤ tag = omega arith in rw (ne-eqb _ _ n, ne-eqb _ _ m, le-ltb _ _ low, le-ltb _ _ l, lt-ltb _ _ h) g
 
-    pub kind-case : 25 ≤ tag → ReadGives outer (readLimitedCase child cases content cols (drop end outer)) r → KindGives
+    pub kind-case : 25 ≤ tag → ReadGives outer (readLimitedCase child cases content cols (drop end outer)) r after → KindGives
     unfolding readTagged
     kind-case l g =
         let low : 21 ≤ tag = omega arith in
@@ -423,9 +423,9 @@ found-is s at p = go (header 2 (drop at s)) refl
         q ∙ (λ i. ok (record { tag = tag-is i; content = content-is i; rest = rest-is i }))
 
 -- a field
-module _ (cases : ℕ) (s : List ℕ) (at : ℕ) (cols : List Column) (r : NodeRead) where
+module _ (cases : ℕ) (s : List ℕ) (at : ℕ) (cols : List Column) (r : FieldFound) (after : List ℕ) where
   abbrev FieldGives : ℕ → Type 0
-  FieldGives depth = ReadGives s (readField depth cases (drop at s) cols) r
+  FieldGives depth = ReadGives s (readField depth cases (drop at s) cols) r after
 
   pub field-cut : (depth : ℕ) → headerAt s at ≡ Cut → r .refused ≡ 2 → FieldGives depth
   unfolding readField
@@ -450,7 +450,7 @@ module _ (cases : ℕ) (s : List ℕ) (at : ℕ) (cols : List Column) (r : NodeR
 
       -- its content as the code takes it
       pub field-gives : (depth : ℕ) (content : List ℕ) → headerAt s at ≡ Found p → (depth ≡ 0 → ⊥) → content ≡ part s (p .start) (p .end)
-          → ReadGives s (readTagged (readField (depth - 1)) cases (record { tag = p .tag; content = content; rest = drop (p .end) s }) cols) r → FieldGives depth
+          → ReadGives s (readTagged (readField (depth - 1)) cases (record { tag = p .tag; content = content; rest = drop (p .end) s }) cols) r after → FieldGives depth
       unfolding readField
       field-gives zero content h z q g = absurd (z refl)
       field-gives (suc d) content h z q g =
@@ -459,7 +459,7 @@ module _ (cases : ℕ) (s : List ℕ) (at : ℕ) (cols : List Column) (r : NodeR
           let same = ap₂ (λ (n : ℕ) (l : List ℕ). readTagged (readField n) cases (record { tag = p .tag; content = l; rest = drop (p .end) s }) cols) back q
           ∙ tagged-kind (readField d) cases k (placeField s p) cols is in
           on-ok (header 2 (drop at s)) _ (placeField s p) (found-is s at p h)
-          (on-ok (kindOf (p .tag)) _ k known (subst (λ (m : Result (Read Expr)). ReadGives s m r) same g))
+          (on-ok (kindOf (p .tag)) _ k known (subst (λ (m : Result (Read Expr)). ReadGives s m r after) same g))
 
 -- a tag outside of the range is of no kind
 pub tag-low : (tag : ℕ) → tag < 16 → (k : Kind) → tag ≡ tagOf k → ⊥
@@ -469,61 +469,61 @@ pub tag-high : (tag : ℕ) → 25 < tag → (k : Kind) → tag ≡ tagOf k → �
 tag-high tag h k e = let b = tag-range k in omega (arith, b .1)
 
 -- the root
-module _ (rule : List ℕ) (r : NodeRead) where
-  pub root-cut : headerAt rule 0 ≡ Cut → r .refused ≡ 2 → ReadGives rule (readRoot rule) r
+module _ (rule : List ℕ) (r : FieldFound) {after : List ℕ} where
+  pub root-cut : headerAt rule 0 ≡ Cut → r .refused ≡ 2 → ReadGives rule (readRoot rule) r after
   unfolding readRoot
   root-cut h e = on-refused (header 2 rule) _ 2 (cut-is rule 0 h) (omega arith) e
 
   module _ (p : FieldPlace) (h : headerAt rule 0 ≡ Found p) where
-    pub root-other : (p .tag ≡ 25 → ⊥) → r .refused ≡ 3 → ReadGives rule (readRoot rule) r
+    pub root-other : (p .tag ≡ 25 → ⊥) → r .refused ≡ 3 → ReadGives rule (readRoot rule) r after
     unfolding readRoot
     root-other n e =
         on-ok (header 2 rule) _ (placeField rule p) (found-is rule 0 p h)
         (on-refused (require (eqb (p .tag) 25) 3) _ 3 (ap (λ (x : Bool). require x 3) (ne-eqb _ _ n)) (omega arith) e)
 
-    pub root-gives : p .tag ≡ 25 → ReadGives rule (readField 8 3 rule []) r → ReadGives rule (readRoot rule) r
+    pub root-gives : p .tag ≡ 25 → ReadGives rule (readField 8 3 rule []) r after → ReadGives rule (readRoot rule) r after
     unfolding readRoot
     root-gives n g =
         on-ok (header 2 rule) _ (placeField rule p) (found-is rule 0 p h)
         (on-ok (require (eqb (p .tag) 25) 3) _ tt (ap (λ (x : Bool). require x 3) (eq-eqb _ _ n)) g)
 
 -- the whole rule
-module _ (rule : List ℕ) (r : NodeRead) where
-  abbrev TreeGives : Type 0
-  TreeGives = ReadGives rule (readTree rule) r
-
-  pub tree-empty : length rule ≡ 0 → r .refused ≡ 1 → TreeGives
+module _ (rule : List ℕ) where
+  pub tree-empty : (r : NodeRead) → length rule ≡ 0 → r .refused ≡ 1 → TreeGives rule (readTree rule) r
   unfolding readTree
-  tree-empty h e = on-refused (require (ltb 0 (length rule) && leb (length rule) 4096) 1) _ 1 (rw h refl) (omega arith) e
+  tree-empty r h e = on-refused (require (ltb 0 (length rule) && leb (length rule) 4096) 1) _ 1 (rw h refl) (omega arith) e
 
   module _ (some : length rule ≡ 0 → ⊥) where
     more : ltb 0 (length rule) ≡ true
     more = lt-ltb 0 (length rule) (omega (arith, some))
 
-    pub tree-long : 4096 < length rule → r .refused ≡ 1 → TreeGives
+    pub tree-long : (r : NodeRead) → 4096 < length rule → r .refused ≡ 1 → TreeGives rule (readTree rule) r
     unfolding readTree
-    tree-long h e = on-refused (require (ltb 0 (length rule) && leb (length rule) 4096) 1) _ 1 (rw (more, lt-leb _ _ h) refl) (omega arith) e
+    tree-long r h e = on-refused (require (ltb 0 (length rule) && leb (length rule) 4096) 1) _ 1 (rw (more, lt-leb _ _ h) refl) (omega arith) e
 
-    module _ (few : length rule ≤ 4096) where
+    -- its root, and the marks behind it
+    module _ (few : length rule ≤ 4096) (a : FieldFound) (after : List ℕ) (g : ReadGives rule (readRoot rule) a after) where
       sized : require (ltb 0 (length rule) && leb (length rule) 4096) 1 ≡ ok tt
       sized = rw (more, le-leb _ _ few) refl
 
-      pub tree-refused : (a : NodeRead) → ReadGives rule (readRoot rule) a → (a .refused ≡ 0 → ⊥) → r .refused ≡ a .refused → TreeGives
+      pub tree-refused : (r : NodeRead) → (a .refused ≡ 0 → ⊥) → r .refused ≡ a .refused → TreeGives rule (readTree rule) r
       unfolding readTree
-      tree-refused a g n e = on-ok (require (ltb 0 (length rule) && leb (length rule) 4096) 1) _ tt sized (behind-refused (readRoot rule) _ g n e)
+      tree-refused r n e = on-ok (require (ltb 0 (length rule) && leb (length rule) 4096) 1) _ tt sized (behind-refused (readRoot rule) _ g n e)
 
-      pub tree-left : (a : NodeRead) → ReadGives rule (readRoot rule) a → a .refused ≡ 0 → a .next < length rule → r .refused ≡ 3 → TreeGives
+      pub tree-left : (r : NodeRead) → a .refused ≡ 0 → a .next < length rule → r .refused ≡ 3 → TreeGives rule (readTree rule) r
       unfolding readTree
-      tree-left a g z h e =
+      tree-left r z h e =
           on-ok (require (ltb 0 (length rule) && leb (length rule) 4096) 1) _ tt sized
           (behind-read (readRoot rule) _ g z
           (λ x k. let left : isEmpty (x .rest) ≡ false = ap isEmpty (k .behind .rest-is) ∙ some-drop (a .next) rule h in
           on-refused (require (isEmpty (x .rest)) 3) _ 3 (ap (λ (b : Bool). require b 3) left) (omega arith) e))
 
-      pub tree-gives : ReadGives rule (readRoot rule) r → r .refused ≡ 0 → length rule ≤ r .next → TreeGives
+      pub tree-gives : a .refused ≡ 0 → length rule ≤ a .next
+          → TreeGives rule (readTree rule) (record { refused = 0; result = a .result; null = a .null; next = a .next; seen = record { marks = after } })
       unfolding readTree
-      tree-gives g z h =
+      tree-gives z h =
           on-ok (require (ltb 0 (length rule) && leb (length rule) 4096) 1) _ tt sized
           (behind-read (readRoot rule) _ g z
-          (λ x k. let none : isEmpty (x .rest) ≡ true = ap isEmpty (k .behind .rest-is) ∙ empty-drop (r .next) rule h in
-          on-ok (require (isEmpty (x .rest)) 3) _ tt (ap (λ (b : Bool). require b 3) none) (gives-read x refl z k)))
+          (λ x k. let none : isEmpty (x .rest) ≡ true = ap isEmpty (k .behind .rest-is) ∙ empty-drop (a .next) rule h in
+          on-ok (require (isEmpty (x .rest)) 3) _ tt (ap (λ (b : Bool). require b 3) none)
+          (gives-read x refl refl (record { type-is = k .type-is; null-is = k .null-is; behind = k .behind }))))

@@ -14,12 +14,11 @@ use Rattle.scalar.specs.declared.types.DataType.{DataType}
 use Rattle.scalar.specs.declared.types.DataType.the-variants.{Boolean, Utf8}
 use Rattle.scalar.specs.Types.{typeNumber, typeNumbered, markNumber, markNumbered, sameType}
 use Rattle.scalar.specs.Entry.{Entry, null, boolean, utf8, isNull}
-use Rattle.rule.specs.declared.seen.Seen.{Seen}
-use Rattle.rule.specs.declared.node.NodeRead.{NodeRead}
+use Rattle.rule.specs.declared.node.FieldFound.{FieldFound}
 use Rattle.rule.specs.Tree.{Column, Expr, column, literal, negation, isNotNull}
 use Rattle.rule.specs.Typing.{typeOf, isNumber, nodeTyped}
 use Rattle.rule.specs.Reading.{Read, unlikeEarlier, readColumn, numberOf, literalValue, markedValue, readLiteral}
-use Rattle.rule.specs.Seen.{markOf, SeenIs}
+use Rattle.rule.specs.Seen.{markOf, Marked}
 use Rattle.rule.specs.Steps.{accepted, ReadGives, meetColumn, valueOf, ValueGives, unaryOf}
 use Rattle.rule.proofs.SeenLaws.{unlike-marks, seen-met}
 use Rattle.rule.proofs.StepLaws.{gives-refusal, gives-read, on-ok, on-refused, empty-drop, some-drop}
@@ -39,17 +38,17 @@ no-mark (suc (suc k)) h = refl
 
 -- a column behind its type
 module _ (index : ℕ) (t : DataType) (mark : ℕ) (cols : List Column) (outer : List ℕ) (end : ℕ) where
-  pub meet-unmarked : {r : NodeRead} → 1 < mark → r .refused ≡ 3 → ReadGives outer (meetColumn index t mark cols (drop end outer)) r
+  pub meet-unmarked : {r : FieldFound} {after : List ℕ} → 1 < mark → r .refused ≡ 3 → ReadGives outer (meetColumn index t mark cols (drop end outer)) r after
   unfolding meetColumn
   meet-unmarked h e = on-refused (markNumbered 3 mark) _ 3 (no-mark mark h) (omega arith) e
 
   -- k is the type's number
-  module _ (seen : Seen) (s : SeenIs cols seen) (low : mark ≤ 1) (k : ℕ) (k-is : k ≡ typeNumber t) where
+  module _ (before : List ℕ) (s : Marked cols before) (low : mark ≤ 1) (k : ℕ) (k-is : k ≡ typeNumber t) where
     abbrev named : Column
     named = record { index = index; type = t; nullable = mark-of mark low .0 }
 
     abbrev old : ℕ
-    old = getD (seen .marks) index 0
+    old = getD before index 0
 
     named-mark : k + 8 * mark ≡ markOf named
     named-mark = ap₂ (λ (x y : ℕ). x + 8 * y) k-is (mark-of mark low .2)
@@ -57,7 +56,7 @@ module _ (index : ℕ) (t : DataType) (mark : ℕ) (cols : List Column) (outer :
     unlike-is : unlikeEarlier named cols ≡ (not (eqb old 0) && not (eqb old (k + 8 * mark)))
     unlike-is = unlike-marks cols named (s .all-alike) ∙ ap₂ (λ (x y : ℕ). not (eqb x 0) && not (eqb x y)) (sym (s .marked index)) (sym named-mark)
 
-    pub meet-unlike : {r : NodeRead} → (old ≡ 0 → ⊥) → (old ≡ k + 8 * mark → ⊥) → r .refused ≡ 7 → ReadGives outer (meetColumn index t mark cols (drop end outer)) r
+    pub meet-unlike : {r : FieldFound} {after : List ℕ} → (old ≡ 0 → ⊥) → (old ≡ k + 8 * mark → ⊥) → r .refused ≡ 7 → ReadGives outer (meetColumn index t mark cols (drop end outer)) r after
     unfolding meetColumn
     meet-unlike p q e =
         let u : unlikeEarlier named cols ≡ true = unlike-is ∙ ap₂ (λ (x y : Bool). not x && not y) (ne-eqb _ _ p) (ne-eqb _ _ q) in
@@ -71,33 +70,33 @@ module _ (index : ℕ) (t : DataType) (mark : ℕ) (cols : List Column) (outer :
         go true e = refl
         go false e = ap not (eq-eqb old (k + 8 * mark) (h (eqb-false old 0 e)))
 
-    pub meet-like : {r : NodeRead} → index < 256 → ((old ≡ 0 → ⊥) → old ≡ k + 8 * mark)
-        → r ≡ accepted t false end (record { marks = set (seen .marks) index (k + 8 * mark) })
-        → ReadGives outer (meetColumn index t mark cols (drop end outer)) r
+    pub meet-like : {r : FieldFound} {after : List ℕ} → index < 256 → ((old ≡ 0 → ⊥) → old ≡ k + 8 * mark)
+        → r ≡ accepted t false end → after ≡ set before index (k + 8 * mark)
+        → ReadGives outer (meetColumn index t mark cols (drop end outer)) r after
     unfolding meetColumn typeOf
-    meet-like {r} few h e =
+    meet-like {r} few h e after-is =
         let u = like-is h in
-        let met = subst (λ (x : ℕ). SeenIs (named ∷ cols) (record { marks = set (seen .marks) index x })) (sym named-mark) (seen-met cols seen named s few u) in
+        let met = subst (λ (x : ℕ). Marked (named ∷ cols) (set before index x)) (sym named-mark) (seen-met cols before named s few u) in
         on-ok (markNumbered 3 mark) _ (mark-of mark low .0) (mark-of mark low .1)
         (on-ok (require (not (unlikeEarlier named cols)) 7) _ tt (ap (λ (x : Bool). require (not x) 7) u)
-        (rw e (gives-read (record { tree = column named; seen = named ∷ cols; rest = drop end outer }) refl refl
+        (rw (e, after-is) (gives-read (record { tree = column named; seen = named ∷ cols; rest = drop end outer }) refl refl
         (record { type-is = refl; null-is = refl; behind = record { rest-is = refl; seen-are = met } }))))
 
 -- a column
-module _ (content : List ℕ) (cols : List Column) (outer : List ℕ) (end : ℕ) {r : NodeRead} where
-  pub column-sized : (length content ≡ 3 → ⊥) → r .refused ≡ 3 → ReadGives outer (readColumn (record { tag = 16; content = content; rest = drop end outer }) cols) r
+module _ (content : List ℕ) (cols : List Column) (outer : List ℕ) (end : ℕ) {r : FieldFound} {after : List ℕ} where
+  pub column-sized : (length content ≡ 3 → ⊥) → r .refused ≡ 3 → ReadGives outer (readColumn (record { tag = 16; content = content; rest = drop end outer }) cols) r after
   unfolding readColumn
   column-sized h e = on-refused (require (eqb (length content) 3) 3) _ 3 (ap (λ (x : Bool). require x 3) (ne-eqb _ _ h)) (omega arith) e
 
   pub column-typed : length content ≡ 3 → typeNumbered 3 (byte content 1) ≡ refused 3 → r .refused ≡ 3
-      → ReadGives outer (readColumn (record { tag = 16; content = content; rest = drop end outer }) cols) r
+      → ReadGives outer (readColumn (record { tag = 16; content = content; rest = drop end outer }) cols) r after
   unfolding readColumn
   column-typed h p e =
       on-ok (require (eqb (length content) 3) 3) _ tt (ap (λ (x : Bool). require x 3) (eq-eqb _ _ h)) (on-refused (typeNumbered 3 (byte content 1)) _ 3 p (omega arith) e)
 
   pub column-met : (t : DataType) → length content ≡ 3 → typeNumbered 3 (byte content 1) ≡ ok t
-      → ReadGives outer (meetColumn (byte content 0) t (byte content 2) cols (drop end outer)) r
-      → ReadGives outer (readColumn (record { tag = 16; content = content; rest = drop end outer }) cols) r
+      → ReadGives outer (meetColumn (byte content 0) t (byte content 2) cols (drop end outer)) r after
+      → ReadGives outer (readColumn (record { tag = 16; content = content; rest = drop end outer }) cols) r after
   unfolding readColumn meetColumn
   column-met t h p g = on-ok (require (eqb (length content) 3) 3) _ tt (ap (λ (x : Bool). require x 3) (eq-eqb _ _ h)) (on-ok (typeNumbered 3 (byte content 1)) _ t p g)
 
@@ -180,15 +179,15 @@ one-byte (suc (suc (suc (suc zero)))) = refl
 one-byte (suc (suc (suc (suc (suc zero))))) = refl
 one-byte (suc (suc (suc (suc (suc (suc k)))))) = refl
 
-module _ (cols : List Column) (outer : List ℕ) (end : ℕ) {r : NodeRead} where
-  pub literal-sized : (content : List ℕ) → length content < 2 → r .refused ≡ 3 → ReadGives outer (readLiteral (record { tag = 17; content = content; rest = drop end outer }) cols) r
+module _ (cols : List Column) (outer : List ℕ) (end : ℕ) {r : FieldFound} {after : List ℕ} where
+  pub literal-sized : (content : List ℕ) → length content < 2 → r .refused ≡ 3 → ReadGives outer (readLiteral (record { tag = 17; content = content; rest = drop end outer }) cols) r after
   unfolding readLiteral
   literal-sized [] h e = gives-refusal 3 refl (omega arith) e
   literal-sized (a ∷ []) h e = gives-refusal 3 (one-byte a) (omega arith) e
   literal-sized (a ∷ b ∷ l) h e = absurd (omega arith)
 
   pub literal-typed : (content : List ℕ) → 2 ≤ length content → typeNumbered 3 (byte content 0) ≡ refused 3 → r .refused ≡ 3
-      → ReadGives outer (readLiteral (record { tag = 17; content = content; rest = drop end outer }) cols) r
+      → ReadGives outer (readLiteral (record { tag = 17; content = content; rest = drop end outer }) cols) r after
   unfolding readLiteral
   literal-typed [] h p e = absurd (omega arith)
   literal-typed (a ∷ l) h p e = on-refused (typeNumbered 3 a) _ 3 p (omega arith) e
@@ -196,26 +195,26 @@ module _ (cols : List Column) (outer : List ℕ) (end : ℕ) {r : NodeRead} wher
   module _ (t : DataType) where
     pub literal-unfit : (content : List ℕ) → 2 ≤ length content → typeNumbered 3 (byte content 0) ≡ ok t
         → (fits : Bool) → ValueGives (byte content 1) (valueOf t (byte content 1) (drop 2 content)) fits → fits ≡ false → r .refused ≡ 3
-        → ReadGives outer (readLiteral (record { tag = 17; content = content; rest = drop end outer }) cols) r
+        → ReadGives outer (readLiteral (record { tag = 17; content = content; rest = drop end outer }) cols) r after
     unfolding readLiteral valueOf
     literal-unfit [] h p fits v f e = absurd (omega arith)
     literal-unfit (a ∷ []) h p fits v f e = absurd (omega arith)
     literal-unfit (a ∷ b ∷ l) h p fits v f e =
         on-ok (typeNumbered 3 a) _ t p
-        (subst (λ (d : Result (Read Expr)). ReadGives outer d r) (in-turn (markNumbered 3 b) (λ m. markedValue m t l) _)
+        (subst (λ (d : Result (Read Expr)). ReadGives outer d r after) (in-turn (markNumbered 3 b) (λ m. markedValue m t l) _)
         (on-refused (valueOf t b l) (λ x. ok (record { tree = literal t x; seen = cols; rest = drop end outer })) 3 (v .unfitting f) (omega arith) e))
 
-    pub literal-read : (content : List ℕ) (seen : Seen) → 2 ≤ length content → typeNumbered 3 (byte content 0) ≡ ok t
+    pub literal-read : (content : List ℕ) → 2 ≤ length content → typeNumbered 3 (byte content 0) ≡ ok t
         → (fits : Bool) → ValueGives (byte content 1) (valueOf t (byte content 1) (drop 2 content)) fits → fits ≡ true
-        → SeenIs cols seen → r ≡ accepted t (eqb (byte content 1) 1) end seen
-        → ReadGives outer (readLiteral (record { tag = 17; content = content; rest = drop end outer }) cols) r
+        → Marked cols after → r ≡ accepted t (eqb (byte content 1) 1) end
+        → ReadGives outer (readLiteral (record { tag = 17; content = content; rest = drop end outer }) cols) r after
     unfolding readLiteral valueOf typeOf
-    literal-read [] seen h p fits v f s e = absurd (omega arith)
-    literal-read (a ∷ []) seen h p fits v f s e = absurd (omega arith)
-    literal-read (a ∷ b ∷ l) seen h p fits v f s e =
+    literal-read [] h p fits v f s e = absurd (omega arith)
+    literal-read (a ∷ []) h p fits v f s e = absurd (omega arith)
+    literal-read (a ∷ b ∷ l) h p fits v f s e =
         let (x, gives, is) = v .fitting f in
         on-ok (typeNumbered 3 a) _ t p
-        (subst (λ (d : Result (Read Expr)). ReadGives outer d r) (in-turn (markNumbered 3 b) (λ m. markedValue m t l) _)
+        (subst (λ (d : Result (Read Expr)). ReadGives outer d r after) (in-turn (markNumbered 3 b) (λ m. markedValue m t l) _)
         (on-ok (valueOf t b l) (λ x. ok (record { tree = literal t x; seen = cols; rest = drop end outer })) x gives
         (rw e (gives-read (record { tree = literal t x; seen = cols; rest = drop end outer }) refl refl
         (record { type-is = refl; null-is = is; behind = record { rest-is = refl; seen-are = s } })))))

@@ -5,7 +5,7 @@ use mathlib.Core.List.{List, [], _∷_}
 use Prim.Native.Nat.{ℕ, zero, suc, _<_}
 use native.Mathlib.Omega.{arith}
 use lib.Dec.{eqb}
-use lib.ListN.{length, getD, set, replicate, length-set, length-replicate}
+use lib.ListN.{getD, set, replicate, length-set, length-replicate}
 use lib.Seq.{getD-set-same, getD-set-other}
 use borrow.Author.Tests.{eqb-true, eqb-false, eq-eqb, ne-eqb, not-true}
 use Rattle.layout.proofs.TestLaws.{both-hold}
@@ -13,10 +13,9 @@ use Rattle.scalar.specs.declared.types.DataType.{DataType}
 use Rattle.scalar.specs.declared.types.DataType.the-variants.{Boolean, Int32, Int64, Float64, Utf8}
 use Rattle.scalar.specs.Types.{typeNumber, markNumber, sameType}
 use Rattle.scalar.proofs.TypeLaws.{sameType-eq}
-use Rattle.rule.specs.declared.seen.Seen.{Seen}
 use Rattle.rule.specs.Tree.{Column}
 use Rattle.rule.specs.Reading.{unlikeEarlier}
-use Rattle.rule.specs.Seen.{markOf, markAt, alike, SeenIs}
+use Rattle.rule.specs.Seen.{markOf, markAt, alike, Marked}
 
 -- a type's number is 1 to 5, a mark's 0 or 1
 pub type-bounds : (t : DataType) → (0 < typeNumber t) × (typeNumber t < 8)
@@ -97,11 +96,11 @@ unlike-marks (d ∷ l) c h = go (eqb (c .index) (d .index)) refl (unlike-marks l
     go false e later = later (before .1)
 
 -- no column met
-pub seen-none : (seen : Seen) → seen .marks ≡ replicate 256 0 → SeenIs [] seen
+pub seen-none : Marked [] (replicate 256 0)
 unfolding markAt alike
-seen-none seen e = record {
-  sized = ap length e ∙ length-replicate {A = ℕ} 256 0;
-  marked = λ i. ap (λ (l : List ℕ). getD l i 0) e ∙ zeros 256 i;
+seen-none = record {
+  sized = length-replicate {A = ℕ} 256 0;
+  marked = zeros 256;
   all-alike = refl;
 }
   where
@@ -111,18 +110,18 @@ seen-none seen e = record {
     zeros (suc n) (suc i) = zeros n i
 
 -- one more
-pub seen-met : (cols : List Column) (seen : Seen) (c : Column) → SeenIs cols seen → c .index < 256 → unlikeEarlier c cols ≡ false
-    → SeenIs (c ∷ cols) (record { marks = set (seen .marks) (c .index) (markOf c) })
+pub seen-met : (cols : List Column) (marks : List ℕ) (c : Column) → Marked cols marks → c .index < 256 → unlikeEarlier c cols ≡ false
+    → Marked (c ∷ cols) (set marks (c .index) (markOf c))
 unfolding markAt alike
-seen-met cols seen c s k u = record {
-  sized = length-set (seen .marks) (c .index) (markOf c) ∙ s .sized;
+seen-met cols marks c s k u = record {
+  sized = length-set marks (c .index) (markOf c) ∙ s .sized;
   marked = λ i. go i (eqb i (c .index)) refl;
   all-alike = rw u (s .all-alike);
 }
   where
-    go : (i : ℕ) (t : Bool) → eqb i (c .index) ≡ t → getD (set (seen .marks) (c .index) (markOf c)) i 0 ≡ cond t (markOf c) (markAt cols i)
+    go : (i : ℕ) (t : Bool) → eqb i (c .index) ≡ t → getD (set marks (c .index) (markOf c)) i 0 ≡ cond t (markOf c) (markAt cols i)
     go i true e =
         let size = s .sized in
-        ap (λ (j : ℕ). getD (set (seen .marks) (c .index) (markOf c)) j 0) (eqb-true _ _ e)
-        ∙ getD-set-same (seen .marks) (c .index) (markOf c) 0 (omega arith)
-    go i false e = getD-set-other (seen .marks) (c .index) i (markOf c) 0 (eqb-false _ _ e) ∙ s .marked i
+        ap (λ (j : ℕ). getD (set marks (c .index) (markOf c)) j 0) (eqb-true _ _ e)
+        ∙ getD-set-same marks (c .index) (markOf c) 0 (omega arith)
+    go i false e = getD-set-other marks (c .index) i (markOf c) 0 (eqb-false _ _ e) ∙ s .marked i

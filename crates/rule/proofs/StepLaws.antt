@@ -2,7 +2,7 @@
 use mathlib.Core.Path.{_≡_, refl, ap, sym, subst, _∙_}
 use mathlib.Core.Bool.{Bool, true, false, cond}
 use mathlib.Core.List.{List, [], _∷_}
-use Prim.Native.Nat.{ℕ, zero, suc, _-_, _<_, _≤_}
+use Prim.Native.Nat.{ℕ, zero, suc, _<_, _≤_}
 use native.Mathlib.Omega.{arith}
 use lib.Dec.{eqb, ltb}
 use lib.ListN.{length, drop}
@@ -11,12 +11,12 @@ use Rattle.layout.specs.Result.{Result, refused, ok, _>>=_, require}
 use Rattle.layout.proofs.ResultLaws.{refused-not-ok, ok-injective}
 use Rattle.scalar.specs.declared.types.DataType.{DataType}
 use Rattle.scalar.specs.Types.{typeNumbered}
-use Rattle.rule.specs.declared.node.NodeRead.{NodeRead}
+use Rattle.rule.specs.declared.node.FieldFound.{FieldFound}
 use Rattle.rule.specs.Tree.{Expr, isNullLiteral}
 use Rattle.rule.specs.Typing.{typeOf, nodeTyped}
 use Rattle.rule.specs.Constant.{isEmpty}
 use Rattle.rule.specs.Reading.{Read, closeNode}
-use Rattle.rule.specs.Seen.{SeenIs}
+use Rattle.rule.specs.Seen.{Marked}
 use Rattle.rule.specs.Steps.{refusal, accepted, closed, Gives, Behind, ReadGives}
 
 -- a number that is none of the types'
@@ -91,21 +91,21 @@ some-drop n [] h = absurd (omega arith)
 some-drop zero (a ∷ l) h = refl
 some-drop (suc n) (a ∷ l) h = some-drop n l (omega arith)
 
--- a node behind its last child
-module _ {A : Type 0} {good : Read A → Type 0} (node : A → Expr) (bytes outer : List ℕ) (last : NodeRead) (size : ℕ) (fits : Bool) (t : DataType) (end : ℕ)
+-- a node behind its last child, with the marks `after`
+module _ {A : Type 0} {good : Read A → Type 0} (node : A → Expr) (bytes outer after : List ℕ) (last : FieldFound) (size : ℕ) (fits : Bool) (t : DataType) (end : ℕ)
     (size-is : size ≡ length bytes)
-    (fine : (x : Read A) → good x → Behind bytes (last .next) (last .seen) x × (fits ≡ nodeTyped (node (x .tree))) × (t ≡ typeOf (node (x .tree))) × (false ≡ isNullLiteral (node (x .tree)))) where
+    (fine : (x : Read A) → good x → Behind bytes (last .next) after x × (fits ≡ nodeTyped (node (x .tree))) × (t ≡ typeOf (node (x .tree))) × (false ≡ isNullLiteral (node (x .tree)))) where
   typed-gives : (x : Read A) → good x → size ≤ last .next → (b : Bool) → fits ≡ b
-      → ReadGives outer (closeNode (node (x .tree)) (x .seen) (x .rest) (drop end outer)) (cond b (accepted t false end (last .seen)) (refusal 7 (last .seen)))
+      → ReadGives outer (closeNode (node (x .tree)) (x .seen) (x .rest) (drop end outer)) (cond b (accepted t false end) (refusal 7)) after
   unfolding closeNode
   typed-gives x g h b e =
       let (behind, fits-is, type-is, null-is) = fine x g in
       let none : isEmpty (x .rest) ≡ true = ap isEmpty (behind .rest-is) ∙ empty-drop (last .next) bytes (omega arith) in
       on-ok (require (isEmpty (x .rest)) 3) _ tt (ap (λ (q : Bool). require q 3) none) (go b (sym fits-is ∙ e) type-is null-is (behind .seen-are))
     where
-      go : (b : Bool) → nodeTyped (node (x .tree)) ≡ b → t ≡ typeOf (node (x .tree)) → false ≡ isNullLiteral (node (x .tree)) → SeenIs (x .seen) (last .seen)
+      go : (b : Bool) → nodeTyped (node (x .tree)) ≡ b → t ≡ typeOf (node (x .tree)) → false ≡ isNullLiteral (node (x .tree)) → Marked (x .seen) after
           → ReadGives outer (require (nodeTyped (node (x .tree))) 7 >>= λ _. ok (record { tree = node (x .tree); seen = x .seen; rest = drop end outer }))
-          (cond b (accepted t false end (last .seen)) (refusal 7 (last .seen)))
+          (cond b (accepted t false end) (refusal 7)) after
       go true e type-is null-is seen-are =
           on-ok (require (nodeTyped (node (x .tree))) 7) _ tt (ap (λ (q : Bool). require q 7) e)
           (gives-read (record { tree = node (x .tree); seen = x .seen; rest = drop end outer }) refl refl
@@ -115,7 +115,7 @@ module _ {A : Type 0} {good : Read A → Type 0} (node : A → Expr) (bytes oute
 
   left-gives : (x : Read A) → good x → (b : Bool) → ltb (last .next) size ≡ b
       → ReadGives outer (closeNode (node (x .tree)) (x .seen) (x .rest) (drop end outer))
-      (cond b (refusal 3 (last .seen)) (cond fits (accepted t false end (last .seen)) (refusal 7 (last .seen))))
+      (cond b (refusal 3) (cond fits (accepted t false end) (refusal 7))) after
   unfolding closeNode
   left-gives x g true e =
       let some : isEmpty (x .rest) ≡ false = ap isEmpty (fine x g .0 .rest-is) ∙ some-drop (last .next) bytes (subst (λ (n : ℕ). last .next < n) size-is (ltb-true _ _ e)) in
@@ -123,7 +123,7 @@ module _ {A : Type 0} {good : Read A → Type 0} (node : A → Expr) (bytes oute
   left-gives x g false e = typed-gives x g (ltb-false _ _ e) fits refl
 
   pub close-gives : (m : Result (Read A)) → Gives good m (last .refused)
-      → ReadGives outer (m >>= λ x. closeNode (node (x .tree)) (x .seen) (x .rest) (drop end outer)) (closed last size fits t end)
+      → ReadGives outer (m >>= λ x. closeNode (node (x .tree)) (x .seen) (x .rest) (drop end outer)) (closed last size fits t end) after
   close-gives (refused n) h =
       let i = h .refuses n refl in
       let is : eqb (last .refused) 0 ≡ false = ne-eqb (last .refused) 0 (λ z. omega (arith, i .0, i .1)) in

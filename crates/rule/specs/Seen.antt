@@ -29,3 +29,7 @@ pub record SeenIs (columns : List Column) (seen : Seen) : Type 0 where
   pub sized : length (seen .marks) ≡ 256
   pub marked : (i : ℕ) → getD (seen .marks) i 0 ≡ markAt columns i
   pub all-alike : alike columns ≡ true
+
+-- the same of marks that are lent
+abbrev pub Marked : List Column → List ℕ → Type 0
+Marked columns marks = SeenIs columns (record { marks = marks })

@@ -1,7 +1,7 @@
 -- What the steps of the reading promise beside their definitions.
 use mathlib.Core.Path.{_≡_}
 use mathlib.Core.Bool.{Bool, true, false, cond, not, _&&_, _||_}
-use mathlib.Core.List.{List, _∷_, reverse}
+use mathlib.Core.List.{List, [], _∷_, reverse}
 use Prim.Native.Nat.{ℕ, _<_}
 use lib.Dec.{eqb, ltb}
 use lib.ListN.{drop}
@@ -14,15 +14,15 @@ use Rattle.scalar.specs.Entry.{Entry, isNull}
 use Rattle.scalar.specs.Cast.{listed}
 use Rattle.rule.specs.declared.types.TypeAnswer.{TypeAnswer}
 use Rattle.rule.specs.declared.types.TypeAnswer.the-variants.{Known, Unknown}
-use Rattle.rule.specs.declared.seen.Seen.{Seen}
 use Rattle.rule.specs.declared.node.NodeRead.{NodeRead}
+use Rattle.rule.specs.declared.node.FieldFound.{FieldFound}
 use Rattle.rule.specs.declared.node.BranchesRead.{BranchesRead}
 use Rattle.rule.specs.Tree.{Column, Expr, column, negation, negative, isNotNull, cast, tryCast, equal, less, Branches, branch, Optional, isNullLiteral}
 use Rattle.rule.specs.Typing.{typeOf, resultType, whenType, branchesTyped, elseTyped}
 use Rattle.rule.specs.Constant.{columnsOf}
 use Rattle.rule.specs.Projection.{indexes, projection}
 use Rattle.rule.specs.Reading.{Read, Reader, unlikeEarlier, markedValue, readColumn, readLiteral, readUnary, readCast, readBinary, readBranches, readLimitedCase}
-use Rattle.rule.specs.Seen.{SeenIs}
+use Rattle.rule.specs.Seen.{SeenIs, Marked}
 
 -- the type of a number, or its refusal
 abbrev pub typeResult : TypeAnswer → Result DataType
@@ -35,44 +35,48 @@ typeOr (Known t) d = t
 typeOr Unknown d = d
 
 -- answers
-abbrev pub refusal : ℕ → Seen → NodeRead
-refusal n seen = record { refused = n; result = Boolean; null = false; next = 0; seen = seen }
+abbrev pub refusal : ℕ → FieldFound
+refusal n = record { refused = n; result = Boolean; null = false; next = 0 }
 
-abbrev pub accepted : DataType → Bool → ℕ → Seen → NodeRead
-accepted t n next seen = record { refused = 0; result = t; null = n; next = next; seen = seen }
+abbrev pub accepted : DataType → Bool → ℕ → FieldFound
+accepted t n next = record { refused = 0; result = t; null = n; next = next }
 
 -- a node behind its last child: bytes left over (3), then types that don't fit (7)
-abbrev pub closed : NodeRead → ℕ → Bool → DataType → ℕ → NodeRead
+abbrev pub closed : FieldFound → ℕ → Bool → DataType → ℕ → FieldFound
 closed last size fits t end =
     cond (eqb (last .refused) 0)
-    (cond (ltb (last .next) size) (refusal 3 (last .seen)) (cond fits (accepted t false end (last .seen)) (refusal 7 (last .seen))))
+    (cond (ltb (last .next) size) (refusal 3) (cond fits (accepted t false end) (refusal 7)))
     last
 
 -- no branch, and one before later ones
-abbrev pub unbranched : TypeAnswer → ℕ → Seen → BranchesRead
-unbranched earlier next seen = record { refused = 0; result = typeOr earlier Boolean; fits = true; next = next; seen = seen }
+abbrev pub unbranched : TypeAnswer → ℕ → BranchesRead
+unbranched earlier next = record { refused = 0; result = typeOr earlier Boolean; fits = true; next = next }
 
 abbrev pub branched : DataType → DataType → DataType → BranchesRead → BranchesRead
-branched w when t later = record { refused = later .refused; result = later .result; fits = sameType w when && sameType t (later .result) && later .fits; next = later .next; seen = later .seen }
+branched w when t later = record { refused = later .refused; result = later .result; fits = sameType w when && sameType t (later .result) && later .fits; next = later .next }
 
 -- the number of a refusal, or 0 and what was read
 pub record Gives {A : Type 0} (good : A → Type 0) (definition : Result A) (number : ℕ) : Type 0 where
   pub refuses : (n : ℕ) → definition ≡ refused n → (number ≡ n) × (0 < n)
   pub reads : (x : A) → definition ≡ ok x → (number ≡ 0) × good x
 
--- where it ends, and the columns met
-pub record Behind {A : Type 0} (bytes : List ℕ) (next : ℕ) (seen : Seen) (x : Read A) : Type 0 where
+-- where it ends, and the marks behind it
+pub record Behind {A : Type 0} (bytes : List ℕ) (next : ℕ) (after : List ℕ) (x : Read A) : Type 0 where
   pub rest-is : x .rest ≡ drop next bytes
-  pub seen-are : SeenIs (x .seen) seen
+  pub seen-are : Marked (x .seen) after
 
 -- a field: its type, and whether it is a null literal
-pub record FieldRead (bytes : List ℕ) (r : NodeRead) (x : Read Expr) : Type 0 where
+pub record FieldRead (bytes : List ℕ) (r : FieldFound) (after : List ℕ) (x : Read Expr) : Type 0 where
   pub type-is : r .result ≡ typeOf (x .tree)
   pub null-is : r .null ≡ isNullLiteral (x .tree)
-  pub behind : Behind bytes (r .next) (r .seen) x
+  pub behind : Behind bytes (r .next) after x
 
-abbrev pub ReadGives : List ℕ → Result (Read Expr) → NodeRead → Type 0
-ReadGives bytes definition r = Gives (FieldRead bytes r) definition (r .refused)
+abbrev pub ReadGives : List ℕ → Result (Read Expr) → FieldFound → List ℕ → Type 0
+ReadGives bytes definition r after = Gives (FieldRead bytes r after) definition (r .refused)
+
+-- the tree of a rule
+abbrev pub TreeGives : List ℕ → Result (Read Expr) → NodeRead → Type 0
+TreeGives bytes definition r = ReadGives bytes definition (record { refused = r .refused; result = r .result; null = r .null; next = r .next }) (r .seen .marks)
 
 -- a rule: its type, and that the columns met are those that it names, the last first
 pub record RuleRead (r : NodeRead) (e : Expr) : Type 0 where
@@ -83,34 +87,39 @@ pub record RuleRead (r : NodeRead) (e : Expr) : Type 0 where
   pub seen-are : SeenIs columns (r .seen)
 
 -- a part that may be absent: a WHEN's type if it is a base, and whether it fits as an ELSE
-pub record OptionalRead (bytes : List ℕ) (r : NodeRead) (x : Read Optional) : Type 0 where
+pub record OptionalRead (bytes : List ℕ) (r : FieldFound) (after : List ℕ) (x : Read Optional) : Type 0 where
   pub when-is : r .result ≡ whenType (x .tree)
   pub else-is : (t : DataType) → (r .null || listed (r .result) t) ≡ elseTyped t (x .tree)
-  pub behind : Behind bytes (r .next) (r .seen) x
+  pub behind : Behind bytes (r .next) after x
 
 -- branches: the type of their THENs, which may be known from earlier ones, and whether all types fit
-pub record BranchesAre (bytes : List ℕ) (when : DataType) (earlier : TypeAnswer) (r : BranchesRead) (x : Read Branches) : Type 0 where
+pub record BranchesAre (bytes : List ℕ) (when : DataType) (earlier : TypeAnswer) (r : BranchesRead) (after : List ℕ) (x : Read Branches) : Type 0 where
   pub result-is : r .result ≡ typeOr earlier (resultType (x .tree))
   pub fits-is : r .fits ≡ branchesTyped when (r .result) (x .tree)
-  pub behind : Behind bytes (r .next) (r .seen) x
+  pub behind : Behind bytes (r .next) after x
 
--- a step promises this whatever columns the marks are of: one that reads a field, a part that may be absent, branches,
-abbrev pub FieldGives : List ℕ → Seen → (List Column → Result (Read Expr)) → NodeRead → Type 0
-FieldGives bytes seen definition r = (cols : List Column) → SeenIs cols seen → ReadGives bytes (definition cols) r
+-- a step promises this whatever columns the marks before it are of, and of the marks after a refusal nothing: one that reads a field, a part
+-- that may be absent, branches,
+abbrev pub FieldGives : List ℕ → List ℕ → (List Column → Result (Read Expr)) → FieldFound → List ℕ → Type 0
+FieldGives bytes before definition r after = (cols : List Column) → Marked cols before → ReadGives bytes (definition cols) r after
 
-abbrev pub OptionalGives : List ℕ → Seen → (List Column → Result (Read Optional)) → NodeRead → Type 0
-OptionalGives bytes seen definition r = (cols : List Column) → SeenIs cols seen → Gives (OptionalRead bytes r) (definition cols) (r .refused)
+abbrev pub OptionalGives : List ℕ → List ℕ → (List Column → Result (Read Optional)) → FieldFound → List ℕ → Type 0
+OptionalGives bytes before definition r after = (cols : List Column) → Marked cols before → Gives (OptionalRead bytes r after) (definition cols) (r .refused)
 
-abbrev pub BranchesGive : List ℕ → Seen → DataType → TypeAnswer → (List Column → Result (Read Branches)) → BranchesRead → Type 0
-BranchesGive bytes seen when earlier definition r = (cols : List Column) → SeenIs cols seen → Gives (BranchesAre bytes when earlier r) (definition cols) (r .refused)
+abbrev pub BranchesGive : List ℕ → List ℕ → DataType → TypeAnswer → (List Column → Result (Read Branches)) → BranchesRead → List ℕ → Type 0
+BranchesGive bytes before when earlier definition r after = (cols : List Column) → Marked cols before → Gives (BranchesAre bytes when earlier r after) (definition cols) (r .refused)
 
 -- or the content of a field, which ends at a place of whatever its parent's bytes are
-abbrev pub NodeGives : ℕ → Seen → (List Column → List ℕ → Result (Read Expr)) → NodeRead → Type 0
-NodeGives end seen definition r = (cols : List Column) (outer : List ℕ) → SeenIs cols seen → ReadGives outer (definition cols (drop end outer)) r
+abbrev pub NodeGives : ℕ → List ℕ → (List Column → List ℕ → Result (Read Expr)) → FieldFound → List ℕ → Type 0
+NodeGives end before definition r after = (cols : List Column) (outer : List ℕ) → Marked cols before → ReadGives outer (definition cols (drop end outer)) r after
 
--- and a branch behind a WHEN that was read
-abbrev pub BranchGives : List ℕ → NodeRead → DataType → TypeAnswer → (Read Expr → Result (Read Branches)) → BranchesRead → Type 0
-BranchGives bytes w when earlier definition r = (x : Read Expr) → FieldRead bytes w x → Gives (BranchesAre bytes when earlier r) (definition x) (r .refused)
+-- a branch behind a WHEN that was read
+abbrev pub BranchGives : List ℕ → FieldFound → List ℕ → DataType → TypeAnswer → (Read Expr → Result (Read Branches)) → BranchesRead → List ℕ → Type 0
+BranchGives bytes w before when earlier definition r after = (x : Read Expr) → FieldRead bytes w before x → Gives (BranchesAre bytes when earlier r after) (definition x) (r .refused)
+
+-- and the root, where no column was met
+abbrev pub RootGives : List ℕ → List ℕ → Result (Read Expr) → FieldFound → List ℕ → Type 0
+RootGives bytes before definition r after = Marked [] before → ReadGives bytes definition r after
 
 -- a column behind its type: nullable, and that it is like the earlier ones
 unfoldable pub meetColumn : ℕ → DataType → ℕ → List Column → List ℕ → Result (Read Expr)

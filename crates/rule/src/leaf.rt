@@ -1,8 +1,7 @@
 // Columns and literals: fields without children.
-use crate::node::NodeRead;
+use crate::node::FieldFound;
 use crate::node::accept;
 use crate::node::refuse;
-use crate::seen::Seen;
 use crate::types::TypeAnswer;
 use crate::types::type_number;
 use crate::types::type_numbered;
@@ -13,35 +12,40 @@ ghost use Rattle.rule.specs.Reading.{readColumn, readLiteral};
 ghost use Rattle.rule.specs.Steps.{NodeGives, meetColumn, valueOf, ValueGives};
 
 // A column behind its type: nullable, and that it is like the earlier ones of its index.
-pub(crate) fn meet_column(index: u8, result: DataType, mark: u8, end: usize, seen: Seen) -> NodeRead
-    ensures { λ r. ⌜ NodeGives end seen (meetColumn index result mark) r ⌝ }
+pub(crate) fn meet_column(
+    index: u8,
+    result: DataType,
+    mark: u8,
+    end: usize,
+    marks: &mut [u8; 256],
+) -> FieldFound
+    ensures { λ r. ⌜ NodeGives end (now (marks .entry)) (meetColumn index result mark) r (now (marks .exit)) ⌝ }
 {
     if 1 < mark {
-        return refuse(3, seen);
+        return refuse(3);
     }
     let new = type_number(result) + 8 * mark;
     let i = index as usize;
-    let old = seen.marks[i];
+    let old = marks[i];
     if old != 0 {
         if old != new {
-            return refuse(7, seen);
+            return refuse(7);
         }
     }
-    let mut met = seen;
-    met.marks[i] = new;
-    accept(result, false, end, met)
+    marks[i] = new;
+    accept(result, false, end)
 }
 
 // A column: index, type, nullable, a byte each.
-pub(crate) fn read_column(content: &[u8], end: usize, seen: Seen) -> NodeRead
-    ensures { λ r. ⌜ NodeGives end seen (λ cols rest. readColumn (record { tag = 16; content = now (content .entry); rest = rest }) cols) r ⌝ }
+pub(crate) fn read_column(content: &[u8], end: usize, marks: &mut [u8; 256]) -> FieldFound
+    ensures { λ r. ⌜ NodeGives end (now (marks .entry)) (λ cols rest. readColumn (record { tag = 16; content = now (content .entry); rest = rest }) cols) r (now (marks .exit)) ⌝ }
 {
     if content.len() != 3 {
-        return refuse(3, seen);
+        return refuse(3);
     }
     match type_numbered(content[1]) {
-        TypeAnswer::Known(t) => meet_column(content[0], t, content[2], end, seen),
-        TypeAnswer::Unknown => refuse(3, seen),
+        TypeAnswer::Known(t) => meet_column(content[0], t, content[2], end, marks),
+        TypeAnswer::Unknown => refuse(3),
     }
 }
 
@@ -71,20 +75,20 @@ pub(crate) fn value_fits(result: DataType, mark: u8, content: &[u8]) -> bool
 }
 
 // A literal: type, null mark, value.
-pub(crate) fn read_literal(content: &[u8], end: usize, seen: Seen) -> NodeRead
-    ensures { λ r. ⌜ NodeGives end seen (λ cols rest. readLiteral (record { tag = 17; content = now (content .entry); rest = rest }) cols) r ⌝ }
+pub(crate) fn read_literal(content: &[u8], end: usize, marks: &mut [u8; 256]) -> FieldFound
+    ensures { λ r. ⌜ NodeGives end (now (marks .entry)) (λ cols rest. readLiteral (record { tag = 17; content = now (content .entry); rest = rest }) cols) r (now (marks .exit)) ⌝ }
 {
     if content.len() < 2 {
-        return refuse(3, seen);
+        return refuse(3);
     }
     match type_numbered(content[0]) {
         TypeAnswer::Known(t) => {
             let mark = content[1];
             if value_fits(t, mark, content) {
-                return accept(t, mark == 1, end, seen);
+                return accept(t, mark == 1, end);
             }
-            refuse(3, seen)
+            refuse(3)
         }
-        TypeAnswer::Unknown => refuse(3, seen),
+        TypeAnswer::Unknown => refuse(3),
     }
 }

@@ -14,7 +14,7 @@ ghost use Rattle.rule.specs.Tree.{Expr};
 ghost use Rattle.rule.specs.Typing.{typeOf, nodeTyped};
 ghost use Rattle.rule.specs.Steps.{refusal, accepted, closed, unbranched, branched, unaryOf};
 
-// What reading a field found: the number with which it is refused (0: none), its type, whether it is a null literal, where it ends in
+// What reading a rule found: the number with which it is refused (0: none), its type, whether it is a null literal, where it ends in
 // the slice, and the columns met.
 pub struct NodeRead {
     pub refused: u8,
@@ -24,63 +24,81 @@ pub struct NodeRead {
     pub seen: Seen,
 }
 
-// What reading branches found: the number with which they are refused (0: none), the type of their THENs, whether all types fit, where
-// they end, and the columns met.
+// What reading a field found, beside the marks, which are lent: the number with which it is refused (0: none), its type, whether it is a
+// null literal, and where it ends in the slice.
+pub(crate) struct FieldFound {
+    pub(crate) refused: u8,
+    pub(crate) result: DataType,
+    pub(crate) null: bool,
+    pub(crate) next: usize,
+}
+
+// What reading branches found: the number with which they are refused (0: none), the type of their THENs, whether all types fit, and
+// where they end.
 pub(crate) struct BranchesRead {
     pub(crate) refused: u8,
     pub(crate) result: DataType,
     pub(crate) fits: bool,
     pub(crate) next: usize,
-    pub(crate) seen: Seen,
 }
 
-// A refusal.
-pub(crate) fn refuse(n: u8, seen: Seen) -> NodeRead
-    ensures { λ r. ⌜ r ≡ refusal n seen ⌝ }
+// A rule that is refused.
+pub(crate) fn refuse_rule(n: u8) -> NodeRead
+    ensures { λ r. ⌜ r .refused ≡ n ⌝ }
 {
     NodeRead {
         refused: n,
         result: DataType::Boolean,
         null: false,
         next: 0,
-        seen,
+        seen: Seen { marks: [0u8; 256] },
+    }
+}
+
+// A refusal.
+pub(crate) fn refuse(n: u8) -> FieldFound
+    ensures { λ r. ⌜ r ≡ refusal n ⌝ }
+{
+    FieldFound {
+        refused: n,
+        result: DataType::Boolean,
+        null: false,
+        next: 0,
     }
 }
 
 // A field of a type that ends at a place.
-pub(crate) fn accept(result: DataType, null: bool, next: usize, seen: Seen) -> NodeRead
-    ensures { λ r. ⌜ r ≡ accepted result null next seen ⌝ }
+pub(crate) fn accept(result: DataType, null: bool, next: usize) -> FieldFound
+    ensures { λ r. ⌜ r ≡ accepted result null next ⌝ }
 {
-    NodeRead {
+    FieldFound {
         refused: 0,
         result,
         null,
         next,
-        seen,
     }
 }
 
 // A node behind its last child, of so many bytes of content: bytes left over, then types that don't fit.
 pub(crate) fn close(
-    last: NodeRead,
+    last: FieldFound,
     size: usize,
     fits: bool,
     result: DataType,
     end: usize,
-) -> NodeRead
+) -> FieldFound
     ensures { λ r. ⌜ r ≡ closed last size fits result end ⌝ }
 {
     if last.refused != 0 {
         return last;
     }
-    let seen = last.seen;
     if last.next < size {
-        return refuse(3, seen);
+        return refuse(3);
     }
     if fits {
-        return accept(result, false, end, seen);
+        return accept(result, false, end);
     }
-    refuse(7, seen)
+    refuse(7)
 }
 
 // Whether NOT, negative or IS NOT NULL takes a type.
@@ -117,7 +135,7 @@ pub(crate) fn case_fits(branches: bool, null: bool, from: DataType, to: DataType
 }
 
 // Branches that are refused.
-pub(crate) fn refuse_branches(n: u8, seen: Seen) -> BranchesRead
+pub(crate) fn refuse_branches(n: u8) -> BranchesRead
     ensures { λ r. ⌜ r .refused ≡ n ⌝ }
 {
     BranchesRead {
@@ -125,20 +143,18 @@ pub(crate) fn refuse_branches(n: u8, seen: Seen) -> BranchesRead
         result: DataType::Boolean,
         fits: false,
         next: 0,
-        seen,
     }
 }
 
 // No branch.
-pub(crate) fn no_branches(earlier: TypeAnswer, next: usize, seen: Seen) -> BranchesRead
-    ensures { λ r. ⌜ r ≡ unbranched earlier next seen ⌝ }
+pub(crate) fn no_branches(earlier: TypeAnswer, next: usize) -> BranchesRead
+    ensures { λ r. ⌜ r ≡ unbranched earlier next ⌝ }
 {
     BranchesRead {
         refused: 0,
         result: type_or(earlier, DataType::Boolean),
         fits: true,
         next,
-        seen,
     }
 }
 
@@ -164,12 +180,10 @@ pub(crate) fn add_branch(
     ensures { λ r. ⌜ r ≡ branched w when t later ⌝ }
 {
     let result = later.result;
-    let seen = later.seen;
     BranchesRead {
         refused: later.refused,
         result,
         fits: branch_fits(w, when, t, result, later.fits),
         next: later.next,
-        seen,
     }
 }

@@ -1,8 +1,9 @@
-// Reading a rule, front to back. Each function follows a definition of specs/Reading.antt and needs no buffer.
+// Reading a rule, front to back. Each function follows a definition of specs/Reading.antt; the marks of the columns met are lent to it.
 use crate::fails::constant_fails;
 use crate::leaf::read_column;
 use crate::leaf::read_literal;
 use crate::node::BranchesRead;
+use crate::node::FieldFound;
 use crate::node::NodeRead;
 use crate::node::accept;
 use crate::node::add_branch;
@@ -11,10 +12,10 @@ use crate::node::close;
 use crate::node::no_branches;
 use crate::node::refuse;
 use crate::node::refuse_branches;
+use crate::node::refuse_rule;
 use crate::node::unary_fits;
 use crate::node::unary_type;
 use crate::seen::Seen;
-use crate::seen::none_seen;
 use crate::types::TypeAnswer;
 use crate::types::is_listed;
 use crate::types::same_type;
@@ -26,28 +27,28 @@ use layout::part::part_of;
 use scalar::types::DataType;
 ghost use lib.ListN.{drop};
 ghost use Rattle.rule.specs.Reading.{readUnary, readCast, readBinary, readLimitedCase, readParts, readOptional, readBranches, readField, readRoot, readTree, readRule};
-ghost use Rattle.rule.specs.Steps.{Gives, ReadGives, RuleRead, FieldGives, OptionalGives, BranchesGive, NodeGives, BranchGives, readThen, unaryOf, castOf, binaryOf, readTagged};
+ghost use Rattle.rule.specs.Steps.{Gives, RuleRead, TreeGives, RootGives, FieldGives, OptionalGives, BranchesGive, NodeGives, BranchGives, readThen, unaryOf, castOf, binaryOf, readTagged};
 
 // The field at a place of a slice; so much depth and so many CASEs are left on the path.
-fn read_field(s: &[u8], at: usize, depth: usize, cases: usize, seen: Seen) -> NodeRead
-    ensures { λ r. ⌜ FieldGives (now (s .entry)) seen (readField depth cases (drop at (now (s .entry)))) r ⌝ }
+fn read_field(s: &[u8], at: usize, depth: usize, cases: usize, marks: &mut [u8; 256]) -> FieldFound
+    ensures { λ r. ⌜ FieldGives (now (s .entry)) (now (marks .entry)) (readField depth cases (drop at (now (s .entry)))) r (now (marks .exit)) ⌝ }
 {
     match field_at(s, at) {
         Header::Found(f) => {
             let tag = f.tag;
             if tag < 16 {
-                return refuse(3, seen);
+                return refuse(3);
             }
             if 25 < tag {
-                return refuse(3, seen);
+                return refuse(3);
             }
             if depth == 0 {
-                return refuse(4, seen);
+                return refuse(4);
             }
             let content = part_of(s, f.start, f.end);
-            read_kind(content, tag, f.end, depth - 1, cases, seen)
+            read_kind(content, tag, f.end, depth - 1, cases, marks)
         }
-        Header::Cut => refuse(2, seen),
+        Header::Cut => refuse(2),
     }
 }
 
@@ -58,26 +59,26 @@ fn read_kind(
     end: usize,
     depth: usize,
     cases: usize,
-    seen: Seen,
-) -> NodeRead
-    ensures { λ r. ⌜ NodeGives end seen (λ cols rest. readTagged (readField depth) cases (record { tag = tag; content = now (content .entry); rest = rest }) cols) r ⌝ }
+    marks: &mut [u8; 256],
+) -> FieldFound
+    ensures { λ r. ⌜ NodeGives end (now (marks .entry)) (λ cols rest. readTagged (readField depth) cases (record { tag = tag; content = now (content .entry); rest = rest }) cols) r (now (marks .exit)) ⌝ }
 {
     if tag == 16 {
-        return read_column(content, end, seen);
+        return read_column(content, end, marks);
     }
     if tag == 17 {
-        return read_literal(content, end, seen);
+        return read_literal(content, end, marks);
     }
     if tag < 21 {
-        return read_unary(content, tag, end, depth, cases, seen);
+        return read_unary(content, tag, end, depth, cases, marks);
     }
     if tag < 23 {
-        return read_cast(content, tag, end, depth, cases, seen);
+        return read_cast(content, tag, end, depth, cases, marks);
     }
     if tag < 25 {
-        return read_binary(content, tag, end, depth, cases, seen);
+        return read_binary(content, tag, end, depth, cases, marks);
     }
-    read_case(content, end, depth, cases, seen)
+    read_case(content, end, depth, cases, marks)
 }
 
 // NOT, negative or IS NOT NULL: one child.
@@ -87,11 +88,11 @@ fn read_unary(
     end: usize,
     depth: usize,
     cases: usize,
-    seen: Seen,
-) -> NodeRead
-    ensures { λ r. ⌜ NodeGives end seen (readUnary (unaryOf tag) (readField depth cases) (now (content .entry))) r ⌝ }
+    marks: &mut [u8; 256],
+) -> FieldFound
+    ensures { λ r. ⌜ NodeGives end (now (marks .entry)) (readUnary (unaryOf tag) (readField depth cases) (now (content .entry))) r (now (marks .exit)) ⌝ }
 {
-    let a = read_field(content, 0, depth, cases, seen);
+    let a = read_field(content, 0, depth, cases, marks);
     let t = a.result;
     close(
         a,
@@ -109,20 +110,20 @@ fn read_cast(
     end: usize,
     depth: usize,
     cases: usize,
-    seen: Seen,
-) -> NodeRead
-    ensures { λ r. ⌜ NodeGives end seen (readCast (castOf tag) (readField depth cases) (now (content .entry))) r ⌝ }
+    marks: &mut [u8; 256],
+) -> FieldFound
+    ensures { λ r. ⌜ NodeGives end (now (marks .entry)) (readCast (castOf tag) (readField depth cases) (now (content .entry))) r (now (marks .exit)) ⌝ }
 {
     if content.len() == 0 {
-        return refuse(3, seen);
+        return refuse(3);
     }
     match type_numbered(content[0]) {
         TypeAnswer::Known(t) => {
-            let a = read_field(content, 1, depth, cases, seen);
+            let a = read_field(content, 1, depth, cases, marks);
             let from = a.result;
             close(a, content.len(), is_listed(from, t), t, end)
         }
-        TypeAnswer::Unknown => refuse(3, seen),
+        TypeAnswer::Unknown => refuse(3),
     }
 }
 
@@ -133,16 +134,15 @@ fn read_binary(
     end: usize,
     depth: usize,
     cases: usize,
-    seen: Seen,
-) -> NodeRead
-    ensures { λ r. ⌜ NodeGives end seen (readBinary (binaryOf tag) (readField depth cases) (now (content .entry))) r ⌝ }
+    marks: &mut [u8; 256],
+) -> FieldFound
+    ensures { λ r. ⌜ NodeGives end (now (marks .entry)) (readBinary (binaryOf tag) (readField depth cases) (now (content .entry))) r (now (marks .exit)) ⌝ }
 {
-    let a = read_field(content, 0, depth, cases, seen);
+    let a = read_field(content, 0, depth, cases, marks);
     if a.refused != 0 {
         return a;
     }
-    let met = a.seen;
-    let b = read_field(content, a.next, depth, cases, met);
+    let b = read_field(content, a.next, depth, cases, marks);
     let first = a.result;
     let second = b.result;
     close(
@@ -155,27 +155,33 @@ fn read_binary(
 }
 
 // CASE: flags and branch count, then its parts.
-fn read_case(content: &[u8], end: usize, depth: usize, cases: usize, seen: Seen) -> NodeRead
-    ensures { λ r. ⌜ NodeGives end seen (readLimitedCase (readField depth) cases (now (content .entry))) r ⌝ }
+fn read_case(
+    content: &[u8],
+    end: usize,
+    depth: usize,
+    cases: usize,
+    marks: &mut [u8; 256],
+) -> FieldFound
+    ensures { λ r. ⌜ NodeGives end (now (marks .entry)) (readLimitedCase (readField depth) cases (now (content .entry))) r (now (marks .exit)) ⌝ }
 {
     if cases == 0 {
-        return refuse(4, seen);
+        return refuse(4);
     }
     if content.len() < 2 {
-        return refuse(3, seen);
+        return refuse(3);
     }
     let flags = content[0];
     let count = content[1];
     if 3 < flags {
-        return refuse(3, seen);
+        return refuse(3);
     }
     if count == 0 {
-        return refuse(5, seen);
+        return refuse(5);
     }
     if 32 < count {
-        return refuse(6, seen);
+        return refuse(6);
     }
-    read_parts(content, flags, count, end, depth, cases - 1, seen)
+    read_parts(content, flags, count, end, depth, cases - 1, marks)
 }
 
 // The parts of a CASE: base, WHEN and THEN in turn, ELSE.
@@ -186,16 +192,15 @@ fn read_parts(
     end: usize,
     depth: usize,
     cases: usize,
-    seen: Seen,
-) -> NodeRead
-    ensures { λ r. ⌜ NodeGives end seen (readParts (readField depth cases) flags count (drop 2 (now (content .entry)))) r ⌝ }
+    marks: &mut [u8; 256],
+) -> FieldFound
+    ensures { λ r. ⌜ NodeGives end (now (marks .entry)) (readParts (readField depth cases) flags count (drop 2 (now (content .entry)))) r (now (marks .exit)) ⌝ }
 {
-    let b = read_optional(content, 2, flags % 2 == 1, depth, cases, seen);
+    let b = read_optional(content, 2, flags % 2 == 1, depth, cases, marks);
     if b.refused != 0 {
         return b;
     }
     let when = b.result;
-    let before = b.seen;
     let bs = read_branches(
         content,
         b.next,
@@ -204,13 +209,12 @@ fn read_parts(
         TypeAnswer::Unknown,
         depth,
         cases,
-        before,
+        marks,
     );
-    let met = bs.seen;
     if bs.refused != 0 {
-        return refuse(bs.refused, met);
+        return refuse(bs.refused);
     }
-    let e = read_optional(content, bs.next, 2 <= flags, depth, cases, met);
+    let e = read_optional(content, bs.next, 2 <= flags, depth, cases, marks);
     let from = e.result;
     let result = bs.result;
     close(
@@ -229,14 +233,14 @@ fn read_optional(
     there: bool,
     depth: usize,
     cases: usize,
-    seen: Seen,
-) -> NodeRead
-    ensures { λ r. ⌜ OptionalGives (now (s .entry)) seen (readOptional there (readField depth cases) (drop at (now (s .entry)))) r ⌝ }
+    marks: &mut [u8; 256],
+) -> FieldFound
+    ensures { λ r. ⌜ OptionalGives (now (s .entry)) (now (marks .entry)) (readOptional there (readField depth cases) (drop at (now (s .entry)))) r (now (marks .exit)) ⌝ }
 {
     if there {
-        return read_field(s, at, depth, cases, seen);
+        return read_field(s, at, depth, cases, marks);
     }
-    accept(DataType::Boolean, true, at, seen)
+    accept(DataType::Boolean, true, at)
 }
 
 // So many branches; the type of a THEN may be known from earlier ones.
@@ -248,37 +252,36 @@ fn read_branches(
     earlier: TypeAnswer,
     depth: usize,
     cases: usize,
-    seen: Seen,
+    marks: &mut [u8; 256],
 ) -> BranchesRead
-    ensures { λ r. ⌜ BranchesGive (now (s .entry)) seen when earlier (readBranches (readField depth cases) count (drop at (now (s .entry)))) r ⌝ }
+    ensures { λ r. ⌜ BranchesGive (now (s .entry)) (now (marks .entry)) when earlier (readBranches (readField depth cases) count (drop at (now (s .entry)))) r (now (marks .exit)) ⌝ }
 {
     if count == 0 {
-        return no_branches(earlier, at, seen);
+        return no_branches(earlier, at);
     }
-    let w = read_field(s, at, depth, cases, seen);
+    let w = read_field(s, at, depth, cases, marks);
     if w.refused != 0 {
-        return refuse_branches(w.refused, seen);
+        return refuse_branches(w.refused);
     }
-    read_then(s, w, count - 1, when, earlier, depth, cases)
+    read_then(s, w, count - 1, when, earlier, depth, cases, marks)
 }
 
 // A branch behind its WHEN, and so many later ones.
 fn read_then(
     s: &[u8],
-    w: NodeRead,
+    w: FieldFound,
     count: u8,
     when: DataType,
     earlier: TypeAnswer,
     depth: usize,
     cases: usize,
+    marks: &mut [u8; 256],
 ) -> BranchesRead
-    ensures { λ r. ⌜ BranchGives (now (s .entry)) w when earlier (λ x. readThen (readField depth cases) (x .tree) count (x .rest) (x .seen)) r ⌝ }
+    ensures { λ r. ⌜ BranchGives (now (s .entry)) w (now (marks .entry)) when earlier (λ x. readThen (readField depth cases) (x .tree) count (x .rest) (x .seen)) r (now (marks .exit)) ⌝ }
 {
-    let before = w.seen;
-    let t = read_field(s, w.next, depth, cases, before);
-    let met = t.seen;
+    let t = read_field(s, w.next, depth, cases, marks);
     if t.refused != 0 {
-        return refuse_branches(t.refused, met);
+        return refuse_branches(t.refused);
     }
     let own = t.result;
     let result = type_or(earlier, own);
@@ -290,46 +293,54 @@ fn read_then(
         TypeAnswer::Known(result),
         depth,
         cases,
-        met,
+        marks,
     );
     let tested = w.result;
     add_branch(tested, when, own, later)
 }
 
 // The root of a rule: a CASE.
-fn read_root(rule: &[u8]) -> NodeRead
-    ensures { λ r. ⌜ ReadGives (now (rule .entry)) (readRoot (now (rule .entry))) r ⌝ }
+fn read_root(rule: &[u8], marks: &mut [u8; 256]) -> FieldFound
+    ensures { λ r. ⌜ RootGives (now (rule .entry)) (now (marks .entry)) (readRoot (now (rule .entry))) r (now (marks .exit)) ⌝ }
 {
-    let seen = none_seen();
     match field_at(rule, 0) {
         Header::Found(f) => {
             if f.tag != 25 {
-                return refuse(3, seen);
+                return refuse(3);
             }
-            read_field(rule, 0, 8, 3, seen)
+            read_field(rule, 0, 8, 3, marks)
         }
-        Header::Cut => refuse(2, seen),
+        Header::Cut => refuse(2),
     }
 }
 
 // A rule but for its constant casts: one CASE field of at most 4,096 bytes, with no byte after it.
 pub(crate) fn read_tree(rule: &[u8]) -> NodeRead
-    ensures { λ r. ⌜ ReadGives (now (rule .entry)) (readTree (now (rule .entry))) r ⌝ }
+    ensures { λ r. ⌜ TreeGives (now (rule .entry)) (readTree (now (rule .entry))) r ⌝ }
 {
     if rule.len() == 0 {
-        return refuse(1, none_seen());
+        return refuse_rule(1);
     }
     if 4096 < rule.len() {
-        return refuse(1, none_seen());
+        return refuse_rule(1);
     }
-    let r = read_root(rule);
+    let mut marks = [0u8; 256];
+    let r = read_root(rule, &mut marks);
     if r.refused != 0 {
-        return r;
+        return refuse_rule(r.refused);
     }
     if r.next < rule.len() {
-        return refuse(3, none_seen());
+        return refuse_rule(3);
     }
-    r
+    let result = r.result;
+    let seen = Seen { marks };
+    NodeRead {
+        refused: 0,
+        result,
+        null: r.null,
+        next: r.next,
+        seen,
+    }
 }
 
 // A rule: its tree, and that no constant cast fails.
@@ -341,7 +352,7 @@ pub fn read_rule(rule: &[u8]) -> NodeRead
         return r;
     }
     if constant_fails(rule) {
-        return refuse(8, none_seen());
+        return refuse_rule(8);
     }
     r
 }

@@ -8,4 +8,4 @@ add-branch-spec =
     tie.close
     (tie.spec
     (λ c κs. search needs)
-    (λ c. let l = c .before .before .args .later in λ i. record { refused = l .refused; result = l .result; fits = c .branch-fits .ensures i; next = l .next; seen = l .seen }))
+    (λ c. let l = c .before .args .later in λ i. record { refused = l .refused; result = l .result; fits = c .branch-fits .ensures i; next = l .next }))

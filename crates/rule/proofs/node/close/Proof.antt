@@ -11,8 +11,8 @@ close-spec =
     (tie.spec
     (λ c. rw (ne-eqb _ _ (c .if1 .taken)) refl)
     (λ c κs. search needs)
-    (λ c. rw (eq-eqb _ _ (c .before .before .before .before .if1 .left), lt-ltb _ _ (c .before .if2 .taken)) (c .refuse .ensures))
+    (λ c. rw (eq-eqb _ _ (c .before .before .before .if1 .left), lt-ltb _ _ (c .before .if2 .taken)) (c .refuse .ensures))
     (λ c κs. search needs)
-    (λ c. rw (eq-eqb _ _ (c .before .before .before .before .before .if1 .left), le-ltb _ _ (c .before .before .if2 .left), c .before .if3 .taken) (c .accept .ensures))
+    (λ c. rw (eq-eqb _ _ (c .before .before .before .before .if1 .left), le-ltb _ _ (c .before .before .if2 .left), c .before .if3 .taken) (c .accept .ensures))
     (λ c κs. search needs)
-    (λ c. rw (eq-eqb _ _ (c .before .before .before .before .before .if1 .left), le-ltb _ _ (c .before .before .if2 .left), c .before .if3 .left) (c .refuse2 .ensures)))
+    (λ c. rw (eq-eqb _ _ (c .before .before .before .before .if1 .left), le-ltb _ _ (c .before .before .if2 .left), c .before .if3 .left) (c .refuse2 .ensures)))

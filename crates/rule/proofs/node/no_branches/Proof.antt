@@ -9,4 +9,4 @@ no-branches-spec =
     tie.close
     (tie.spec
     (λ c κs. search needs)
-    (λ c. λ i. record { refused = 0; result = c .type-or .ensures i; fits = true; next = c .before .args .next; seen = c .before .args .seen }))
+    (λ c. λ i. record { refused = 0; result = c .type-or .ensures i; fits = true; next = c .before .args .next }))
