@@ -3,11 +3,11 @@ use crate::RunAnswer;
 use crate::put::put_header;
 use crate::put::put_number;
 use crate::put::put_type;
+use crate::slot::long;
 use crate::write::VALIDITY;
 use crate::write::VALUES;
 use crate::write::column_size;
 use crate::write::values_size;
-use layout::number::read_u64;
 use rule::types::type_number;
 use scalar::types::DataType;
 ghost use mathlib.Core.List.{List};
@@ -92,7 +92,7 @@ fn put_payloads(work: &[u8], rows: usize, wide: bool, at: usize, output: &mut [u
     let mut p = at;
     let mut i = 0;
     while i < rows {
-        p = put_number(output, p, wide, read_u64(work, 1025 + 9 * i));
+        p = put_number(output, p, wide, long(work, 1025 + 9 * i));
         i += 1;
     }
     p

@@ -22,7 +22,7 @@ put-numbers-spec =
     Inv-loop
     μ-loop
     (λ c. so-far-none (c .before .before .pre .1))
-    (λ c κs. omega (arith, c .before .before .before .before .before .pre .0 .few, c .before .loop-test .taken))
+    (λ c κs. (omega (arith, c .before .before .before .before .before .pre .0 .few, c .before .loop-test .taken), c .before .before .before .before .before .pre .0 .room))
     (λ c κs. tt)
     (λ c κs. number-room (widthOf (c .before .before .before .before .before .before .before .args .wide)) _ _ _ (so-far-room (c .before .before .before .before .loop .inv) (c .before .before .before .before .before .before .before .pre .1) (c .before .before .before .loop-test .taken)))
     (λ c. omega arith)

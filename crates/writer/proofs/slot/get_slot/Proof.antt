@@ -1,7 +1,7 @@
 -- `get_slot` reads the kind and the payload of the slot.
-use borrow.Author.Needs.{needs}
-use mathlib.Core.Path.{ap₂, _∙_}
+use mathlib.Core.Path.{ap, _∙_}
 use Rattle.scalar.specs.Value.{valueOf}
+use borrow.Author.Needs.{needs}
 use Rattle.writer.proofs.slot.get_slot.Statement.{statement}
 use Rattle.writer.proofs.slot.get_slot.Tie as tie
 
@@ -14,6 +14,6 @@ get-slot-spec =
     (λ c κs. search needs)
     (λ c. search needs)
     (λ c. search needs)
+    (λ c. search needs)
     (λ c κs. search needs)
-    (λ c κs. search needs)
-    (λ c. c .value-of .ensures ∙ ap₂ valueOf (c .before .before .byte-at .ensures) (c .before .read-u64 .ensures)))
+    (λ c. c .value-of .ensures ∙ ap (valueOf _) (c .before .before .long .ensures)))

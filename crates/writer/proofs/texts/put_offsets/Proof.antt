@@ -26,7 +26,7 @@ put-offsets-spec =
     μ-loop
     (λ c. offsets-none (c .before .before .before .before .pre .2))
     (λ c κs. offset-room (c .before .before .loop .inv) (c .before .before .before .before .before .before .before .pre .2))
-    (λ c κs. omega (arith, c .before .before .before .before .before .before .before .before .before .before .pre .0 .few, c .before .before .before .before .loop-test .taken))
+    (λ c κs. (omega (arith, c .before .before .before .before .before .before .before .before .before .before .pre .0 .few, c .before .before .before .before .loop-test .taken), c .before .before .before .before .before .before .before .before .before .before .pre .0 .room))
     (λ c κs. tt)
     (λ c. omega (arith, text-within (now (c .before .before .before .before .before .before .before .before .before .before .before .before .args .rule)) (now (c .before .before .before .before .before .before .before .before .before .before .before .before .args .table)) (slotAt (now (c .before .before .before .before .before .before .before .before .before .before .before .before .args .work))) (c .before .before .before .before .before .before .before .loop .inv .counted) (c .before .before .before .before .before .before .loop-test .taken) (c .before .before .before .before .before .before .before .before .before .before .before .before .pre .1) (c .text-size .ensures ∙ ap (λ (v : Value). length (textIn (now (c .before .before .before .before .before .before .before .before .before .before .before .before .args .rule)) (now (c .before .before .before .before .before .before .before .before .before .before .before .before .args .table)) v)) (c .before .get-slot .ensures))))
     (λ c. omega arith)

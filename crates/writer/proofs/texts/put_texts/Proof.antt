@@ -23,7 +23,7 @@ put-texts-spec =
     Inv-loop
     μ-loop
     (λ c. so-far-none (c .before .before .before .before .pre .1))
-    (λ c κs. omega (arith, c .before .before .before .before .before .before .pre .0 .few, c .loop-test .taken))
+    (λ c κs. (omega (arith, c .before .before .before .before .before .before .pre .0 .few, c .loop-test .taken), c .before .before .before .before .before .before .pre .0 .room))
     (λ c κs. room-as _ _ (ap (textIn (now (c .before .before .before .before .before .before .before .before .args .rule)) (now (c .before .before .before .before .before .before .before .before .args .table))) (c .before .get-slot .ensures)) (so-far-room (c .before .before .before .loop .inv) (c .before .before .before .before .before .before .before .before .pre .1) (c .before .before .loop-test .taken)))
     (λ c. omega arith)
     (λ c. omega arith)

@@ -25,7 +25,7 @@ text-length-spec =
     Inv-loop
     μ-loop
     (λ c. length-none)
-    (λ c κs. omega (arith, c .before .before .before .before .before .pre .0 .few, c .loop-test .taken))
+    (λ c κs. (omega (arith, c .before .before .before .before .before .pre .0 .few, c .loop-test .taken), c .before .before .before .before .before .pre .0 .room))
     (λ c κs. tt)
     (λ c. omega (arith, text-fits (now (c .before .before .before .before .before .before .before .args .rule)) (now (c .before .before .before .before .before .before .before .args .table)) (slotAt (now (c .before .before .before .before .before .before .before .args .work))) (c .before .before .before .loop .inv) (c .before .before .loop-test .taken) (c .before .before .before .before .before .before .before .pre .0 .few) (c .before .before .before .before .before .before .before .pre .1) (c .before .before .before .before .before .before .before .pre .2) (c .text-size .ensures ∙ ap (λ (v : Value). length (textIn (now (c .before .before .before .before .before .before .before .args .rule)) (now (c .before .before .before .before .before .before .before .args .table)) v)) (c .before .get-slot .ensures))))
     (λ c. omega arith)

@@ -21,7 +21,7 @@ slots-fit-spec =
     Inv-loop
     μ-loop
     (λ c. each-none)
-    (λ c κs. omega (arith, c .before .before .before .pre .few, c .loop-test .taken))
+    (λ c κs. (omega (arith, c .before .before .before .pre .few, c .loop-test .taken), c .before .before .before .pre .room))
     (λ c κs. tt)
     (λ c κs. tt)
     (λ c. each-fails (slotFits (c .before .before .before .before .before .before .before .args .code) (now (c .before .before .before .before .before .before .before .args .work))) (c .before .before .before .before .before .before .before .args .rows) (c .before .before .before .before .before .loop .i) (c .before .before .before .before .loop-test .taken) (slot-fit (now (c .before .before .before .before .before .before .before .args .work)) (c .before .before .before .before .before .before .before .args .code) (c .before .before .before .before .before .loop .i) (c .before .kind-fits .ensures) (c .before .before .kind .ensures) (c .before .before .before .get-slot .ensures) (not-true _ (c .if1 .taken))))

@@ -22,7 +22,7 @@ some-of-kind-spec =
     Inv-loop
     μ-loop
     (λ c. none-yet)
-    (λ c κs. omega (arith, c .before .before .before .pre .few, c .loop-test .taken))
+    (λ c κs. (omega (arith, c .before .before .before .pre .few, c .loop-test .taken), c .before .before .before .pre .room))
     (λ c κs. tt)
     (λ c. kind-found (slotAt (now (c .before .before .before .before .before .before .args .work))) (c .before .before .before .before .before .before .args .k) (c .before .before .before .before .before .before .args .rows) (c .before .before .before .before .loop .i) (c .before .before .before .loop-test .taken) (c .before .kind .ensures) (c .before .before .get-slot .ensures) (c .if1 .taken))
     (λ c. omega arith)
