@@ -98,12 +98,12 @@ module _ {rule table : List ℕ} {t : Places} {result : DataType} {w w₁ : List
   module _ {found : Bool} {w₂ classes kinds payloads : List ℕ} (c : ClassesGive rule table t result w₁ found w₂ classes kinds payloads) where
     -- the rows by their classes
     pub by-classes : {n : Bool} {output output′ : List ℕ} {r : RunAnswer} → found ≡ true
-        → ((rule table : List ℕ) → RunGives (classesRun rule table (t .rows) result n classes kinds payloads (length output)) output r output′) → AnswerGives rule table t result n w output r w₂ output′
+        → ((rule table : List ℕ) → RunGives (classesRun rule table (t .rows) result n classes payloads (length output)) output r output′) → AnswerGives rule table t result n w output r w₂ output′
     by-classes is wrote = record {
       long = c .long ∙ all .long;
-      value = classValue classes kinds payloads;
+      value = classValue result classes payloads;
       right = c .right is;
-      wrote = gives-rows (asks-classed (t .rows) classes kinds payloads (c .asks is)) (wrote rule table);
+      wrote = gives-rows (asks-classed (t .rows) classes payloads (c .asks is)) (wrote rule table);
     }
 
     -- the list is still there

@@ -1,5 +1,5 @@
 -- The classes of a table's rows by the root CASE: the outcome of a row is the literal of its class. Assumes nothing.
-use mathlib.Core.Path.{_≡_, refl, sym, subst, _∙_}
+use mathlib.Core.Path.{_≡_, refl, sym, ap, subst, _∙_}
 use mathlib.Core.Bool.{Bool, true, false, false≢true}
 use mathlib.Core.List.{List, _++_}
 use mathlib.Core.Logic.{inr}
@@ -9,7 +9,7 @@ use lib.ListN.{length, getD}
 use Rattle.layout.specs.Bytes.{byte}
 use Rattle.scalar.specs.declared.types.DataType.{DataType}
 use Rattle.scalar.specs.Types.{typeNumber}
-use Rattle.scalar.specs.Value.{meaning}
+use Rattle.scalar.specs.Value.{meaning, valueOf}
 use Rattle.rule.specs.Tree.{Expr}
 use Rattle.rule.specs.Row.{eval, evalElse}
 use Rattle.rule.specs.Walks.{branchTrees, optionalTrees, TreesAt, TypeGives}
@@ -98,29 +98,31 @@ module _ {rule table : List ℕ} {t : Table} {w classes kinds payloads : List �
 
   pub classes-give : {result : DataType} {given : Bool} {w′ classes′ kinds′ payloads′ : List ℕ} → RootAsks t w table → code ≡ typeNumber result → code ≤ 4
       → ThensClassed rule place table t code count w (t .rows) classes kinds payloads given w′ classes′ kinds′ payloads′ → ClassesGive rule table t result w given w′ classes′ kinds′ payloads′
-  classes-give {given = given} {classes′ = classes′} {kinds′} {payloads′} asks code-is high thens = record {
+  classes-give {result} {given} {classes′ = classes′} {kinds′} {payloads′} asks code-is high thens = record {
     long = thens .long;
     low = thens .low;
     classes-long = thens .classes-long;
     kinds-long = thens .arrays .0;
     payloads-long = thens .arrays .1;
     asks = λ h. record {
-      few = asks .few;
-      classes-long = thens .classes-long;
-      kinds-long = thens .arrays .0;
-      payloads-long = thens .arrays .1;
       number = (omega arith, omega arith);
-      each = λ i l. let r = thens .here h i (root-listed asks i l) in (r .below, r .kind-is ∙ code-is);
+      inside = record {
+        few = asks .few;
+        classes-long = thens .classes-long;
+        payloads-long = thens .arrays .1;
+        below = λ i l. thens .here h i (root-listed asks i l) .below;
+      };
     };
     right = λ h. record { right = λ e node i l. means h e i l (values .each given-index i (root-listed asks i l) .is e 7 node) };
   }
     where
       means : given ≡ true → (e : Expr) (i : ℕ) → i < t .rows → CaseTree rule 0 (length rule) table t found 7 i (getD classes i 0) e
-          → meaning rule table (classValue classes′ kinds′ payloads′ i) ≡ eval e (rowIn table t i)
+          → meaning rule table (classValue result classes′ payloads′ i) ≡ eval e (rowIn table t i)
       means h e i l tree =
           let row = rowIn table t i in
           let trees = subst (λ (x : ℕ). TreesAt rule x (length rule) (branchTrees (tree .bs) ++ optionalTrees (tree .els)) 7) is (tree .trees) in
           let many = tree .counted ∙ sym counted in
-          thens .here h i (root-listed asks i l) .means (tree .bs) (optionalTrees (tree .els)) (length rule) (evalElse (tree .els) row (results .type)) trees many
+          ap (λ (k : ℕ). meaning rule table (valueOf k (getD payloads′ (getD classes′ i 0) 0))) (sym (thens .here h i (root-listed asks i l) .kind-is ∙ code-is))
+          ∙ thens .here h i (root-listed asks i l) .means (tree .bs) (optionalTrees (tree .els)) (length rule) (evalElse (tree .els) row (results .type)) trees many
           (λ j b k. read .held (tree .bs) (tree .els) 7 row table trees many j b (inr (λ z. omega arith)))
           ∙ sym (tree .outcome (results .type) (results .type-is))

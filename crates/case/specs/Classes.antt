@@ -180,5 +180,5 @@ pub record ClassesGive (rule table : List ℕ) (t : Table) (result : DataType) (
   pub classes-long : length classes ≡ 512
   pub kinds-long : length kinds ≡ 258
   pub payloads-long : length payloads ≡ 258
-  pub asks : found ≡ true → ClassesAsk (t .rows) result classes kinds payloads
-  pub right : found ≡ true → RowsRight rule table t (classValue classes kinds payloads)
+  pub asks : found ≡ true → ClassesAsk (t .rows) result classes payloads
+  pub right : found ≡ true → RowsRight rule table t (classValue result classes payloads)

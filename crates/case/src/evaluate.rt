@@ -89,7 +89,7 @@ fn answer_rows(
         &mut kinds,
         &mut payloads,
     ) {
-        return write_classes(rows, result, nullable, &classes, &kinds, &payloads, output);
+        return write_classes(rows, result, nullable, &classes, &payloads, output);
     }
     expr(rule, 0, rule.len(), table, t, work, rows, 8);
     write_answer(rule, table, work, rows, result, nullable, output)

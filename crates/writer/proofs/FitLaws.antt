@@ -2,13 +2,14 @@
 use mathlib.Core.Path.{_≡_, refl, sym, ap, ap₂, _∙_}
 use mathlib.Core.Bool.{Bool, true, false, cond, _&&_, false≢true}
 use mathlib.Core.List.{List}
+use mathlib.Core.Logic.{_⊎_, inl, inr}
 use Prim.Native.Nat.{ℕ, zero, suc, _+_, _<_, _≤_}
 use native.Mathlib.Numerals.{add-one}
-use native.Mathlib.Decide.{decLt}
+use native.Mathlib.Decide.{decLt, ℕ-discrete}
 use native.Mathlib.Omega.{arith}
 use lib.Dec.{eqb, ltb, leb}
 use lib.ListN.{length, getD}
-use borrow.Author.Tests.{ltb-true, leb-true, eqb-true, lt-ltb, le-ltb, le-leb, lt-leb, eq-eqb, ne-eqb}
+use borrow.Author.Tests.{ltb-true, ltb-false, leb-true, eqb-true, lt-ltb, le-ltb, le-leb, lt-leb, eq-eqb, ne-eqb}
 use Rattle.layout.specs.Bytes.{Bytes}
 use Rattle.layout.specs.Result.{Result, _>>=_, require}
 use Rattle.scalar.specs.declared.types.DataType.{DataType}
@@ -22,7 +23,7 @@ use Rattle.writer.specs.declared.RunAnswer.{RunAnswer}
 use Rattle.writer.specs.declared.RunAnswer.the-variants.{Refused}
 use Rattle.writer.specs.Written.{outputAfter}
 use Rattle.writer.specs.Slots.{slotAt}
-use Rattle.writer.specs.Write.{RunGives, WriteAsks, ClassesAsk, PlainRows, kindFits, lengthsFit, slotFits, slotsFit, writable, slotKind, slotPayload, classesLong, numberType, classOfKind, classesOfKind, classed}
+use Rattle.writer.specs.Write.{RunGives, WriteAsks, ClassesAsk, PlainRows, kindFits, lengthsFit, slotFits, slotsFit, writable, slotKind, slotPayload, classesLong, numberType, classIn, classesIn, classed}
 use Rattle.writer.specs.Writing.{eachRow, RowsAsk}
 use Rattle.writer.proofs.PlainLaws.{slot-fits, kind-plain}
 
@@ -246,84 +247,104 @@ number-below code h = rw (lt-leb 2 code h)
 pub number-last : (code : ℕ) → 2 ≤ code → leb code 4 ≡ numberType code
 number-last code h = rw (le-leb 2 code h)
 
-module _ (k : ℕ) (classes kinds : List ℕ) (i : ℕ) where
-  -- a row's class is of the kind
-  pub class-fit : getD classes i 0 < 258 → getD kinds (getD classes i 0) 0 ≡ k → classOfKind k classes kinds i ≡ true
-  class-fit h e = ap₂ _&&_ (lt-ltb (getD classes i 0) 258 h) (eq-eqb (getD kinds (getD classes i 0) 0) k e)
+-- the greatest of the first rows' classes
+pub record MostSoFar (classes : List ℕ) (i most : ℕ) : Type 0 where
+  pub below : (j : ℕ) → j < i → getD classes j 0 ≤ most
+  pub some : (most ≡ 0) ⊎ ((j : ℕ) × (j < i) × (getD classes j 0 ≡ most))
 
-  -- it is none
-  pub class-far : 258 ≤ getD classes i 0 → classOfKind k classes kinds i ≡ false
-  class-far h = rw (le-ltb (getD classes i 0) 258 h)
+pub most-none : {classes : List ℕ} → MostSoFar classes 0 0
+most-none = record { below = λ j h. absurd (omega arith); some = inl refl }
 
-  -- it is of another
-  pub class-other : getD classes i 0 < 258 → (getD kinds (getD classes i 0) 0 ≡ k → ⊥) → classOfKind k classes kinds i ≡ false
-  class-other h n = ap₂ _&&_ (lt-ltb (getD classes i 0) 258 h) (ne-eqb (getD kinds (getD classes i 0) 0) k n)
+module _ {classes : List ℕ} {i most : ℕ} (s : MostSoFar classes i most) where
+  -- one more, above them
+  pub most-greater : {new : ℕ} → most < getD classes i 0 → new ≡ getD classes i 0 → MostSoFar classes (i + 1) new
+  most-greater {new} h e = record { below = λ j l. go j l (ℕ-discrete j i); some = inr (i, omega arith, sym e) }
+    where
+      go : (j : ℕ) → j < i + 1 → Dec (j ≡ i) → getD classes j 0 ≤ new
+      go j l (yes p) = let q : getD classes j 0 ≡ getD classes i 0 = ap (λ (k : ℕ). getD classes k 0) p in omega arith
+      go j l (no d) = let q = s .below j (omega arith) in omega arith
 
-module _ (rows : ℕ) (classes kinds payloads : List ℕ) where
+  -- or not
+  pub most-less : {new : ℕ} → getD classes i 0 ≤ most → new ≡ most → MostSoFar classes (i + 1) new
+  most-less {new} h e = record { below = λ j l. go j l (ℕ-discrete j i); some = further (s .some) }
+    where
+      go : (j : ℕ) → j < i + 1 → Dec (j ≡ i) → getD classes j 0 ≤ new
+      go j l (yes p) = let q : getD classes j 0 ≡ getD classes i 0 = ap (λ (k : ℕ). getD classes k 0) p in omega arith
+      go j l (no d) = let q = s .below j (omega arith) in omega arith
+
+      further : (most ≡ 0) ⊎ ((j : ℕ) × (j < i) × (getD classes j 0 ≡ most)) → (new ≡ 0) ⊎ ((j : ℕ) × (j < i + 1) × (getD classes j 0 ≡ new))
+      further (inl z) = inl (e ∙ z)
+      further (inr (j, l, p)) = inr (j, omega arith, p ∙ sym e)
+
+  -- it tells whether all have a number
+  pub most-tells : {rows : ℕ} → i ≡ rows → ltb most 258 ≡ classesIn classes rows
+  most-tells {rows} is = go (ltb most 258) refl (s .some)
+    where
+      go : (b : Bool) → ltb most 258 ≡ b → (most ≡ 0) ⊎ ((j : ℕ) × (j < i) × (getD classes j 0 ≡ most)) → b ≡ classesIn classes rows
+      go true e some =
+          let m = ltb-true most 258 e in
+          sym (each-all (classIn classes) rows (λ j l. lt-ltb (getD classes j 0) 258 (let q = s .below j (omega arith) in omega arith)))
+      go false e (inl z) = absurd (let m = ltb-false most 258 e in omega arith)
+      go false e (inr (j, l, p)) = each-fails (classIn classes) rows j (omega arith) (le-ltb (getD classes j 0) 258 (let m = ltb-false most 258 e in omega arith))
+
+module _ (rows : ℕ) (classes payloads : List ℕ) where
   -- too many rows
-  pub many-classes : 512 < rows → false ≡ classesLong rows classes kinds payloads
+  pub many-classes : 512 < rows → false ≡ classesLong rows classes payloads
   many-classes h = rw (lt-leb rows 512 h)
 
   module _ (few : rows ≤ 512) where
     -- an array of another length
-    pub classes-differ : (length classes ≡ 512 → ⊥) → false ≡ classesLong rows classes kinds payloads
+    pub classes-differ : (length classes ≡ 512 → ⊥) → false ≡ classesLong rows classes payloads
     classes-differ h = rw (le-leb rows 512 few, ne-eqb (length classes) 512 h)
 
-    module _ (long : length classes ≡ 512) where
-      pub kinds-differ : (length kinds ≡ 258 → ⊥) → false ≡ classesLong rows classes kinds payloads
-      kinds-differ h = rw (le-leb rows 512 few, eq-eqb (length classes) 512 long, ne-eqb (length kinds) 258 h)
-
-      pub payloads-last : length kinds ≡ 258 → eqb (length payloads) 258 ≡ classesLong rows classes kinds payloads
-      payloads-last h = rw (le-leb rows 512 few, eq-eqb (length classes) 512 long, eq-eqb (length kinds) 258 h)
+    pub payloads-last : length classes ≡ 512 → eqb (length payloads) 258 ≡ classesLong rows classes payloads
+    payloads-last long = rw (le-leb rows 512 few, eq-eqb (length classes) 512 long)
 
   -- what the lengths tell
-  long-facts : classesLong rows classes kinds payloads ≡ true → (rows ≤ 512) × (length classes ≡ 512) × (length kinds ≡ 258) × (length payloads ≡ 258)
+  long-facts : classesLong rows classes payloads ≡ true → (rows ≤ 512) × (length classes ≡ 512) × (length payloads ≡ 258)
   long-facts e =
-      let p = both (leb rows 512 && eqb (length classes) 512 && eqb (length kinds) 258) (eqb (length payloads) 258) e in
-      let q = both (leb rows 512 && eqb (length classes) 512) (eqb (length kinds) 258) (p .0) in
-      let r = both (leb rows 512) (eqb (length classes) 512) (q .0) in
-      (leb-true rows 512 (r .0), eqb-true (length classes) 512 (r .1), eqb-true (length kinds) 258 (q .1), eqb-true (length payloads) 258 (p .1))
+      let p = both (leb rows 512 && eqb (length classes) 512) (eqb (length payloads) 258) e in
+      let r = both (leb rows 512) (eqb (length classes) 512) (p .0) in
+      (leb-true rows 512 (r .0), eqb-true (length classes) 512 (r .1), eqb-true (length payloads) 258 (p .1))
 
-  module _ {b : Bool} (is : b ≡ classesLong rows classes kinds payloads) where
+  module _ {b : Bool} (is : b ≡ classesLong rows classes payloads) where
     -- lengths that don't fit
-    pub long-refused : (t : DataType) → b ≡ false → false ≡ classed rows t classes kinds payloads
+    pub long-refused : (t : DataType) → b ≡ false → false ≡ classed rows t classes payloads
     long-refused t e = rw (sym is ∙ e)
 
     module _ (e : b ≡ true) where
-      -- the loop's needs
-      pub classes-room : (rows ≤ length classes) × (length kinds ≡ 258)
-      classes-room = let f = long-facts (sym is ∙ e) in (omega (arith, f .0, f .1), f .2)
+      -- the loop's need
+      pub classes-room : rows ≤ length classes
+      classes-room = let f = long-facts (sym is ∙ e) in omega (arith, f .0, f .1)
 
       module _ (t : DataType) {code : ℕ} (q : code ≡ typeNumber t) {c : Bool} (num : c ≡ numberType code) where
         -- a type that is none of numbers
-        pub type-refused : c ≡ false → false ≡ classed rows t classes kinds payloads
+        pub type-refused : c ≡ false → false ≡ classed rows t classes payloads
         type-refused z = rw (sym is ∙ e, sym (num ∙ ap numberType q) ∙ z)
 
         -- the rest
-        pub classes-last : {d : Bool} → c ≡ true → d ≡ classesOfKind code classes kinds rows → d ≡ classed rows t classes kinds payloads
-        classes-last z p = rw (sym is ∙ e, sym (num ∙ ap numberType q) ∙ z) (p ∙ ap (λ (k : ℕ). classesOfKind k classes kinds rows) q)
+        pub classes-last : {d : Bool} → c ≡ true → d ≡ classesIn classes rows → d ≡ classed rows t classes payloads
+        classes-last z p = rw (sym is ∙ e, sym (num ∙ ap numberType q) ∙ z) p
 
   -- classes that can be written, fact by fact
-  pub classes-ask : (t : DataType) → classed rows t classes kinds payloads ≡ true → ClassesAsk rows t classes kinds payloads
+  pub classes-ask : (t : DataType) → classed rows t classes payloads ≡ true → ClassesAsk rows t classes payloads
   classes-ask t e =
-      let a = both (classesLong rows classes kinds payloads && numberType (typeNumber t)) (classesOfKind (typeNumber t) classes kinds rows) e in
-      let b = both (classesLong rows classes kinds payloads) (numberType (typeNumber t)) (a .0) in
+      let a = both (classesLong rows classes payloads && numberType (typeNumber t)) (classesIn classes rows) e in
+      let b = both (classesLong rows classes payloads) (numberType (typeNumber t)) (a .0) in
       let n = both (leb 2 (typeNumber t)) (leb (typeNumber t) 4) (b .1) in
       let f = long-facts (b .0) in
       record {
-        few = f .0;
-        classes-long = f .1;
-        kinds-long = f .2;
-        payloads-long = f .3;
         number = (leb-true 2 (typeNumber t) (n .0), leb-true (typeNumber t) 4 (n .1));
-        each = λ i h.
-            let x = both (ltb (getD classes i 0) 258) (eqb (getD kinds (getD classes i 0) 0) (typeNumber t))
-            (each-at (classOfKind (typeNumber t) classes kinds) rows i (a .1) h) in
-            (ltb-true (getD classes i 0) 258 (x .0), eqb-true (getD kinds (getD classes i 0) 0) (typeNumber t) (x .1));
+        inside = record {
+          few = f .0;
+          classes-long = f .1;
+          payloads-long = f .2;
+          below = λ i h. ltb-true (getD classes i 0) 258 (each-at (classIn classes) rows i (a .1) h);
+        };
       }
 
   -- and back
-  pub asks-classed : {t : DataType} → ClassesAsk rows t classes kinds payloads → classed rows t classes kinds payloads ≡ true
+  pub asks-classed : {t : DataType} → ClassesAsk rows t classes payloads → classed rows t classes payloads ≡ true
   asks-classed {t} a =
-      rw (le-leb rows 512 (a .few), eq-eqb (length classes) 512 (a .classes-long), eq-eqb (length kinds) 258 (a .kinds-long), eq-eqb (length payloads) 258 (a .payloads-long), le-leb 2 (typeNumber t) (a .number .0), le-leb (typeNumber t) 4 (a .number .1))
-      (each-all (classOfKind (typeNumber t) classes kinds) rows (λ i h. class-fit (typeNumber t) classes kinds i (a .each i h .0) (a .each i h .1)))
+      rw (le-leb rows 512 (a .inside .few), eq-eqb (length classes) 512 (a .inside .classes-long), eq-eqb (length payloads) 258 (a .inside .payloads-long), le-leb 2 (typeNumber t) (a .number .0), le-leb (typeNumber t) 4 (a .number .1))
+      (each-all (classIn classes) rows (λ i h. lt-ltb (getD classes i 0) 258 (a .inside .below i h)))

@@ -25,7 +25,7 @@ use Rattle.scalar.specs.TryCast.{orNull}
 use Rattle.scalar.proofs.FloatLaws.{float-means}
 use Rattle.writer.specs.declared.RunAnswer.the-variants.{Answered, Refused}
 use Rattle.writer.specs.Answer.{numberIn}
-use Rattle.writer.specs.Write.{WriteGives, ClassesAsk, ClassesIn, PlainRows, RowsOfKind, Tells, slotKind, slotPayload, classPayload}
+use Rattle.writer.specs.Write.{WriteGives, ClassesAsk, PlainRows, RowsOfKind, Tells, slotKind, slotPayload, classPayload}
 use Rattle.writer.specs.Writing.{Wrote, rowBytes, someOfKind, numberOf, widthOf, rowNumbers, rowText, rowValues, rowColumn, plainNumbers, plainFront, validitySize, valuesSize}
 use Rattle.writer.proofs.WroteLaws.{length-rows, rows-same, low-bytes, wrote-as, wrote-then, wrote-long, length-field}
 use Rattle.writer.proofs.RowKindLaws.{any-none}
@@ -133,13 +133,9 @@ slot-fits w bytes i =
     let wide : 256 ^ length l ≤ 256 ^ 8 = pow-le-pow-right (omega arith) short in
     omega arith
 
--- the classes' kinds
-pub classes-plain : {rows : ℕ} {t : DataType} {classes kinds payloads : List ℕ} → ClassesAsk rows t classes kinds payloads → PlainRows (λ i. getD kinds (getD classes i 0) 0) rows t
-classes-plain ask = record { few = ask .few; number = ask .number; kind-is = λ i h. ask .each i h .1 }
-
--- their payloads
-pub classes-in : {rows : ℕ} {t : DataType} {classes kinds payloads : List ℕ} → ClassesAsk rows t classes kinds payloads → ClassesIn rows classes payloads
-classes-in ask = record { few = ask .few; classes-long = ask .classes-long; payloads-long = ask .payloads-long; below = λ i b. ask .each i b .0 }
+-- the classes' numbers, of the type's kind
+pub classes-plain : {rows : ℕ} {t : DataType} {classes payloads : List ℕ} → ClassesAsk rows t classes payloads → PlainRows (λ i. typeNumber t) rows t
+classes-plain ask = record { few = ask .inside .few; number = ask .number; kind-is = λ i h. refl }
 
 -- which are of 64 bits
 pub class-fits : (classes payloads : List ℕ) → ((i : ℕ) → getD payloads i 0 < 2 ^ 64) → (i : ℕ) → classPayload classes payloads i < 2 ^ 64

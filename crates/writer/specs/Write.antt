@@ -12,10 +12,10 @@ use Rattle.scalar.specs.declared.types.DataType.{DataType}
 use Rattle.scalar.specs.declared.value.Value.{Value}
 use Rattle.scalar.specs.Types.{typeNumber}
 use Rattle.scalar.specs.Entry.{Outcome}
-use Rattle.scalar.specs.Value.{meaning, kindOf}
+use Rattle.scalar.specs.Value.{meaning, kindOf, valueOf}
 use Rattle.writer.specs.declared.RunAnswer.{RunAnswer}
 use Rattle.writer.specs.Written.{rowsFrom, entriesOf, writtenAs, runAnswer, outputAfter}
-use Rattle.writer.specs.Slots.{slotAt, valueAt}
+use Rattle.writer.specs.Slots.{slotAt}
 use Rattle.writer.specs.Writing.{eachRow}
 
 -- the outcomes that the first rows have
@@ -93,50 +93,45 @@ pub record PlainRows (kind : ℕ → ℕ) (rows : ℕ) (t : DataType) : Type 0 w
 
 -- ---- rows by their classes
 
--- the value of a row's class: the literal at its index
-abbrev pub classValue : List ℕ → List ℕ → List ℕ → ℕ → Value
-classValue classes kinds payloads i = valueAt kinds payloads (getD classes i 0)
+-- the number of a row's class, as a value of a type
+abbrev pub classValue : DataType → List ℕ → List ℕ → ℕ → Value
+classValue t classes payloads i = valueOf (typeNumber t) (getD payloads (getD classes i 0) 0)
 
--- at most 512 rows, a class for each, and a kind and a payload for each class
-abbrev pub classesLong : ℕ → List ℕ → List ℕ → List ℕ → Bool
-classesLong rows classes kinds payloads = leb rows 512 && eqb (length classes) 512 && eqb (length kinds) 258 && eqb (length payloads) 258
+-- at most 512 rows, a class for each, and a number for each class
+abbrev pub classesLong : ℕ → List ℕ → List ℕ → Bool
+classesLong rows classes payloads = leb rows 512 && eqb (length classes) 512 && eqb (length payloads) 258
 
 -- the number of a type of numbers
 abbrev pub numberType : ℕ → Bool
 numberType code = leb 2 code && leb code 4
 
--- a row's class is of a kind
-abbrev pub classOfKind : ℕ → List ℕ → List ℕ → ℕ → Bool
-classOfKind k classes kinds i = ltb (getD classes i 0) 258 && eqb (getD kinds (getD classes i 0) 0) k
+-- a row's class has a number
+abbrev pub classIn : List ℕ → ℕ → Bool
+classIn classes i = ltb (getD classes i 0) 258
 
--- every row's is
-abbrev pub classesOfKind : ℕ → List ℕ → List ℕ → ℕ → Bool
-classesOfKind k classes kinds rows = eachRow (classOfKind k classes kinds) rows
+-- every row's has
+abbrev pub classesIn : List ℕ → ℕ → Bool
+classesIn classes rows = eachRow (classIn classes) rows
 
--- the rows' classes can be written as a column of a type: each is a number of it
-abbrev pub classed : ℕ → DataType → List ℕ → List ℕ → List ℕ → Bool
-classed rows t classes kinds payloads = classesLong rows classes kinds payloads && numberType (typeNumber t) && classesOfKind (typeNumber t) classes kinds rows
+-- the rows' classes can be written as a column of a type, which is one of numbers
+abbrev pub classed : ℕ → DataType → List ℕ → List ℕ → Bool
+classed rows t classes payloads = classesLong rows classes payloads && numberType (typeNumber t) && classesIn classes rows
 
 -- where they can't: 0
-abbrev pub classesRun : List ℕ → List ℕ → ℕ → DataType → Bool → List ℕ → List ℕ → List ℕ → ℕ → Result (List ℕ)
-classesRun rule table rows t n classes kinds payloads output =
-    require (classed rows t classes kinds payloads) 0 >>= λ _. rowsRun rule table (classValue classes kinds payloads) rows t n output
+abbrev pub classesRun : List ℕ → List ℕ → ℕ → DataType → Bool → List ℕ → List ℕ → ℕ → Result (List ℕ)
+classesRun rule table rows t n classes payloads output = require (classed rows t classes payloads) 0 >>= λ _. rowsRun rule table (classValue t classes payloads) rows t n output
 
--- the same, fact by fact
-pub record ClassesAsk (rows : ℕ) (t : DataType) (classes kinds payloads : List ℕ) : Type 0 where
-  pub few : rows ≤ 512
-  pub classes-long : length classes ≡ 512
-  pub kinds-long : length kinds ≡ 258
-  pub payloads-long : length payloads ≡ 258
-  pub number : (2 ≤ typeNumber t) × (typeNumber t ≤ 4)
-  pub each : (i : ℕ) → i < rows → (getD classes i 0 < 258) × (getD kinds (getD classes i 0) 0 ≡ typeNumber t)
-
--- every row's class has a payload
+-- the arrays have a class for each row, and a number for each class that a row has
 pub record ClassesIn (rows : ℕ) (classes payloads : List ℕ) : Type 0 where
   pub few : rows ≤ 512
   pub classes-long : length classes ≡ 512
   pub payloads-long : length payloads ≡ 258
   pub below : (i : ℕ) → i < rows → getD classes i 0 < 258
+
+-- rows that can be written, fact by fact
+pub record ClassesAsk (rows : ℕ) (t : DataType) (classes payloads : List ℕ) : Type 0 where
+  pub number : (2 ≤ typeNumber t) × (typeNumber t ≤ 4)
+  pub inside : ClassesIn rows classes payloads
 
 -- the payload of a row's class
 abbrev pub classPayload : List ℕ → List ℕ → ℕ → ℕ

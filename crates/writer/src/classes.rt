@@ -12,56 +12,51 @@ ghost use mathlib.Core.Path.{_≡_};
 ghost use mathlib.Core.List.{List};
 ghost use Prim.Native.Nat.{ℕ, _+_, _≤_};
 ghost use lib.ListN.{length};
-ghost use Rattle.writer.specs.Write.{RunGives, WriteGives, ClassesAsk, ClassesIn, classValue, classPayload, classesLong, numberType, classesOfKind, classed, classesRun};
+ghost use Rattle.writer.specs.Write.{RunGives, WriteGives, ClassesIn, ClassesAsk, classValue, classPayload, classesLong, numberType, classesIn, classed, classesRun};
 ghost use Rattle.writer.specs.Writing.{Wrote, rowBytes, plainNumbers};
 
-// How many classes have a kind and a payload.
+// How many classes have a number.
 const CLASSES: usize = 258;
 
 // The answer at the front of the output, and its length, of rows that each have the number of their class; or 17, and the output is unchanged. 0,
-// which is no refusal of a run, says that the classes are no numbers of the type.
+// which is no refusal of a run, says that they are no column of the type.
 pub fn write_classes(
     rows: usize,
     t: DataType,
     nullable: bool,
     classes: &[u16],
-    kinds: &[u8],
     payloads: &[u64],
     output: &mut [u8],
 ) -> RunAnswer
-    ensures { λ r. ⌜ ((rule table : List ℕ) → RunGives (classesRun rule table rows t nullable (now (classes .entry)) (now (kinds .entry)) (now (payloads .entry)) (length (now (output .entry)))) (now (output .entry)) r (now (output .exit))) ⌝ }
+    ensures { λ r. ⌜ ((rule table : List ℕ) → RunGives (classesRun rule table rows t nullable (now (classes .entry)) (now (payloads .entry)) (length (now (output .entry)))) (now (output .entry)) r (now (output .exit))) ⌝ }
 {
-    if !classes_fit(rows, t, classes, kinds, payloads) {
+    if !classes_fit(rows, t, classes, payloads) {
         return RunAnswer::Refused(0);
     }
-    write_classed(rows, t, nullable, classes, kinds, payloads, output)
+    write_classed(rows, t, nullable, classes, payloads, output)
 }
 
-// Whether every row's class is a number of the type.
-fn classes_fit(rows: usize, t: DataType, classes: &[u16], kinds: &[u8], payloads: &[u64]) -> bool
-    ensures { λ r. ⌜ r ≡ classed rows t (now (classes .entry)) (now (kinds .entry)) (now (payloads .entry)) ⌝ }
+// Whether the type is one of numbers, and every row's class has a number.
+fn classes_fit(rows: usize, t: DataType, classes: &[u16], payloads: &[u64]) -> bool
+    ensures { λ r. ⌜ r ≡ classed rows t (now (classes .entry)) (now (payloads .entry)) ⌝ }
 {
-    if !classes_long(rows, classes, kinds, payloads) {
+    if !classes_long(rows, classes, payloads) {
         return false;
     }
-    let code = type_number(t);
-    if !number_type(code) {
+    if !number_type(type_number(t)) {
         return false;
     }
-    classes_of_kind(rows, code, classes, kinds)
+    classes_in(rows, classes)
 }
 
-// Whether the arrays have a class for each row, and a kind and a payload for each class.
-fn classes_long(rows: usize, classes: &[u16], kinds: &[u8], payloads: &[u64]) -> bool
-    ensures { λ r. ⌜ r ≡ classesLong rows (now (classes .entry)) (now (kinds .entry)) (now (payloads .entry)) ⌝ }
+// Whether the arrays have a class for each row, and a number for each class.
+fn classes_long(rows: usize, classes: &[u16], payloads: &[u64]) -> bool
+    ensures { λ r. ⌜ r ≡ classesLong rows (now (classes .entry)) (now (payloads .entry)) ⌝ }
 {
     if ROWS_MOST < rows {
         return false;
     }
     if classes.len() != ROWS_MOST {
-        return false;
-    }
-    if kinds.len() != CLASSES {
         return false;
     }
     payloads.len() == CLASSES
@@ -77,37 +72,34 @@ fn number_type(code: u8) -> bool
     code <= FLOAT64
 }
 
-// Whether every row's class is of a kind.
-fn classes_of_kind(rows: usize, k: u8, classes: &[u16], kinds: &[u8]) -> bool
-    requires { ⌜ (rows ≤ length (now classes)) × (length (now kinds) ≡ 258) ⌝ }
-    ensures { λ r. ⌜ r ≡ classesOfKind k (now (classes .entry)) (now (kinds .entry)) rows ⌝ }
+// Whether every row's class has a number, by the greatest class.
+fn classes_in(rows: usize, classes: &[u16]) -> bool
+    requires { ⌜ rows ≤ length (now classes) ⌝ }
+    ensures { λ r. ⌜ r ≡ classesIn (now (classes .entry)) rows ⌝ }
 {
+    let mut most = 0u16;
     let mut i = 0;
     while i < rows {
-        let class = classes[i] as usize;
-        if CLASSES <= class {
-            return false;
-        }
-        if kinds[class] != k {
-            return false;
+        let class = classes[i];
+        if most < class {
+            most = class;
         }
         i += 1;
     }
-    true
+    most < CLASSES as u16
 }
 
-// The same of classes that are numbers of the type: 17 or the answer.
+// The same of rows that are a column of the type: 17 or the answer.
 fn write_classed(
     rows: usize,
     t: DataType,
     nullable: bool,
     classes: &[u16],
-    kinds: &[u8],
     payloads: &[u64],
     output: &mut [u8],
 ) -> RunAnswer
-    requires { ⌜ ClassesAsk rows t (now classes) (now kinds) (now payloads) ⌝ }
-    ensures { λ r. ⌜ ((rule table : List ℕ) → WriteGives rule table (classValue (now (classes .entry)) (now (kinds .entry)) (now (payloads .entry))) rows t nullable (now (output .entry)) r (now (output .exit))) ⌝ }
+    requires { ⌜ ClassesAsk rows t (now classes) (now payloads) ⌝ }
+    ensures { λ r. ⌜ ((rule table : List ℕ) → WriteGives rule table (classValue t (now (classes .entry)) (now (payloads .entry))) rows t nullable (now (output .entry)) r (now (output .exit))) ⌝ }
 {
     let size = column_size(rows, t, false, 0);
     if output.len() < size {

@@ -11,9 +11,9 @@ classes-fit-spec =
     tie.close
     (tie.spec
     (λ c κs. search needs)
-    (λ c. long-refused (c .before .before .before .before .before .args .rows) (now (c .before .before .before .before .before .args .classes)) (now (c .before .before .before .before .before .args .kinds)) (now (c .before .before .before .before .before .args .payloads)) (c .before .classes-long .ensures) (c .before .before .before .before .before .args .t) (not-true _ (c .if1 .taken)))
+    (λ c. long-refused (c .before .before .before .before .args .rows) (now (c .before .before .before .before .args .classes)) (now (c .before .before .before .before .args .payloads)) (c .before .classes-long .ensures) (c .before .before .before .before .args .t) (not-true _ (c .if1 .taken)))
     (λ c κs. search needs)
     (λ c κs. search needs)
-    (λ c. type-refused (c .before .before .before .before .before .before .before .before .args .rows) (now (c .before .before .before .before .before .before .before .before .args .classes)) (now (c .before .before .before .before .before .before .before .before .args .kinds)) (now (c .before .before .before .before .before .before .before .before .args .payloads)) (c .before .before .before .before .classes-long .ensures) (not-false _ (c .before .before .before .if1 .left)) (c .before .before .before .before .before .before .before .before .args .t) (c .before .before .type-number .ensures) (c .before .number-type .ensures) (not-true _ (c .if2 .taken)))
-    (λ c κs. classes-room (c .before .before .before .before .before .before .before .before .args .rows) (now (c .before .before .before .before .before .before .before .before .args .classes)) (now (c .before .before .before .before .before .before .before .before .args .kinds)) (now (c .before .before .before .before .before .before .before .before .args .payloads)) (c .before .before .before .before .classes-long .ensures) (not-false _ (c .before .before .before .if1 .left)))
-    (λ c. classes-last (c .before .before .before .before .before .before .before .before .before .args .rows) (now (c .before .before .before .before .before .before .before .before .before .args .classes)) (now (c .before .before .before .before .before .before .before .before .before .args .kinds)) (now (c .before .before .before .before .before .before .before .before .before .args .payloads)) (c .before .before .before .before .before .classes-long .ensures) (not-false _ (c .before .before .before .before .if1 .left)) (c .before .before .before .before .before .before .before .before .before .args .t) (c .before .before .before .type-number .ensures) (c .before .before .number-type .ensures) (not-false _ (c .before .if2 .left)) (c .classes-of-kind .ensures)))
+    (λ c. type-refused (c .before .before .before .before .before .before .before .args .rows) (now (c .before .before .before .before .before .before .before .args .classes)) (now (c .before .before .before .before .before .before .before .args .payloads)) (c .before .before .before .before .classes-long .ensures) (not-false _ (c .before .before .before .if1 .left)) (c .before .before .before .before .before .before .before .args .t) (c .before .before .type-number .ensures) (c .before .number-type .ensures) (not-true _ (c .if2 .taken)))
+    (λ c κs. classes-room (c .before .before .before .before .before .before .before .args .rows) (now (c .before .before .before .before .before .before .before .args .classes)) (now (c .before .before .before .before .before .before .before .args .payloads)) (c .before .before .before .before .classes-long .ensures) (not-false _ (c .before .before .before .if1 .left)))
+    (λ c. classes-last (c .before .before .before .before .before .before .before .before .args .rows) (now (c .before .before .before .before .before .before .before .before .args .classes)) (now (c .before .before .before .before .before .before .before .before .args .payloads)) (c .before .before .before .before .before .classes-long .ensures) (not-false _ (c .before .before .before .before .if1 .left)) (c .before .before .before .before .before .before .before .before .args .t) (c .before .before .before .type-number .ensures) (c .before .before .number-type .ensures) (not-false _ (c .before .if2 .left)) (c .classes-in .ensures)))
