@@ -17,7 +17,7 @@ import subprocess
 import sys
 
 HERE = os.path.dirname(os.path.dirname(os.path.abspath(__file__)))
-CRATES = ["layout", "scalar", "rule", "table", "builder", "case"]
+CRATES = ["layout", "scalar", "rule", "table", "builder", "writer", "case"]
 
 
 def blocks(path):

@@ -10,7 +10,7 @@ import subprocess
 import tempfile
 
 HERE = os.path.dirname(os.path.dirname(os.path.abspath(__file__)))
-OURS = re.compile(r"(layout|scalar|rule|table|builder|case|tembalku)(::|_)")
+OURS = re.compile(r"(layout|scalar|rule|table|builder|writer|case|tembalku)(::|_)")
 
 
 def listing():
