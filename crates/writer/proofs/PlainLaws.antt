@@ -9,8 +9,9 @@ use native.Mathlib.Omega.{arith}
 use lib.Dec.{eqb}
 use lib.Ieee.{binary64, ofBits, nanBits}
 use lib.ListN.{length, take, drop, getD, length-append, length-take}
+use lib.Seq.{take-take}
 use borrow.Author.Tests.{ne-eqb}
-use Rattle.layout.specs.Bytes.{Bytes, number, numberBytes}
+use Rattle.layout.specs.Bytes.{Bytes, number, numberAt, numberBytes}
 use Rattle.layout.specs.Field.{fieldBytes}
 use Rattle.layout.proofs.BytesLaws.{length-numberBytes, number-below, bytes-take, bytes-drop}
 use Rattle.scalar.specs.declared.types.DataType.{DataType}
@@ -123,6 +124,10 @@ module _ (rows : ℕ) (t : DataType) (nullable : Bool) {output : List ℕ} (few 
         wrote-then (wrote-then a (validity-none false (λ i. Null) rows refl b)) (wrote-as (ap (λ (n : ℕ). 4 ∷ numberBytes 2 (n - 3)) e) c)
 
 -- ---- the rows
+
+-- the eight bytes at a place, taken out, hold the number there
+pub part-number : (w : List ℕ) (at end : ℕ) → at + 8 ≤ end → numberAt 8 (take (end - at) (drop at w)) 0 ≡ numberAt 8 w at
+part-number w at end h = ap number (take-take 8 (end - at) (drop at w) (omega arith))
 
 -- a row's payload is of 64 bits
 pub slot-fits : (w : List ℕ) → Bytes w → (i : ℕ) → slotPayload w i < 2 ^ 64

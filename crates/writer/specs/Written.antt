@@ -44,5 +44,6 @@ unfoldable pub outputAfter : Result (List ℕ) → List ℕ → List ℕ
 outputAfter (refused n) output = output
 outputAfter (ok bytes) output = bytes ++ drop (length bytes) output
 
+-- as many bytes, all zero
 abbrev pub zeros : List ℕ → List ℕ
 zeros l = replicate (length l) 0

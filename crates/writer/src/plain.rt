@@ -3,7 +3,7 @@ use crate::RunAnswer;
 use crate::put::put_header;
 use crate::put::put_number;
 use crate::put::put_type;
-use crate::slot::long;
+use crate::slot::slot_payload;
 use crate::write::VALIDITY;
 use crate::write::VALUES;
 use crate::write::column_size;
@@ -92,7 +92,7 @@ fn put_payloads(work: &[u8], rows: usize, wide: bool, at: usize, output: &mut [u
     let mut p = at;
     let mut i = 0;
     while i < rows {
-        p = put_number(output, p, wide, long(work, 1025 + 9 * i));
+        p = put_number(output, p, wide, slot_payload(work, i));
         i += 1;
     }
     p

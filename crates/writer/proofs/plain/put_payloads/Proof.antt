@@ -22,12 +22,10 @@ put-payloads-spec =
     Inv-loop
     μ-loop
     (λ c. so-far-none (c .before .before .pre .1))
-    (λ c. omega (arith, c .before .before .before .before .before .pre .0 .few, c .before .loop-test .taken))
-    (λ c. omega (arith, c .before .before .before .before .before .pre .0 .few, c .before .loop-test .taken))
-    (λ c κs. omega (arith, c .before .before .before .before .before .pre .0 .few, c .before .before .before .before .before .pre .0 .room, c .before .loop-test .taken))
+    (λ c κs. (omega (arith, c .before .before .before .before .before .pre .0 .few, c .before .loop-test .taken), c .before .before .before .before .before .pre .0 .room))
     (λ c κs. number-room (widthOf (c .before .before .before .before .before .before .args .wide)) _ _ _ (so-far-room (c .before .before .before .loop .inv) (c .before .before .before .before .before .before .pre .1) (c .before .before .loop-test .taken)))
     (λ c. omega (arith, c .before .before .before .before .before .before .before .before .before .pre .0 .few, c .before .before .before .before .before .loop-test .taken))
     (λ c. omega (arith, c .before .before .before .before .before .loop-test .taken))
-    (λ c. so-far-more (c .before .before .before .before .before .before .loop .inv) (c .before .before .before .before .before .loop-test .taken) (wrote-as (ap (numberBytes (widthOf (c .before .before .before .before .before .before .before .before .before .args .wide))) (c .before .before .before .long .ensures)) (c .before .before .put-number .ensures)))
+    (λ c. so-far-more (c .before .before .before .before .before .before .loop .inv) (c .before .before .before .before .before .loop-test .taken) (wrote-as (ap (numberBytes (widthOf (c .before .before .before .before .before .before .before .before .before .args .wide))) (c .before .before .before .slot-payload .ensures)) (c .before .before .put-number .ensures)))
     (λ c. wrote-long (c .before .loop .inv .done))
     (λ c. so-far-ends (c .before .loop .inv) (c .loop-test .left)))

@@ -1,7 +1,10 @@
 -- `get_slot` reads the kind and the payload of the slot.
-use mathlib.Core.Path.{ap, _∙_}
-use Rattle.scalar.specs.Value.{valueOf}
 use borrow.Author.Needs.{needs}
+use mathlib.Core.Path.{ap, _∙_}
+use denote.Ref.{now}
+use Prim.Native.Nat.{_+_, _*_}
+use Rattle.layout.specs.Bytes.{byte}
+use Rattle.scalar.specs.Value.{valueOf}
 use Rattle.writer.proofs.slot.get_slot.Statement.{statement}
 use Rattle.writer.proofs.slot.get_slot.Tie as tie
 
@@ -11,9 +14,7 @@ get-slot-spec =
     (tie.spec
     (λ c. search needs)
     (λ c. search needs)
-    (λ c κs. search needs)
-    (λ c. search needs)
-    (λ c. search needs)
     (λ c. search needs)
     (λ c κs. search needs)
-    (λ c. c .value-of .ensures ∙ ap (valueOf _) (c .before .before .long .ensures)))
+    (λ c κs. search needs)
+    (λ c. c .value-of .ensures ∙ ap (valueOf (byte (now (c .before .before .before .before .args .work)) (1024 + 9 * c .before .before .before .before .args .row))) (c .before .slot-payload .ensures)))
