@@ -10,7 +10,7 @@
  *
  * What the caller sees to: a pointer and its length name memory that is there; a pointer isn't NULL, even if its length is 0; a buffer that
  * is written overlaps no other argument. Pointers need no alignment. The stack that
- * calls were seen to need is in docs/ARCHITECTURE.md (Memory); 512 KB were enough in every measurement.
+ * calls were seen to need is in docs/ARCHITECTURE.md (Memory); 256 KB were enough in every measurement.
  */
 #ifndef TEMBALKU_H
 #define TEMBALKU_H
