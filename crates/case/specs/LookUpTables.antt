@@ -10,11 +10,10 @@ use lib.ListN.{length, getD}
 use Rattle.scalar.specs.declared.value.Value.{Value}
 use Rattle.scalar.specs.Entry.{Entry, null, Outcome, entry, unfit, onEntries}
 use Rattle.scalar.specs.Compare.{equalEntry}
-use Rattle.scalar.specs.Value.{meaning, kindOf, payloadOf}
+use Rattle.scalar.specs.Value.{meaning, valueOf, kindOf, payloadOf}
 use Rattle.rule.specs.Tree.{Expr, column, literal, negation, negative, isNotNull, cast, tryCast, equal, less, caseWhen}
 use Rattle.rule.specs.Walks.{TreesAt}
 use Rattle.rule.specs.AnswerWalks.{treesLiteral}
-pub use Rattle.writer.specs.Slots.{valueAt}
 use Rattle.case.specs.Choosing.{trueOutcome}
 use Rattle.case.specs.Frame.{slotAt}
 
@@ -30,6 +29,10 @@ bytesOf kind rule table = cond (eqb kind 5) rule table
 unfoldable pub found : (ℕ → Bool) → (ℕ → ℕ) → ℕ → ℕ → ℕ → ℕ
 found same index k zero otherwise = otherwise
 found same index k (suc n) otherwise = cond (same k) (index k) (found same index (suc k) n otherwise)
+
+-- the value of a kind and a payload of two arrays
+abbrev pub valueAt : List ℕ → List ℕ → ℕ → Value
+valueAt kinds payloads i = valueOf (getD kinds i 0) (getD payloads i 0)
 
 -- a base in the table
 abbrev pub keyIndex : List ℕ → List ℕ → List ℕ → List ℕ → List ℕ → ℕ → ℕ → Outcome → ℕ

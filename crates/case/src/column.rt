@@ -9,6 +9,7 @@ use layout::bits::bit_at;
 use layout::part::part_of;
 use rule::types::type_number;
 use scalar::types::DataType;
+use scalar::types::mark_number;
 use scalar::value::Value;
 use table::entry::entry_in;
 use table::entry::row_u32;
@@ -23,7 +24,7 @@ ghost use Prim.Native.Nat.{ℕ, _^_, _<_};
 ghost use lib.ListN.{length};
 ghost use Rattle.layout.specs.Bytes.{part};
 ghost use Rattle.scalar.specs.Entry.{Entry, entry};
-ghost use Rattle.scalar.specs.Types.{typeNumber, markNumber};
+ghost use Rattle.scalar.specs.Types.{typeNumber};
 ghost use Rattle.scalar.specs.Value.{meaning, Storable};
 ghost use Rattle.rule.specs.Row.{isTrueTest, chosen};
 ghost use Rattle.table.specs.Column.{validIn, entryAt};
@@ -70,13 +71,6 @@ fn kind_at(validity: &[u8], kind: DataType, row: usize) -> u8
     } else {
         0
     }
-}
-
-// The number of a Boolean.
-fn mark_number(b: bool) -> u8
-    ensures { λ r. ⌜ r ≡ markNumber b ⌝ }
-{
-    if b { 1 } else { 0 }
 }
 
 // The payload of a row's value, of any type but text.

@@ -1,6 +1,6 @@
 // The types of columns, literals and results.
 ghost use mathlib.Core.Path.{_≡_};
-ghost use Rattle.scalar.specs.Types.{TypeGives};
+ghost use Rattle.scalar.specs.Types.{TypeGives, markNumber};
 
 pub enum DataType {
     Boolean,
@@ -28,4 +28,11 @@ pub fn type_numbered(number: u8) -> TypeAnswer
         5 => TypeAnswer::Known(DataType::Utf8),
         _ => TypeAnswer::Unknown,
     }
+}
+
+// The number of a mark: 1 or 0.
+pub fn mark_number(b: bool) -> u8
+    ensures { λ r. ⌜ r ≡ markNumber b ⌝ }
+{
+    if b { 1 } else { 0 }
 }

@@ -2,6 +2,7 @@
 use layout::number::write_u16;
 use rule::types::type_number;
 use scalar::types::DataType;
+use scalar::types::mark_number;
 ghost use mathlib.Core.Path.{_≡_};
 ghost use mathlib.Core.List.{[], _∷_};
 ghost use Prim.Native.Nat.{_+_, _<_, _≤_};
@@ -81,13 +82,6 @@ pub(crate) fn put_header(output: &mut [u8], at: usize, tag: u8, size: usize) -> 
     let p = put_byte(output, at, tag);
     let _done = write_u16(output, p, size as u16);
     p + 2
-}
-
-// The number of a mark.
-pub(crate) fn mark_number(b: bool) -> u8
-    ensures { λ r. ⌜ r ≡ markNumber b ⌝ }
-{
-    if b { 1 } else { 0 }
 }
 
 // Tag 2: the type and the nullable byte.
