@@ -39,12 +39,12 @@ def keys(base, count):
 
 def rules():
     deep = less(COLUMN, int32(7))
-    yield "three CASEs on a path, two branches each", case(None, steps(2, tests(2, tests(2, field(18, field(18, field(18, deep)))))), int32(9))
+    negated = field(18, field(18, field(18, deep)))
+    yield "three CASEs on a path, two branches each", case(None, steps(2, tests(2, tests(2, negated))), int32(9))
     inner = case(None, steps(32), int32(3))
     yield "three CASEs of 32 branches in THENs", case(None, steps(32, None, case(None, steps(32, None, inner), int32(2))), int32(1))
     column_in = case(None, steps(32, None, COLUMN), int32(3))
     yield "the same, a column among the results", case(None, steps(32, None, case(None, steps(32, None, column_in), int32(2))), int32(1))
-    negated = field(18, field(18, field(18, deep)))
     yield "three CASEs on a path in THENs, NOTs below", case(None, [(deep, case(None, [(deep, case(None, [(negated, COLUMN)], int32(1)))], int32(2)))], COLUMN)
     yield "tables of 32 keys in bases", keys(keys(keys(COLUMN, 32), 32), 32)
     yield "three CASEs of 32 branches in WHENs", case(None, steps(32, tests(32, tests(32))), int32(1))
