@@ -11,7 +11,8 @@ use borrow.Author.Tests.{ltb-false, le-ltb}
 use Rattle.layout.specs.Result.{refused, ok}
 use Rattle.layout.specs.Bytes.{Bytes, number, numberBytes}
 use Rattle.layout.specs.Field.{Field, contentLength, fieldAt, header, fieldBytes}
-use Rattle.layout.proofs.ResultLaws.{refused-not-ok, ok-injective, AtMost, ok-most, refused-most, cond-most}
+use Rattle.layout.specs.Refusals.{among}
+use Rattle.layout.proofs.ResultLaws.{refused-not-ok, ok-injective, RefusedAmong, ok-among, refused-among, cond-among}
 use Rattle.layout.proofs.BytesLaws.{bytes-take, bytes-drop, bytes-tail, numberBytes-number}
 
 -- a field that is there has room for its header and its content
@@ -26,11 +27,11 @@ header-ok n l f e = go (ltb (length l) 3) refl (ltb (length l) (3 + contentLengt
     go false p false q e = (ltb-false _ _ p, ltb-false _ _ q, sym (ok-injective e))
 
 -- a field that isn't there is refused with the reader's number
-pub header-most : (k n : ℕ) (l : List ℕ) → n ≤ k → AtMost k (header n l)
+pub header-among : (k : List ℕ) (n : ℕ) (l : List ℕ) → among k n ≡ true → RefusedAmong k (header n l)
 unfolding header
-header-most k n l h =
-    let no = refused-most k n h in
-    cond-most k (ltb (length l) 3) _ _ no (cond-most k (ltb (length l) (3 + contentLength l)) _ _ no (ok-most k (fieldAt l)))
+header-among k n l h =
+    let no = refused-among k n h in
+    cond-among k (ltb (length l) 3) _ _ no (cond-among k (ltb (length l) (3 + contentLength l)) _ _ no (ok-among k (fieldAt l)))
 
 -- where there is room, it is there
 pub header-fits : (n : ℕ) (l : List ℕ) → 3 ≤ length l → 3 + contentLength l ≤ length l → header n l ≡ ok (fieldAt l)

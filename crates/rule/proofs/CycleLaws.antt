@@ -22,7 +22,7 @@ use Rattle.scalar.specs.Types.{sameType, typeNumbered}
 use Rattle.scalar.specs.Cast.{listed}
 use Rattle.rule.specs.declared.types.TypeAnswer.{TypeAnswer}
 use Rattle.rule.specs.declared.types.TypeAnswer.the-variants.{Known, Unknown}
-use Rattle.rule.specs.declared.node.NodeRead.{NodeRead}
+use Rattle.rule.specs.declared.node.RuleFound.{RuleFound}
 use Rattle.rule.specs.declared.node.FieldFound.{FieldFound}
 use Rattle.rule.specs.declared.node.BranchesRead.{BranchesRead}
 use Rattle.rule.specs.Tree.{Column, Expr, negation, negative, isNotNull, cast, tryCast, equal, less, caseWhen, Branches, noMore, branch, Optional, absent, present, isNullLiteral}
@@ -489,7 +489,7 @@ module _ (rule : List ℕ) (r : FieldFound) {after : List ℕ} where
 
 -- the whole rule
 module _ (rule : List ℕ) where
-  pub tree-empty : (r : NodeRead) → length rule ≡ 0 → r .refused ≡ 1 → TreeGives rule (readTree rule) r
+  pub tree-empty : (r : RuleFound) → length rule ≡ 0 → r .refused ≡ 1 → TreeGives (readTree rule) r
   unfolding readTree
   tree-empty r h e = on-refused (require (ltb 0 (length rule) && leb (length rule) 4096) 1) _ 1 (rw h refl) (omega arith) e
 
@@ -497,7 +497,7 @@ module _ (rule : List ℕ) where
     more : ltb 0 (length rule) ≡ true
     more = lt-ltb 0 (length rule) (omega (arith, some))
 
-    pub tree-long : (r : NodeRead) → 4096 < length rule → r .refused ≡ 1 → TreeGives rule (readTree rule) r
+    pub tree-long : (r : RuleFound) → 4096 < length rule → r .refused ≡ 1 → TreeGives (readTree rule) r
     unfolding readTree
     tree-long r h e = on-refused (require (ltb 0 (length rule) && leb (length rule) 4096) 1) _ 1 (rw (more, lt-leb _ _ h) refl) (omega arith) e
 
@@ -506,11 +506,11 @@ module _ (rule : List ℕ) where
       sized : require (ltb 0 (length rule) && leb (length rule) 4096) 1 ≡ ok tt
       sized = rw (more, le-leb _ _ few) refl
 
-      pub tree-refused : (r : NodeRead) → (a .refused ≡ 0 → ⊥) → r .refused ≡ a .refused → TreeGives rule (readTree rule) r
+      pub tree-refused : (r : RuleFound) → (a .refused ≡ 0 → ⊥) → r .refused ≡ a .refused → TreeGives (readTree rule) r
       unfolding readTree
       tree-refused r n e = on-ok (require (ltb 0 (length rule) && leb (length rule) 4096) 1) _ tt sized (behind-refused (readRoot rule) _ g n e)
 
-      pub tree-left : (r : NodeRead) → a .refused ≡ 0 → a .next < length rule → r .refused ≡ 3 → TreeGives rule (readTree rule) r
+      pub tree-left : (r : RuleFound) → a .refused ≡ 0 → a .next < length rule → r .refused ≡ 3 → TreeGives (readTree rule) r
       unfolding readTree
       tree-left r z h e =
           on-ok (require (ltb 0 (length rule) && leb (length rule) 4096) 1) _ tt sized
@@ -519,11 +519,11 @@ module _ (rule : List ℕ) where
           on-refused (require (isEmpty (x .rest)) 3) _ 3 (ap (λ (b : Bool). require b 3) left) (omega arith) e))
 
       pub tree-gives : a .refused ≡ 0 → length rule ≤ a .next
-          → TreeGives rule (readTree rule) (record { refused = 0; result = a .result; null = a .null; next = a .next; seen = record { marks = after } })
+          → TreeGives (readTree rule) (record { refused = 0; result = a .result; seen = record { marks = after } })
       unfolding readTree
       tree-gives z h =
           on-ok (require (ltb 0 (length rule) && leb (length rule) 4096) 1) _ tt sized
           (behind-read (readRoot rule) _ g z
           (λ x k. let none : isEmpty (x .rest) ≡ true = ap isEmpty (k .behind .rest-is) ∙ empty-drop (a .next) rule h in
           on-ok (require (isEmpty (x .rest)) 3) _ tt (ap (λ (b : Bool). require b 3) none)
-          (gives-read x refl refl (record { type-is = k .type-is; null-is = k .null-is; behind = k .behind }))))
+          (gives-read x refl refl (record { type-is = k .type-is; seen-are = k .behind .seen-are }))))

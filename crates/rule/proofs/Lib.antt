@@ -10,6 +10,7 @@ pub mod LeafLaws
 pub mod CycleLaws
 pub mod ProjectionLaws
 pub mod ReadColumns
+pub mod MarksLaws
 pub mod NodeLaws
 pub mod WalkLaws
 pub mod LiteralLaws

@@ -123,7 +123,7 @@ indexes-risen (c ∷ l) h =
 abbrev marked : List ℕ → ℕ → Bool
 marked marks i = not (eqb (getD marks i 0) 0)
 
-named-marked : (l : List Column) (i : ℕ) → named l i ≡ not (eqb (markAt l i) 0)
+pub named-marked : (l : List Column) (i : ℕ) → named l i ≡ not (eqb (markAt l i) 0)
 unfolding named markAt
 named-marked [] i = refl
 named-marked (c ∷ l) i = go (eqb i (c .index)) (named-marked l i)

@@ -14,18 +14,22 @@ use Rattle.rule.specs.declared.seen.Seen.{Seen}
 use Rattle.rule.specs.Tree.{Column, Expr, negation, negative, isNotNull, cast, tryCast, equal, less}
 use Rattle.rule.specs.Constant.{columnsOf, branchesColumns, optionalColumns}
 use Rattle.rule.specs.Projection.{indexes, projection}
-use Rattle.rule.specs.Reading.{Read, Reader, Kind, aColumn, aLiteral, aNot, aNegative, anIsNotNull, aCast, aTryCast, anEqual, aLess, aCase, readColumn, readLiteral, readUnary, readCast, readBinary, readCase, readBranches, readOptional, hasBase, hasElse, readParts, readKind, readField, depthMost, casesMost, readTree}
-use Rattle.rule.specs.Seen.{SeenIs}
-use Rattle.rule.proofs.ReadInversions.{column-inv, literal-inv, unary-inv, cast-inv, binary-inv, branches-inv, optional-inv, parts-inv, case-inv, limitedCase-inv, field-inv, root-inv, tree-inv}
+use Rattle.rule.specs.Reading.{Read, Reader, Kind, aColumn, aLiteral, aNot, aNegative, anIsNotNull, aCast, aTryCast, anEqual, aLess, aCase, readColumn, readLiteral, readUnary, readCast, readBinary, readCase, readBranches, readOptional, hasBase, hasElse, readParts, readKind, readField, depthMost, casesMost, readTree, readRule}
+use Rattle.rule.specs.Seen.{alike}
+use Rattle.rule.specs.Steps.{ColumnsMet}
+use Rattle.rule.proofs.ReadInversions.{column-inv, literal-inv, unary-inv, cast-inv, binary-inv, branches-inv, optional-inv, parts-inv, case-inv, limitedCase-inv, field-inv, root-inv, tree-inv, rule-inv}
 use Rattle.rule.proofs.ProjectionLaws.{named, risen-same, indexes-risen, seen-bound}
 
--- columns that were met, and more, the last first
+-- columns that were met, and more, the last first; none is unlike an earlier one of its index
 abbrev Added : List Column → List Column → List Column → Type 0
-Added cols new seen = seen ≡ reverseAux new cols
+Added cols new seen = (seen ≡ reverseAux new cols) × (alike cols ≡ true → alike seen ≡ true)
+
+nothing-added : (cols : List Column) → Added cols [] cols
+nothing-added cols = (refl, λ h. h)
 
 -- first some, then others
 both-added : (a b cols mid last : List Column) → Added cols a mid → Added mid b last → Added cols (a ++ b) last
-both-added a b cols mid last p q = q ∙ ap (reverseAux b) p ∙ sym (reverseAux-append a b cols)
+both-added a b cols mid last p q = (q .0 ∙ ap (reverseAux b) (p .0) ∙ sym (reverseAux-append a b cols), λ h. q .1 (p .1 h))
 
 -- a reader that adds the columns of what it reads
 abbrev Met : {A : Type 0} → (A → List Column) → List Column → Read A → Type 0
@@ -36,20 +40,20 @@ Meets columns read = (bytes : List ℕ) (cols : List Column) (r : Read _) → re
 
 -- a column or a literal
 column-met : (f : Field) (cols : List Column) (r : Read Expr) → readColumn f cols ≡ ok r → Met columnsOf cols r
-unfolding columnsOf
+unfolding columnsOf alike
 column-met f cols r p =
     let (c, content, like, is) = column-inv f cols r p in
-    subst (Met columnsOf cols) (sym is) refl
+    subst (Met columnsOf cols) (sym is) (refl, λ h. rw like h)
 
 literal-met : (f : Field) (cols : List Column) (r : Read Expr) → readLiteral f cols ≡ ok r → Met columnsOf cols r
 unfolding columnsOf
-literal-met f cols r p = let (t, m, v, content, value, is) = literal-inv f cols r p in subst (Met columnsOf cols) (sym is) refl
+literal-met f cols r p = let (t, m, v, content, value, is) = literal-inv f cols r p in subst (Met columnsOf cols) (sym is) (nothing-added cols)
 
 -- branches and parts that may be absent
 module _ (child : Reader Expr) (ih : Meets columnsOf child) where
   branches-met : (n : ℕ) → Meets branchesColumns (readBranches child n)
   unfolding readBranches columnsOf
-  branches-met zero bytes cols r p = subst (Met branchesColumns cols) (ok-injective p) refl
+  branches-met zero bytes cols r p = subst (Met branchesColumns cols) (ok-injective p) (nothing-added cols)
   branches-met (suc n) bytes cols r p =
       let (w, t, bs, first, second, rest, is) = branches-inv child n bytes cols r p in
       subst (Met branchesColumns cols) (sym is)
@@ -59,7 +63,7 @@ module _ (child : Reader Expr) (ih : Meets columnsOf child) where
 
   optional-met : (there : Bool) → Meets optionalColumns (readOptional there child)
   unfolding readOptional columnsOf
-  optional-met false bytes cols r p = subst (Met optionalColumns cols) (ok-injective p) refl
+  optional-met false bytes cols r p = subst (Met optionalColumns cols) (ok-injective p) (nothing-added cols)
   optional-met true bytes cols r p =
       let (e, got, is) = optional-inv child bytes cols r p in
       subst (Met optionalColumns cols) (sym is) (ih bytes cols e got)
@@ -124,12 +128,21 @@ field-met (suc depth) cases bytes cols r p =
     let is : d ≡ depth = omega arith in
     kind-met (readField depth) (field-met depth) cases k f cols r (subst (λ (n : ℕ). readKind (readField n) cases k f cols ≡ ok r) is got)
 
--- the columns met while a rule is read are those of its tree
-pub tree-columns : (rule : List ℕ) (x : Read Expr) → readTree rule ≡ ok x → x .seen ≡ reverse (columnsOf (x .tree))
+-- the columns met while a rule is read are those of its tree, and none is unlike an earlier one
+pub tree-columns : (rule : List ℕ) (x : Read Expr) → readTree rule ≡ ok x → Added [] (columnsOf (x .tree)) (x .seen)
 tree-columns rule x p =
     let (some, most, root, end) = tree-inv rule x p in
     let (f, head, tag, got) = root-inv rule x root in
     field-met depthMost casesMost rule [] x got
+
+-- no column of an accepted rule is unlike an earlier one
+pub rule-alike : (rule : List ℕ) (e : Expr) → readRule rule ≡ ok e → alike (reverse (columnsOf e)) ≡ true
+unfolding alike
+rule-alike rule e p =
+    let (x, some, most, root, end, fine, is) = rule-inv rule e p in
+    let (f, head, tag, got) = root-inv rule x root in
+    let (met, like) = field-met depthMost casesMost rule [] x got in
+    ap (λ (t : Expr). alike (reverse (columnsOf t))) is ∙ ap alike (sym met) ∙ like refl
 
 -- an index is named by columns and by others behind them
 named-reversed : (a b : List Column) (i : ℕ) → named (reverseAux a b) i ≡ (named a i || named b i)
@@ -143,12 +156,12 @@ named-reversed (c ∷ a) b i = named-reversed a (c ∷ b) i ∙ go (named a i) (
     go false true = refl
     go false false = refl
 
--- the indexes met while a rule is read are its tree's projection
-pub tree-projection : (rule : List ℕ) (x : Read Expr) (seen : Seen) → readTree rule ≡ ok x → SeenIs (x .seen) seen → indexes (x .seen) ≡ projection (x .tree)
+-- the indexes met are the tree's projection
+pub met-projection : (e : Expr) (seen : Seen) → ColumnsMet seen e → indexes (reverse (columnsOf e)) ≡ projection e
 unfolding named
-tree-projection rule x seen p s =
-    let same : (i : ℕ) → named (x .seen) i ≡ named (columnsOf (x .tree)) i =
-    λ i. ap (λ (l : List Column). named l i) (tree-columns rule x p) ∙ named-reversed (columnsOf (x .tree)) [] i ∙ or-false (named (columnsOf (x .tree)) i) in
-    let bound = seen-bound (x .seen) seen s in
-    indexes-risen (x .seen) bound ∙ risen-same (named (x .seen)) (named (columnsOf (x .tree))) 256 (λ i h. same i)
-    ∙ sym (indexes-risen (columnsOf (x .tree)) (λ i h. bound i (same i ∙ h)))
+met-projection e seen s =
+    let met = reverse (columnsOf e) in
+    let same : (i : ℕ) → named met i ≡ named (columnsOf e) i = λ i. named-reversed (columnsOf e) [] i ∙ or-false (named (columnsOf e) i) in
+    let bound = seen-bound met seen s in
+    indexes-risen met bound ∙ risen-same (named met) (named (columnsOf e)) 256 (λ i h. same i)
+    ∙ sym (indexes-risen (columnsOf e) (λ i h. bound i (same i ∙ h)))

@@ -5,7 +5,7 @@ use mathlib.Core.List.{List, []}
 use Prim.Native.Nat.{ℕ, zero, suc, _^_, _<_, _≤_}
 use native.Mathlib.Omega.{arith}
 use lib.Dec.{eqb}
-use lib.ListN.{length, drop}
+use lib.ListN.{length, getD, drop}
 use borrow.Author.Tests.{eqb-true, lt-ltb, le-leb}
 use Rattle.layout.specs.Result.{ok}
 use Rattle.layout.specs.Bytes.{Bytes, byte, number}
@@ -65,9 +65,12 @@ abbrev pub Typed : {A : Type 0} → (A → Bool) → Reader A → Type 0
 Typed typed read = (bytes : List ℕ) (seen : List Column) (r : Read _) → Bytes bytes → read bytes seen ≡ ok r → Good typed r
 
 -- a column or a literal
-column-good : (f : Field) (seen : List Column) (r : Read Expr) → Bytes (f .rest) → readColumn f seen ≡ ok r → Good wellFormed r
+column-good : (f : Field) (seen : List Column) (r : Read Expr) → Bytes (f .content) → Bytes (f .rest) → readColumn f seen ≡ ok r → Good wellFormed r
 unfolding wellFormed
-column-good f seen r h p = let i = column-inv f seen r p in subst (Good wellFormed) (sym (i .3)) (refl, h)
+column-good f seen r b h p =
+    let (c, content, like, is) = column-inv f seen r p in
+    let small : c .index < 256 = subst (λ (l : List ℕ). getD l 0 0 < 256) content (b 0) in
+    subst (Good wellFormed) (sym is) (lt-ltb (c .index) 256 small, h)
 
 literal-good : (f : Field) (seen : List Column) (r : Read Expr) → Bytes (f .content) → Bytes (f .rest) → readLiteral f seen ≡ ok r → Good wellFormed r
 unfolding wellFormed
@@ -141,7 +144,7 @@ module _ (child : Reader Expr) (ih : Typed wellFormed child) (content : List ℕ
 kind-good : (child : ℕ → Reader Expr) → ((n : ℕ) → Typed wellFormed (child n)) → (cases : ℕ) (k : Kind) (f : Field) (seen : List Column) (r : Read Expr)
     → Bytes (f .content) → Bytes (f .rest) → readKind child cases k f seen ≡ ok r → Good wellFormed r
 unfolding readKind wellFormed
-kind-good child ih cases aColumn f seen r c h p = column-good f seen r h p
+kind-good child ih cases aColumn f seen r c h p = column-good f seen r c h p
 kind-good child ih cases aLiteral f seen r c h p = literal-good f seen r c h p
 kind-good child ih cases aNot f seen r c h p = unary-good (child cases) (ih cases) (f .content) c seen (f .rest) h r negation (λ e. both _ _) p
 kind-good child ih cases aNegative f seen r c h p = unary-good (child cases) (ih cases) (f .content) c seen (f .rest) h r negative (λ e. both _ _) p

@@ -1,10 +1,12 @@
 -- The public answers about a rule, from its reading: the refusal, or what was asked.
-use mathlib.Core.Bool.{Bool}
-use mathlib.Core.List.{List, [], _++_}
-use Prim.Native.Nat.{ℕ, _-_}
+use mathlib.Core.Bool.{Bool, false}
+use mathlib.Core.List.{List, [], _∷_, _++_, reverse}
+use Prim.Native.Nat.{ℕ, zero, suc, _-_}
 use lib.ListN.{length, replicate}
 use Rattle.layout.specs.Result.{Result, refused, ok}
 use Rattle.scalar.specs.declared.types.DataType.{DataType}
+use Rattle.scalar.specs.declared.types.DataType.the-variants.{Boolean}
+use Rattle.rule.specs.declared.read.RuleReading.{RuleReading}
 use Rattle.rule.specs.declared.strategy.Strategy.{Strategy}
 use Rattle.rule.specs.declared.answer.RuleAnswer.{RuleAnswer}
 use Rattle.rule.specs.declared.answer.StrategyAnswer.{StrategyAnswer}
@@ -13,7 +15,9 @@ use Rattle.rule.specs.declared.answer.ProjectionAnswer.{ProjectionAnswer
 use Rattle.rule.specs.declared.answer.RuleAnswer.the-variants as OfRule
 use Rattle.rule.specs.declared.answer.StrategyAnswer.the-variants as OfStrategy
 use Rattle.rule.specs.declared.answer.NullableAnswer.the-variants as OfNullable
-use Rattle.rule.specs.Tree.{Expr}
+use Rattle.rule.specs.Tree.{Column, Expr}
+use Rattle.rule.specs.Constant.{columnsOf}
+use Rattle.rule.specs.Seen.{markAt}
 use Rattle.rule.specs.Typing.{typeOf}
 use Rattle.rule.specs.Reading.{readRule}
 use Rattle.rule.specs.Strategy.{strategy}
@@ -30,9 +34,24 @@ abbrev pub strategyAnswer : Result Expr → StrategyAnswer
 strategyAnswer (refused n) = OfStrategy.Refused n
 strategyAnswer (ok e) = OfStrategy.By (strategy e)
 
+-- the nullability answer is a public answer
 abbrev pub nullableAnswer : Result Expr → NullableAnswer
 nullableAnswer (refused n) = OfNullable.Refused n
 nullableAnswer (ok e) = OfNullable.Nullable (nullable e)
+
+-- the marks of so many indexes from one on
+unfoldable pub marksFrom : List Column → ℕ → ℕ → List ℕ
+marksFrom columns from zero = []
+marksFrom columns from (suc n) = markAt columns from ∷ marksFrom columns (suc from) n
+
+-- the marks of the columns that a rule names: for each of the 256 indexes that of the column met there, and 0 where none was
+abbrev pub marksOf : Expr → List ℕ
+marksOf e = marksFrom (reverse (columnsOf e)) 0 256
+
+-- what an evaluation takes from a rule: the result's type, the nullability answer and the columns named; a refusal is its number and nothing else
+abbrev pub ruleReading : Result Expr → RuleReading
+ruleReading (refused n) = record { refused = n; result = Boolean; nullable = false; seen = record { marks = replicate 256 0 } }
+ruleReading (ok e) = record { refused = 0; result = typeOf e; nullable = nullable e; seen = record { marks = marksOf e } }
 
 -- a list of columns in 256 bytes, those behind it zero
 abbrev pub columnsIn256 : List ℕ → List ℕ

@@ -14,14 +14,16 @@ use Rattle.scalar.specs.Entry.{Entry, isNull}
 use Rattle.scalar.specs.Cast.{listed}
 use Rattle.rule.specs.declared.types.TypeAnswer.{TypeAnswer}
 use Rattle.rule.specs.declared.types.TypeAnswer.the-variants.{Known, Unknown}
-use Rattle.rule.specs.declared.node.NodeRead.{NodeRead}
+use Rattle.rule.specs.declared.node.RuleFound.{RuleFound}
+use Rattle.rule.specs.declared.read.RuleReading.{RuleReading}
 use Rattle.rule.specs.declared.node.FieldFound.{FieldFound}
 use Rattle.rule.specs.declared.node.BranchesRead.{BranchesRead}
 use Rattle.rule.specs.Tree.{Column, Expr, column, negation, negative, isNotNull, cast, tryCast, equal, less, Branches, branch, Optional, isNullLiteral}
 use Rattle.rule.specs.Typing.{typeOf, resultType, whenType, branchesTyped, elseTyped}
 use Rattle.rule.specs.Constant.{columnsOf}
-use Rattle.rule.specs.Projection.{indexes, projection}
+use Rattle.rule.specs.Nullable.{nullable}
 use Rattle.rule.specs.Reading.{Read, Reader, unlikeEarlier, markedValue, readColumn, readLiteral, readUnary, readCast, readBinary, readBranches, readLimitedCase}
+use Rattle.rule.specs.declared.seen.Seen.{Seen}
 use Rattle.rule.specs.Seen.{SeenIs, Marked}
 
 -- the type of a number, or its refusal
@@ -74,17 +76,31 @@ pub record FieldRead (bytes : List ℕ) (r : FieldFound) (after : List ℕ) (x :
 abbrev pub ReadGives : List ℕ → Result (Read Expr) → FieldFound → List ℕ → Type 0
 ReadGives bytes definition r after = Gives (FieldRead bytes r after) definition (r .refused)
 
--- the tree of a rule
-abbrev pub TreeGives : List ℕ → Result (Read Expr) → NodeRead → Type 0
-TreeGives bytes definition r = ReadGives bytes definition (record { refused = r .refused; result = r .result; null = r .null; next = r .next }) (r .seen .marks)
+-- the tree of a rule: its type, and the columns met
+pub record TreeRead (r : RuleFound) (x : Read Expr) : Type 0 where
+  pub type-is : r .result ≡ typeOf (x .tree)
+  pub seen-are : SeenIs (x .seen) (r .seen)
 
--- a rule: its type, and that the columns met are those that it names, the last first
-pub record RuleRead (r : NodeRead) (e : Expr) : Type 0 where
+abbrev pub TreeGives : Result (Read Expr) → RuleFound → Type 0
+TreeGives definition r = Gives (TreeRead r) definition (r .refused)
+
+-- the columns met are those that a rule names, the last first
+abbrev pub ColumnsMet : Seen → Expr → Type 0
+ColumnsMet seen e = SeenIs (reverse (columnsOf e)) seen
+
+-- a rule: its type, and the columns met
+pub record RuleRead (r : RuleFound) (e : Expr) : Type 0 where
   pub type-is : r .result ≡ typeOf e
-  pub columns : List Column
-  pub columns-are : indexes columns ≡ projection e
-  pub columns-met : columns ≡ reverse (columnsOf e)
-  pub seen-are : SeenIs columns (r .seen)
+  pub seen-are : ColumnsMet (r .seen) e
+
+abbrev pub RuleGives : Result Expr → RuleFound → Type 0
+RuleGives definition r = Gives (RuleRead r) definition (r .refused)
+
+-- a rule's reading for an evaluation is of its tree: the result's type, the nullability answer, the columns met
+pub record ReadingIs (r : RuleReading) (e : Expr) : Type 0 where
+  pub type-is : r .result ≡ typeOf e
+  pub nullable-is : r .nullable ≡ nullable e
+  pub seen-are : ColumnsMet (r .seen) e
 
 -- a part that may be absent: a WHEN's type if it is a base, and whether it fits as an ELSE
 pub record OptionalRead (bytes : List ℕ) (r : FieldFound) (after : List ℕ) (x : Read Optional) : Type 0 where

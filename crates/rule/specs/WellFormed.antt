@@ -1,4 +1,4 @@
--- What reading tests at every node of a tree: its types, its literals, its counts (01, Bytes of a rule).
+-- What reading tests at every node of a tree: its types, its literals, its columns, its counts (01, Bytes of a rule).
 use mathlib.Core.Bool.{Bool, true, false, _&&_}
 use lib.Dec.{leb, ltb}
 use Rattle.scalar.specs.Entry.{ofType}
@@ -9,10 +9,10 @@ use Rattle.rule.specs.Typing.{nodeTyped}
 abbrev pub countFits : Branches → Bool
 countFits bs = ltb 0 (branchCount bs) && leb (branchCount bs) 32
 
--- the types of every node's children fit, every literal is of its type, every CASE has 1 to 32 branches
+-- a column's index is a byte, the types of every node's children fit, every literal is of its type, every CASE has 1 to 32 branches
 unfoldable mutual
   pub wellFormed : Expr → Bool
-  wellFormed (column c) = true
+  wellFormed (column c) = ltb (c .index) 256
   wellFormed (literal t v) = ofType t v
   wellFormed (negation e) = nodeTyped (negation e) && wellFormed e
   wellFormed (negative e) = nodeTyped (negative e) && wellFormed e

@@ -1,6 +1,6 @@
 // The public answers about a rule: each is a refusal number or what was asked.
-use crate::nullable::nullable_of;
 use crate::projection::projected;
+use crate::read::read_accepted;
 use crate::read::read_rule;
 use crate::strategy::Strategy;
 use crate::strategy::strategy_at;
@@ -38,7 +38,7 @@ pub struct ProjectionAnswer {
 pub fn read(rule: &[u8]) -> RuleAnswer
     ensures { λ r. ⌜ r ≡ ruleAnswer (readRule (now (rule .entry))) ⌝ }
 {
-    let r = read_rule(rule);
+    let r = read_accepted(rule);
     if r.refused != 0 {
         return RuleAnswer::Refused(r.refused);
     }
@@ -50,7 +50,7 @@ pub fn read(rule: &[u8]) -> RuleAnswer
 pub fn strategy(rule: &[u8]) -> StrategyAnswer
     ensures { λ r. ⌜ r ≡ strategyAnswer (readRule (now (rule .entry))) ⌝ }
 {
-    let r = read_rule(rule);
+    let r = read_accepted(rule);
     if r.refused != 0 {
         return StrategyAnswer::Refused(r.refused);
     }
@@ -65,14 +65,14 @@ pub fn nullable(rule: &[u8]) -> NullableAnswer
     if r.refused != 0 {
         return NullableAnswer::Refused(r.refused);
     }
-    NullableAnswer::Nullable(nullable_of(rule))
+    NullableAnswer::Nullable(r.nullable)
 }
 
 // The projection of a rule.
 pub fn projection(rule: &[u8]) -> ProjectionAnswer
     ensures { λ r. ⌜ r ≡ projectionAnswer (readRule (now (rule .entry))) ⌝ }
 {
-    let r = read_rule(rule);
+    let r = read_accepted(rule);
     if r.refused != 0 {
         return ProjectionAnswer {
             refused: r.refused,

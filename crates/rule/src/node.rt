@@ -14,14 +14,11 @@ ghost use Rattle.rule.specs.Tree.{Expr};
 ghost use Rattle.rule.specs.Typing.{typeOf, nodeTyped};
 ghost use Rattle.rule.specs.Steps.{refusal, accepted, closed, unbranched, branched, unaryOf};
 
-// What reading a rule found: the number with which it is refused (0: none), its type, whether it is a null literal, where it ends in
-// the slice, and the columns met.
-pub struct NodeRead {
-    pub refused: u8,
-    pub result: DataType,
-    pub null: bool,
-    pub next: usize,
-    pub seen: Seen,
+// What reading a rule found: the number with which it is refused (0: none), its type, and the columns met.
+pub(crate) struct RuleFound {
+    pub(crate) refused: u8,
+    pub(crate) result: DataType,
+    pub(crate) seen: Seen,
 }
 
 // What reading a field found, beside the marks, which are lent: the number with which it is refused (0: none), its type, whether it is a
@@ -43,14 +40,12 @@ pub(crate) struct BranchesRead {
 }
 
 // A rule that is refused.
-pub(crate) fn refuse_rule(n: u8) -> NodeRead
+pub(crate) fn refuse_rule(n: u8) -> RuleFound
     ensures { λ r. ⌜ r .refused ≡ n ⌝ }
 {
-    NodeRead {
+    RuleFound {
         refused: n,
         result: DataType::Boolean,
-        null: false,
-        next: 0,
         seen: Seen { marks: [0u8; 256] },
     }
 }

@@ -144,7 +144,7 @@ fn nullable_branch(
 }
 
 // Whether the answer of a rule is marked nullable.
-pub fn nullable_of(rule: &[u8]) -> bool
+pub(crate) fn nullable_of(rule: &[u8]) -> bool
     ensures { λ r. ⌜ RuleNullableGives (now (rule .entry)) r ⌝ }
 {
     nullable_node(rule, 0, rule.len(), 8)

@@ -4,7 +4,7 @@ use crate::leaf::read_column;
 use crate::leaf::read_literal;
 use crate::node::BranchesRead;
 use crate::node::FieldFound;
-use crate::node::NodeRead;
+use crate::node::RuleFound;
 use crate::node::accept;
 use crate::node::add_branch;
 use crate::node::case_fits;
@@ -15,6 +15,7 @@ use crate::node::refuse_branches;
 use crate::node::refuse_rule;
 use crate::node::unary_fits;
 use crate::node::unary_type;
+use crate::nullable::nullable_of;
 use crate::seen::Seen;
 use crate::types::TypeAnswer;
 use crate::types::is_listed;
@@ -25,9 +26,20 @@ use layout::field::Header;
 use layout::field::field_at;
 use layout::part::part_of;
 use scalar::types::DataType;
+ghost use mathlib.Core.Path.{_≡_};
 ghost use lib.ListN.{drop};
 ghost use Rattle.rule.specs.Reading.{readUnary, readCast, readBinary, readLimitedCase, readParts, readOptional, readBranches, readField, readRoot, readTree, readRule};
-ghost use Rattle.rule.specs.Steps.{Gives, RuleRead, TreeGives, RootGives, FieldGives, OptionalGives, BranchesGive, NodeGives, BranchGives, readThen, unaryOf, castOf, binaryOf, readTagged};
+ghost use Rattle.rule.specs.Answers.{ruleReading};
+ghost use Rattle.rule.specs.Steps.{TreeGives, RuleGives, RootGives, FieldGives, OptionalGives, BranchesGive, NodeGives, BranchGives, readThen, unaryOf, castOf, binaryOf, readTagged};
+
+// What an evaluation takes from a rule: the number with which it is refused (0: none), the result's type, the nullability answer, and the
+// columns met.
+pub struct RuleReading {
+    pub refused: u8,
+    pub result: DataType,
+    pub nullable: bool,
+    pub seen: Seen,
+}
 
 // The field at a place of a slice; so much depth and so many CASEs are left on the path.
 fn read_field(s: &[u8], at: usize, depth: usize, cases: usize, marks: &mut [u8; 256]) -> FieldFound
@@ -315,8 +327,8 @@ fn read_root(rule: &[u8], marks: &mut [u8; 256]) -> FieldFound
 }
 
 // A rule but for its constant casts: one CASE field of at most 4,096 bytes, with no byte after it.
-pub(crate) fn read_tree(rule: &[u8]) -> NodeRead
-    ensures { λ r. ⌜ TreeGives (now (rule .entry)) (readTree (now (rule .entry))) r ⌝ }
+fn read_tree(rule: &[u8]) -> RuleFound
+    ensures { λ r. ⌜ TreeGives (readTree (now (rule .entry))) r ⌝ }
 {
     if rule.len() == 0 {
         return refuse_rule(1);
@@ -334,18 +346,16 @@ pub(crate) fn read_tree(rule: &[u8]) -> NodeRead
     }
     let result = r.result;
     let seen = Seen { marks };
-    NodeRead {
+    RuleFound {
         refused: 0,
         result,
-        null: r.null,
-        next: r.next,
         seen,
     }
 }
 
 // A rule: its tree, and that no constant cast fails.
-pub fn read_rule(rule: &[u8]) -> NodeRead
-    ensures { λ r. ⌜ Gives (RuleRead r) (readRule (now (rule .entry))) (r .refused) ⌝ }
+pub(crate) fn read_accepted(rule: &[u8]) -> RuleFound
+    ensures { λ r. ⌜ RuleGives (readRule (now (rule .entry))) r ⌝ }
 {
     let r = read_tree(rule);
     if r.refused != 0 {
@@ -355,4 +365,27 @@ pub fn read_rule(rule: &[u8]) -> NodeRead
         return refuse_rule(8);
     }
     r
+}
+
+// Reads a rule for an evaluation.
+pub fn read_rule(rule: &[u8]) -> RuleReading
+    ensures { λ r. ⌜ r ≡ ruleReading (readRule (now (rule .entry))) ⌝ }
+{
+    let r = read_accepted(rule);
+    if r.refused != 0 {
+        return RuleReading {
+            refused: r.refused,
+            result: DataType::Boolean,
+            nullable: false,
+            seen: Seen { marks: [0u8; 256] },
+        };
+    }
+    let result = r.result;
+    let seen = r.seen;
+    RuleReading {
+        refused: 0,
+        result,
+        nullable: nullable_of(rule),
+        seen,
+    }
 }

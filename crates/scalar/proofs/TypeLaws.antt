@@ -1,10 +1,12 @@
 -- Types and marks by their numbers. Each operation keeps types: what it gives is null or a value of its type, within its bits. Assumes nothing.
 use mathlib.Core.Bool.{Bool, true, false, false≢true, cond}
 use mathlib.Core.Path.{_≡_, refl, sym, ap, subst}
+use mathlib.Core.List.{List}
 use Prim.Native.Nat.{ℕ, zero, suc, _≤_}
 use borrow.Author.Tests.{ltb-true, eqb-true, lt-ltb}
 use Rattle.layout.specs.Result.{refused, ok}
-use Rattle.layout.proofs.ResultLaws.{refused-not-ok, ok-injective, AtMost, ok-most, refused-most}
+use Rattle.layout.specs.Refusals.{among}
+use Rattle.layout.proofs.ResultLaws.{refused-not-ok, ok-injective, RefusedAmong, ok-among, refused-among}
 use Rattle.scalar.specs.declared.types.DataType.{DataType}
 use Rattle.scalar.specs.declared.types.TypeAnswer.the-variants.{Known, Unknown}
 use Rattle.scalar.specs.declared.types.DataType.the-variants.{Boolean, Int32, Int64, Float64, Utf8}
@@ -40,22 +42,22 @@ markNumbered-ok n (suc zero) b e = ap markNumber (ok-injective e)
 markNumbered-ok n (suc (suc k)) b e = absurd (refused-not-ok n b e)
 
 -- a number without a type is refused with the reader's number
-pub typeNumbered-most : (k n a : ℕ) → n ≤ k → AtMost k (typeNumbered n a)
+pub typeNumbered-among : (k : List ℕ) (n a : ℕ) → among k n ≡ true → RefusedAmong k (typeNumbered n a)
 unfolding typeNumbered
-typeNumbered-most k n zero h = refused-most k n h
-typeNumbered-most k n (suc zero) h = ok-most k Boolean
-typeNumbered-most k n (suc (suc zero)) h = ok-most k Int32
-typeNumbered-most k n (suc (suc (suc zero))) h = ok-most k Int64
-typeNumbered-most k n (suc (suc (suc (suc zero)))) h = ok-most k Float64
-typeNumbered-most k n (suc (suc (suc (suc (suc zero))))) h = ok-most k Utf8
-typeNumbered-most k n (suc (suc (suc (suc (suc (suc j)))))) h = refused-most k n h
+typeNumbered-among k n zero h = refused-among k n h
+typeNumbered-among k n (suc zero) h = ok-among k Boolean
+typeNumbered-among k n (suc (suc zero)) h = ok-among k Int32
+typeNumbered-among k n (suc (suc (suc zero))) h = ok-among k Int64
+typeNumbered-among k n (suc (suc (suc (suc zero)))) h = ok-among k Float64
+typeNumbered-among k n (suc (suc (suc (suc (suc zero))))) h = ok-among k Utf8
+typeNumbered-among k n (suc (suc (suc (suc (suc (suc j)))))) h = refused-among k n h
 
 -- and so is a mark that is neither 0 nor 1
-pub markNumbered-most : (k n a : ℕ) → n ≤ k → AtMost k (markNumbered n a)
+pub markNumbered-among : (k : List ℕ) (n a : ℕ) → among k n ≡ true → RefusedAmong k (markNumbered n a)
 unfolding markNumbered
-markNumbered-most k n zero h = ok-most k false
-markNumbered-most k n (suc zero) h = ok-most k true
-markNumbered-most k n (suc (suc j)) h = refused-most k n h
+markNumbered-among k n zero h = ok-among k false
+markNumbered-among k n (suc zero) h = ok-among k true
+markNumbered-among k n (suc (suc j)) h = refused-among k n h
 
 -- a type is told by its number
 type-numbered : (a : DataType) → typeNumbered 0 (typeNumber a) ≡ ok a

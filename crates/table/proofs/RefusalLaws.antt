@@ -1,105 +1,108 @@
--- A table is refused with one of the numbers up to 12. Assumes nothing.
-use mathlib.Core.Path.{_≡_}
+-- A table is refused with one of 9 to 12. Assumes nothing.
+use mathlib.Core.Path.{_≡_, refl}
 use mathlib.Core.Bool.{_&&_, _||_}
 use mathlib.Core.List.{List, [], _∷_}
 use Prim.Native.Nat.{ℕ, zero, suc, _*_, _≤_}
-use native.Mathlib.Omega.{arith}
 use lib.Dec.{eqb, leb, ltb}
 use lib.ListN.{length}
 use Rattle.layout.specs.Result.{refused}
+use Rattle.layout.specs.Refusals.{tableRefusals, among}
 use Rattle.layout.specs.Bytes.{byte, number, bitmapLength}
 use Rattle.layout.specs.Field.{Field}
-use Rattle.layout.proofs.ResultLaws.{AtMost, ok-most, refused-most, bind-most, require-most-then}
-use Rattle.layout.proofs.FieldLaws.{header-most}
+use Rattle.layout.proofs.ResultLaws.{RefusedAmong, ok-among, refused-among, bind-among, require-among-then, among-between}
+use Rattle.layout.proofs.FieldLaws.{header-among}
 use Rattle.scalar.specs.declared.types.DataType.{DataType}
 use Rattle.scalar.specs.declared.types.DataType.the-variants.{Boolean, Int32, Int64, Float64, Utf8}
-use Rattle.scalar.proofs.TypeLaws.{typeNumbered-most, markNumbered-most}
+use Rattle.scalar.proofs.TypeLaws.{typeNumbered-among, markNumbered-among}
 use Rattle.table.specs.Column.{offsetAt}
 use Rattle.table.specs.Reading.{tagged, taggedPair, readValidity, neverFalls, readTextOffsets, readOffsets, valuesLength, readValues, readBody, readParts, noNull, readColumn, readColumns, bytesMost, rowsMost, columnsMost, readTable}
 
--- the field of a tag is refused with at most 12
-tagged-most : (tag : ℕ) (bytes : List ℕ) → AtMost 12 (tagged tag bytes)
+-- the field of a tag is refused with one of the numbers
+tagged-among : (tag : ℕ) (bytes : List ℕ) → RefusedAmong tableRefusals (tagged tag bytes)
 unfolding tagged
-tagged-most tag bytes =
-    bind-most 12 _ _ (header-most 12 9 bytes (omega arith)) (λ f. require-most-then 12 (eqb (f .tag) tag) 9 _ (omega arith) (λ _. ok-most 12 f))
+tagged-among tag bytes =
+    bind-among tableRefusals _ _ (header-among tableRefusals 9 bytes refl) (λ f. require-among-then tableRefusals (eqb (f .tag) tag) 9 _ refl (λ _. ok-among tableRefusals f))
 
 -- and so is one of two bytes
-taggedPair-most : (tag : ℕ) (bytes : List ℕ) → AtMost 12 (taggedPair tag bytes)
+taggedPair-among : (tag : ℕ) (bytes : List ℕ) → RefusedAmong tableRefusals (taggedPair tag bytes)
 unfolding taggedPair
-taggedPair-most tag bytes =
-    bind-most 12 _ _ (tagged-most tag bytes) (λ f. require-most-then 12 (eqb (length (f .content)) 2) 9 _ (omega arith) (λ _. ok-most 12 f))
+taggedPair-among tag bytes =
+    bind-among tableRefusals _ _ (tagged-among tag bytes) (λ f. require-among-then tableRefusals (eqb (length (f .content)) 2) 9 _ refl (λ _. ok-among tableRefusals f))
 
--- a validity is refused with at most 12
-validity-most : (rows : ℕ) (bytes : List ℕ) → AtMost 12 (readValidity rows bytes)
+-- a validity is refused with one of the numbers
+validity-among : (rows : ℕ) (bytes : List ℕ) → RefusedAmong tableRefusals (readValidity rows bytes)
 unfolding readValidity
-validity-most rows bytes =
-    bind-most 12 _ _ (tagged-most 3 bytes) (λ f.
-    require-most-then 12 (eqb (length (f .content)) 0 || eqb (length (f .content)) (bitmapLength rows)) 11 _ (omega arith) (λ _. ok-most 12 _))
+validity-among rows bytes =
+    bind-among tableRefusals _ _ (tagged-among 3 bytes) (λ f.
+    require-among-then tableRefusals (eqb (length (f .content)) 0 || eqb (length (f .content)) (bitmapLength rows)) 11 _ refl (λ _. ok-among tableRefusals _))
 
--- a text column's offsets are refused with at most 12
-textOffsets-most : (rows : ℕ) (bytes : List ℕ) → AtMost 12 (readTextOffsets rows bytes)
+-- a text column's offsets are refused with one of the numbers
+textOffsets-among : (rows : ℕ) (bytes : List ℕ) → RefusedAmong tableRefusals (readTextOffsets rows bytes)
 unfolding readTextOffsets
-textOffsets-most rows bytes =
-    bind-most 12 _ _ (tagged-most 5 bytes) (λ f.
-    require-most-then 12 (eqb (length (f .content)) (4 * suc rows)) 11 _ (omega arith) (λ _.
-    require-most-then 12 (eqb (offsetAt (f .content) 0) 0) 11 _ (omega arith) (λ _.
-    require-most-then 12 (neverFalls rows (f .content)) 11 _ (omega arith) (λ _. ok-most 12 _))))
+textOffsets-among rows bytes =
+    bind-among tableRefusals _ _ (tagged-among 5 bytes) (λ f.
+    require-among-then tableRefusals (eqb (length (f .content)) (4 * suc rows)) 11 _ refl (λ _.
+    require-among-then tableRefusals (eqb (offsetAt (f .content) 0) 0) 11 _ refl (λ _.
+    require-among-then tableRefusals (neverFalls rows (f .content)) 11 _ refl (λ _. ok-among tableRefusals _))))
 
--- a column's offsets are refused with at most 12
-offsets-most : (t : DataType) (rows : ℕ) (bytes : List ℕ) → AtMost 12 (readOffsets t rows bytes)
-offsets-most Boolean rows bytes = ok-most 12 _
-offsets-most Int32 rows bytes = ok-most 12 _
-offsets-most Int64 rows bytes = ok-most 12 _
-offsets-most Float64 rows bytes = ok-most 12 _
-offsets-most Utf8 rows bytes = textOffsets-most rows bytes
+-- a column's offsets are refused with one of the numbers
+offsets-among : (t : DataType) (rows : ℕ) (bytes : List ℕ) → RefusedAmong tableRefusals (readOffsets t rows bytes)
+offsets-among Boolean rows bytes = ok-among tableRefusals _
+offsets-among Int32 rows bytes = ok-among tableRefusals _
+offsets-among Int64 rows bytes = ok-among tableRefusals _
+offsets-among Float64 rows bytes = ok-among tableRefusals _
+offsets-among Utf8 rows bytes = textOffsets-among rows bytes
 
--- a column's values are refused with at most 12
-values-most : (t : DataType) (rows : ℕ) (offsets bytes : List ℕ) → AtMost 12 (readValues t rows offsets bytes)
+-- a column's values are refused with one of the numbers
+values-among : (t : DataType) (rows : ℕ) (offsets bytes : List ℕ) → RefusedAmong tableRefusals (readValues t rows offsets bytes)
 unfolding readValues
-values-most t rows offsets bytes =
-    bind-most 12 _ _ (tagged-most 4 bytes) (λ f.
-    require-most-then 12 (eqb (length (f .content)) (valuesLength t rows offsets)) 11 _ (omega arith) (λ _. ok-most 12 _))
+values-among t rows offsets bytes =
+    bind-among tableRefusals _ _ (tagged-among 4 bytes) (λ f.
+    require-among-then tableRefusals (eqb (length (f .content)) (valuesLength t rows offsets)) 11 _ refl (λ _. ok-among tableRefusals _))
 
--- the parts of a column behind its tag 2 are refused with at most 12
-body-most : (rows : ℕ) (f : Field) → AtMost 12 (readBody rows f)
+-- the parts of a column behind its tag 2 are refused with one of the numbers
+body-among : (rows : ℕ) (f : Field) → RefusedAmong tableRefusals (readBody rows f)
 unfolding readBody
-body-most rows f =
-    bind-most 12 _ _ (typeNumbered-most 12 11 (byte (f .content) 0) (omega arith)) (λ t.
-    bind-most 12 _ _ (markNumbered-most 12 11 (byte (f .content) 1) (omega arith)) (λ n.
-    bind-most 12 _ _ (validity-most rows (f .rest)) (λ v.
-    bind-most 12 _ _ (offsets-most t rows (v .rest)) (λ o.
-    bind-most 12 _ _ (values-most t rows (o .part) (o .rest)) (λ w. ok-most 12 _)))))
+body-among rows f =
+    bind-among tableRefusals _ _ (typeNumbered-among tableRefusals 11 (byte (f .content) 0) refl) (λ t.
+    bind-among tableRefusals _ _ (markNumbered-among tableRefusals 11 (byte (f .content) 1) refl) (λ n.
+    bind-among tableRefusals _ _ (validity-among rows (f .rest)) (λ v.
+    bind-among tableRefusals _ _ (offsets-among t rows (v .rest)) (λ o.
+    bind-among tableRefusals _ _ (values-among t rows (o .part) (o .rest)) (λ w. ok-among tableRefusals _)))))
 
--- a column is refused with at most 12, whatever its nulls
-parts-most : (rows : ℕ) (bytes : List ℕ) → AtMost 12 (readParts rows bytes)
+-- a column is refused with one of the numbers, whatever its nulls
+parts-among : (rows : ℕ) (bytes : List ℕ) → RefusedAmong tableRefusals (readParts rows bytes)
 unfolding readParts
-parts-most rows bytes = bind-most 12 _ _ (taggedPair-most 2 bytes) (λ f. body-most rows f)
+parts-among rows bytes = bind-among tableRefusals _ _ (taggedPair-among 2 bytes) (λ f. body-among rows f)
 
 -- and so it is with its nulls
-column-most : (rows : ℕ) (bytes : List ℕ) → AtMost 12 (readColumn rows bytes)
+column-among : (rows : ℕ) (bytes : List ℕ) → RefusedAmong tableRefusals (readColumn rows bytes)
 unfolding readColumn
-column-most rows bytes =
-    bind-most 12 _ _ (parts-most rows bytes) (λ c.
-    require-most-then 12 (c .part .nullable || noNull (c .part .validity) rows) 12 _ (omega arith) (λ _. ok-most 12 c))
+column-among rows bytes =
+    bind-among tableRefusals _ _ (parts-among rows bytes) (λ c.
+    require-among-then tableRefusals (c .part .nullable || noNull (c .part .validity) rows) 12 _ refl (λ _. ok-among tableRefusals c))
 
--- the columns are refused with at most 12
-columns-most : (rows left : ℕ) (bytes : List ℕ) → AtMost 12 (readColumns rows left bytes)
+-- the columns are refused with one of the numbers
+columns-among : (rows left : ℕ) (bytes : List ℕ) → RefusedAmong tableRefusals (readColumns rows left bytes)
 unfolding readColumns
-columns-most rows zero [] = ok-most 12 []
-columns-most rows zero (b ∷ bytes) = bind-most 12 _ _ (taggedPair-most 2 (b ∷ bytes)) (λ _. refused-most 12 10 (omega arith))
-columns-most rows (suc left) [] = ok-most 12 []
-columns-most rows (suc left) (b ∷ bytes) =
-    bind-most 12 _ _ (column-most rows (b ∷ bytes)) (λ c. bind-most 12 _ _ (columns-most rows left (c .rest)) (λ cs. ok-most 12 _))
+columns-among rows zero [] = ok-among tableRefusals []
+columns-among rows zero (b ∷ bytes) = bind-among tableRefusals _ _ (taggedPair-among 2 (b ∷ bytes)) (λ _. refused-among tableRefusals 10 refl)
+columns-among rows (suc left) [] = ok-among tableRefusals []
+columns-among rows (suc left) (b ∷ bytes) =
+    bind-among tableRefusals _ _ (column-among rows (b ∷ bytes)) (λ c. bind-among tableRefusals _ _ (columns-among rows left (c .rest)) (λ cs. ok-among tableRefusals _))
 
--- a table is refused with at most 12
-table-most : (bytes : List ℕ) → AtMost 12 (readTable bytes)
+-- a table is refused with one of the numbers
+table-among : (bytes : List ℕ) → RefusedAmong tableRefusals (readTable bytes)
 unfolding readTable
-table-most bytes =
-    require-most-then 12 (ltb 0 (length bytes) && leb (length bytes) bytesMost) 9 _ (omega arith) (λ _.
-    bind-most 12 _ _ (taggedPair-most 1 bytes) (λ f.
-    require-most-then 12 (leb (number (f .content)) rowsMost) 10 _ (omega arith) (λ _.
-    bind-most 12 _ _ (columns-most (number (f .content)) columnsMost (f .rest)) (λ cs. ok-most 12 _))))
+table-among bytes =
+    require-among-then tableRefusals (ltb 0 (length bytes) && leb (length bytes) bytesMost) 9 _ refl (λ _.
+    bind-among tableRefusals _ _ (taggedPair-among 1 bytes) (λ f.
+    require-among-then tableRefusals (leb (number (f .content)) rowsMost) 10 _ refl (λ _.
+    bind-among tableRefusals _ _ (columns-among (number (f .content)) columnsMost (f .rest)) (λ cs. ok-among tableRefusals _))))
 
--- the number that a table is refused with is at most 12
-pub table-refusals : (bytes : List ℕ) (n : ℕ) → readTable bytes ≡ refused n → n ≤ 12
-table-refusals bytes n e = table-most bytes .most n e
+-- the number that a table is refused with is one of 9 to 12
+pub table-refusals : (bytes : List ℕ) (n : ℕ) → readTable bytes ≡ refused n → among tableRefusals n ≡ true
+table-refusals bytes n e = table-among bytes .one n e
+
+pub table-bounds : (bytes : List ℕ) (n : ℕ) → readTable bytes ≡ refused n → (9 ≤ n) × (n ≤ 12)
+table-bounds bytes n e = among-between 9 12 tableRefusals n refl (table-refusals bytes n e)

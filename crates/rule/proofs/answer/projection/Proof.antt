@@ -12,6 +12,6 @@ projection-spec =
     tie.close
     (tie.spec
     (λ c κs. search needs)
-    (λ c. ap projectionAnswer (sym (refused-is (now (c .before .before .before .before .args .rule)) (c .before .before .read-rule .result) (c .before .before .read-rule .ensures) (c .if1 .taken))))
+    (λ c. ap projectionAnswer (sym (refused-is (now (c .before .before .before .before .args .rule)) (c .before .before .read-accepted .result) (c .before .before .read-accepted .ensures) (c .if1 .taken))))
     (λ c κs. search needs)
-    (λ c. projection-answer (now (c .before .before .before .before .before .before .before .args .rule)) (c .before .before .before .before .before .read-rule .result) (c .before .before .before .before .before .read-rule .ensures) (c .before .before .before .if1 .left) (c .before .projected .result .count) (c .before .projected .result .columns) (c .before .projected .ensures)))
+    (λ c. projection-answer (now (c .before .before .before .before .before .before .before .args .rule)) (c .before .before .before .before .before .read-accepted .result) (c .before .before .before .before .before .read-accepted .ensures) (c .before .before .before .if1 .left) (c .before .projected .result .count) (c .before .projected .result .columns) (c .before .projected .ensures)))

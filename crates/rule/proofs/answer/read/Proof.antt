@@ -12,5 +12,5 @@ read-spec =
     tie.close
     (tie.spec
     (λ c κs. search needs)
-    (λ c. ap ruleAnswer (sym (refused-is (now (c .before .before .before .before .args .rule)) (c .before .before .read-rule .result) (c .before .before .read-rule .ensures) (c .if1 .taken))))
-    (λ c. type-answer (now (c .before .before .before .before .args .rule)) (c .before .before .read-rule .result) (c .before .before .read-rule .ensures) (c .if1 .left)))
+    (λ c. ap ruleAnswer (sym (refused-is (now (c .before .before .before .before .args .rule)) (c .before .before .read-accepted .result) (c .before .before .read-accepted .ensures) (c .if1 .taken))))
+    (λ c. type-answer (now (c .before .before .before .before .args .rule)) (c .before .before .read-accepted .result) (c .before .before .read-accepted .ensures) (c .if1 .left)))

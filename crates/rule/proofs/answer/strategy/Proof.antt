@@ -13,6 +13,6 @@ strategy-spec =
     tie.close
     (tie.spec
     (λ c κs. search needs)
-    (λ c. ap strategyAnswer (sym (refused-is (now (c .before .before .before .before .args .rule)) (c .before .before .read-rule .result) (c .before .before .read-rule .ensures) (c .if1 .taken))))
+    (λ c. ap strategyAnswer (sym (refused-is (now (c .before .before .before .before .args .rule)) (c .before .before .read-accepted .result) (c .before .before .read-accepted .ensures) (c .if1 .taken))))
     (λ c κs. search needs)
-    (λ c. strategy-answer (now (c .before .before .before .before .before .args .rule)) (c .before .before .before .read-rule .result) (c .before .before .before .read-rule .ensures) (c .before .if1 .left) (λ i. omega (arith, c .before .before .before .before .shared-slice-known .given i)) (c .strategy-at .result) (c .strategy-at .ensures)))
+    (λ c. strategy-answer (now (c .before .before .before .before .before .args .rule)) (c .before .before .before .read-accepted .result) (c .before .before .before .read-accepted .ensures) (c .before .if1 .left) (λ i. omega (arith, c .before .before .before .before .shared-slice-known .given i)) (c .strategy-at .result) (c .strategy-at .ensures)))

@@ -1,7 +1,7 @@
--- A rule is its tree, and none of its constant casts fails.
+-- What an evaluation takes from a rule is what reading it found, and its nullability answer.
 use native.Mathlib.Omega.{arith}
 use denote.Ref.{now}
-use Rattle.rule.proofs.AnswerLaws.{rule-unread, rule-fails, rule-read}
+use Rattle.rule.proofs.AnswerLaws.{reading-refused, reading-accepted}
 use borrow.Author.Needs.{needs}
 use Rattle.rule.proofs.read.read_rule.Statement.{statement}
 use Rattle.rule.proofs.read.read_rule.Tie as tie
@@ -11,8 +11,6 @@ read-rule-spec =
     tie.close
     (tie.spec
     (λ c κs. search needs)
-    (λ c. rule-unread (now (c .before .before .before .before .args .rule)) (c .before .before .read-tree .result) (c .before .before .read-tree .ensures) (c .if1 .taken))
+    (λ c. reading-refused (now (c .before .before .before .before .args .rule)) (c .before .before .read-accepted .result) (c .before .before .read-accepted .ensures) (c .if1 .taken))
     (λ c κs. search needs)
-    (λ c κs. search needs)
-    (λ c. rule-fails (now (c .before .before .before .before .before .before .before .args .rule)) (c .before .before .before .before .before .read-tree .result) (c .before .before .before .before .before .read-tree .ensures) (c .before .before .before .if1 .left) (λ i. omega (arith, c .before .before .before .before .before .before .shared-slice-known .given i)) (c .before .before .constant-fails .result) (c .before .before .constant-fails .ensures) _ (c .before .if2 .taken) (c .refuse-rule .ensures))
-    (λ c. rule-read (now (c .before .before .before .before .before .before .args .rule)) (c .before .before .before .before .read-tree .result) (c .before .before .before .before .read-tree .ensures) (c .before .before .if1 .left) (λ i. omega (arith, c .before .before .before .before .before .shared-slice-known .given i)) (c .before .constant-fails .result) (c .before .constant-fails .ensures) (c .if2 .left)))
+    (λ c. reading-accepted (now (c .before .before .before .before .before .before .args .rule)) (c .before .before .before .before .read-accepted .result) (c .before .before .before .before .read-accepted .ensures) (c .before .before .if1 .left) (λ i. omega (arith, c .before .before .before .before .before .shared-slice-known .given i)) (c .nullable-of .result) (c .nullable-of .ensures)))
