@@ -13,20 +13,19 @@ use Rattle.scalar.specs.declared.types.DataType.{DataType}
 use Rattle.scalar.specs.declared.value.Value.{Value}
 use Rattle.scalar.specs.Entry.{Entry, Outcome, outcomeOfType}
 use Rattle.scalar.specs.Value.{meaning}
-use Rattle.rule.specs.declared.node.NodeRead.{NodeRead}
+use Rattle.rule.specs.declared.read.RuleReading.{RuleReading}
 use Rattle.rule.specs.Reading.{readRule}
-use Rattle.rule.specs.Steps.{RuleRead, Gives}
+use Rattle.rule.specs.Answers.{ruleReading}
 use Rattle.rule.specs.Nullable.{nullable}
-use Rattle.rule.specs.AnswerWalks.{RuleNullableGives}
 use Rattle.rule.specs.Node.{NodeAt}
 use Rattle.rule.proofs.ReadNode.{accepted-node}
-use Rattle.rule.proofs.StepLaws.{was-refused, was-read}
-use Rattle.rule.proofs.RefusalLaws.{rule-refusals}
+use Rattle.rule.proofs.AnswerLaws.{reading-was-refused, reading-was-read}
+use Rattle.rule.proofs.RefusalLaws.{rule-bounds}
 use Rattle.table.specs.declared.places.Table.{Table as Places}
 use Rattle.table.specs.declared.places.TableAnswer.{TableAnswer}
 use Rattle.table.specs.Places.{tableIn, readingIn, TableRead}
 use Rattle.table.proofs.TableInversions.{table-inv, table-few}
-use Rattle.table.proofs.RefusalLaws.{table-refusals}
+use Rattle.table.proofs.RefusalLaws.{table-bounds}
 use Rattle.writer.specs.declared.RunAnswer.{RunAnswer}
 use Rattle.writer.specs.declared.RunAnswer.the-variants.{Refused}
 use Rattle.writer.specs.Answer.{columnOf, columnBytes, textLength}
@@ -58,12 +57,12 @@ refused-early {rule} {table} {work} {output} {n} is few = record {
 }
 
 -- by the reading of the rule,
-pub rule-refused : {rule table work output : List ℕ} {a : NodeRead} → Gives (RuleRead a) (readRule rule) (a .refused) → (a .refused ≡ 0 → ⊥)
+pub rule-refused : {rule table work output : List ℕ} {a : RuleReading} → a ≡ ruleReading (readRule rule) → (a .refused ≡ 0 → ⊥)
     → Evaluated rule table work output (Refused (a .refused)) work output
 unfolding run
 rule-refused {rule} {table} {work} {output} {a} g not-0 =
-    let is = was-refused (readRule rule) g not-0 .0 in
-    refused-early (simp is) (let k = rule-refusals rule (a .refused) is in omega arith)
+    let is = reading-was-refused rule a g not-0 in
+    refused-early (simp is) (omega (arith, rule-bounds rule (a .refused) is .1))
 
 -- of the table,
 reading-refused : (bytes : List ℕ) (n : ℕ) (t : Places) → (n ≡ 0 → ⊥) → readingIn bytes n t ≡ refused n
@@ -74,19 +73,19 @@ reading-ok : (bytes : List ℕ) (n : ℕ) (t : Places) → n ≡ 0 → readingIn
 reading-ok bytes zero t h = refl
 reading-ok bytes (suc n) t h = absurd (omega arith)
 
-pub table-refused : {rule table work output : List ℕ} {a : NodeRead} {b : TableAnswer} → Gives (RuleRead a) (readRule rule) (a .refused) → a .refused ≡ 0 → TableRead table b
+pub table-refused : {rule table work output : List ℕ} {a : RuleReading} {b : TableAnswer} → Bytes rule → a ≡ ruleReading (readRule rule) → a .refused ≡ 0 → TableRead table b
     → (b .refused ≡ 0 → ⊥) → Evaluated rule table work output (Refused (b .refused)) work output
 unfolding run
-table-refused {rule} {table} {work} {output} {a} {b} g zero-a reads not-0 =
-    let (e, is, read) = was-read (readRule rule) g zero-a in
+table-refused {rule} {table} {work} {output} {a} {b} bytes g zero-a reads not-0 =
+    let (e, is, read) = reading-was-read rule a g bytes zero-a in
     let no = sym (reads .says) ∙ reading-refused table (b .refused) (b .table) not-0 in
-    refused-early (simp (is, no)) (let k = table-refusals table (b .refused) no in omega arith)
+    refused-early (simp (is, no)) (omega (arith, table-bounds table (b .refused) no .1))
 
 -- what the reading of both gives
-pub both-read : {rule table : List ℕ} {a : NodeRead} {b : TableAnswer} → Gives (RuleRead a) (readRule rule) (a .refused) → a .refused ≡ 0 → TableRead table b → b .refused ≡ 0
+pub both-read : {rule table : List ℕ} {a : RuleReading} {b : TableAnswer} → Bytes rule → a ≡ ruleReading (readRule rule) → a .refused ≡ 0 → TableRead table b → b .refused ≡ 0
     → ReadAsks rule a table (b .table)
-both-read {rule} {table} {a} {b} g zero-a reads zero-b =
-    let (e, is, read) = was-read (readRule rule) g zero-a in
+both-read {rule} {table} {a} {b} bytes g zero-a reads zero-b =
+    let (e, is, read) = reading-was-read rule a g bytes zero-a in
     record { tree = e; rule-reads = is; rule-is = read; table-reads = sym (reads .says) ∙ reading-ok table (b .refused) (b .table) zero-b }
 
 -- ---- the rows
@@ -187,13 +186,13 @@ unfolding workAfter
 late-work (refused n) work h = ap (λ (b : Bool). cond b work (zeros work)) (lt-leb n 14 (h n refl))
 late-work (ok l) work h = refl
 
-module _ {rule table : List ℕ} {a : NodeRead} {t : Places} (bytes : Bytes rule) (table-bytes : Bytes table) (asks : ReadAsks rule a table t) where
+module _ {rule table : List ℕ} {a : RuleReading} {t : Places} (bytes : Bytes rule) (table-bytes : Bytes table) (asks : ReadAsks rule a table t) where
   call-is : (work output : List ℕ) → callRun rule table work output ≡ runRead (asks .tree) (tableIn table t) (length work) (length output)
   call-is work output = run-is rule table (length work) (length output) (asks .tree) (tableIn table t) (asks .rule-reads) (asks .table-reads)
 
   module _ {seen-fits : Bool} (gives : FitsGives (a .seen) t seen-fits) where
     fits-is : seen-fits ≡ fits (asks .tree) (tableIn table t)
-    fits-is = gives .says table a (asks .tree) (asks .rule-is) refl
+    fits-is = gives .says table (asks .tree) (asks .rule-is .seen-are)
 
     pub not-fitting : {work output : List ℕ} → not seen-fits ≡ true → Evaluated rule table work output (Refused 13) work output
     unfolding runRead
@@ -222,13 +221,13 @@ module _ {rule table : List ℕ} {a : NodeRead} {t : Places} (bytes : Bytes rule
               ∙ run-sound rule table (asks .tree) (tableIn table t) i bytes table-bytes (asks .rule-reads) (asks .table-reads) fitting;
         }
 
-        module _ {null : Bool} (null-is : RuleNullableGives rule null) {output output′ : List ℕ} {r : RunAnswer}
-            (wrote : WriteGives rule table v (t .rows) (a .result) null output r output′) where
-          run-rows-are : (w : List ℕ) → 65536 ≤ length w → callRun rule table w output ≡ rowsRun rule table v (t .rows) (a .result) null (length output)
+        module _ {output output′ : List ℕ} {r : RunAnswer}
+            (wrote : WriteGives rule table v (t .rows) (a .result) (a .nullable) output r output′) where
+          run-rows-are : (w : List ℕ) → 65536 ≤ length w → callRun rule table w output ≡ rowsRun rule table v (t .rows) (a .result) (a .nullable) (length output)
           run-rows-are w room =
               call-is w output ∙ run-rows (asks .tree) (tableIn table t) (length w) (length output) fitting room
               ∙ ap₂ (λ (os : List Outcome) (d : DataType). entriesOf os >>= λ es. writtenAs d (nullable (asks .tree)) es (length output)) (sym rows-are) (sym (asks .rule-is .type-is))
-              ∙ ap (λ (b : Bool). rowsRun rule table v (t .rows) (a .result) b (length output)) (sym (null-is .is (asks .tree) node))
+              ∙ ap (λ (b : Bool). rowsRun rule table v (t .rows) (a .result) b (length output)) (sym (asks .rule-is .nullable-is))
 
           -- the rows were written, and the work buffer was cleared
           pub evaluated : {w w′ : List ℕ} {k : ℕ} → 65536 ≤ length w → k ≡ length w → w′ ≡ replicate k 0 → Evaluated rule table w output r w′ output′
@@ -237,7 +236,7 @@ module _ {rule table : List ℕ} {a : NodeRead} {t : Places} (bytes : Bytes rule
             work-is =
                 cleared ∙ ap (λ (k : ℕ). replicate k 0) long
                 ∙ sym (ap (λ (x : Result (List ℕ)). workAfter x w) (run-rows-are w room)
-                ∙ late-work (rowsRun rule table v (t .rows) (a .result) null (length output)) w (rows-run-late rule table v (t .rows) (a .result) null (length output)));
+                ∙ late-work (rowsRun rule table v (t .rows) (a .result) (a .nullable) (length output)) w (rows-run-late rule table v (t .rows) (a .result) (a .nullable) (length output)));
             output-is = wrote .output-is ∙ ap (λ (x : Result (List ℕ)). outputAfter x output) (sym (run-rows-are w room));
           }
 

@@ -1,7 +1,7 @@
 -- Whether a table fits a rule, by the marks of the rule's columns. Assumes nothing.
 use mathlib.Core.Path.{_≡_, refl, ap, ap₂, sym, _∙_}
 use mathlib.Core.Bool.{Bool, true, false, cond, not, _&&_, _||_, and-true, and-false}
-use mathlib.Core.List.{List, [], _∷_, map, reverseAux}
+use mathlib.Core.List.{List, [], _∷_, map, reverse, reverseAux}
 use mathlib.Core.Logic.{_⊎_, ⊎-elim}
 use mathlib.Core.Option.{Option, some, none}
 use Prim.Native.Nat.{ℕ, _+_, _*_, _%_, _<_, _≤_, min}
@@ -13,12 +13,11 @@ use borrow.Author.Tests.{eqb-true, eqb-false, eq-eqb, ne-eqb, le-leb, lt-leb, no
 use Rattle.layout.proofs.TestLaws.{both-hold}
 use Rattle.scalar.specs.Types.{typeNumber, markNumber}
 use Rattle.rule.specs.declared.seen.Seen.{Seen}
-use Rattle.rule.specs.declared.node.NodeRead.{NodeRead}
 use Rattle.rule.specs.Tree.{Column, Expr}
 use Rattle.rule.specs.Constant.{columnsOf}
 use Rattle.rule.specs.Reading.{unlikeEarlier}
 use Rattle.rule.specs.Seen.{markOf, markAt, alike}
-use Rattle.rule.specs.Steps.{RuleRead}
+use Rattle.rule.specs.Steps.{ColumnsMet}
 use Rattle.rule.proofs.SeenLaws.{type-bounds, mark-some, unlike-marks}
 use Rattle.table.specs.declared.places.ColumnPlace.{ColumnPlace}
 use Rattle.table.specs.declared.places.Table.{Table}
@@ -139,47 +138,46 @@ fitted-more {marks} {t} {i} g more now = record { upto = omega arith; fit = λ b
     go bytes j h n (no e) = g .fit bytes j (omega arith) n
 
 -- the columns that a rule names are those that were met
-rule-fits : (a : NodeRead) (e : Expr) (g : RuleRead a e) (table : List TableColumn) → columnsFit (g .columns) table ≡ columnsFit (columnsOf e) table
+rule-fits : (e : Expr) (table : List TableColumn) → columnsFit (reverse (columnsOf e)) table ≡ columnsFit (columnsOf e) table
 unfolding columnsFit
-rule-fits a e g table =
-    ap (λ (l : List Column). columnsFit l table) (g .columns-met) ∙ fit-reversed (columnsOf e) [] table ∙ and-true (columnsFit (columnsOf e) table)
+rule-fits e table = fit-reversed (columnsOf e) [] table ∙ and-true (columnsFit (columnsOf e) table)
 
 module _ (seen : Seen) (t : Table) where
   -- a mark that doesn't fit
   pub table-misfits : (i : ℕ) → (getD (seen .marks) i 0 ≡ 0 → ⊥) → ((bytes : List ℕ) → false ≡ markFits (getD (seen .marks) i 0) (getElem? (tableIn bytes t .columns) i))
       → FitsGives seen t false
   table-misfits i n f = record {
-    says = λ bytes a e g is.
-        let mark : markAt (g .columns) i ≡ getD (seen .marks) i 0 = sym (g .seen-are .marked i) ∙ ap (λ (s : Seen). getD (s .marks) i 0) is in
+    says = λ bytes e g.
+        let mark = sym (g .marked i) in
         let table = tableIn bytes t .columns in
-        sym (misfit table (g .columns) i (λ z. n (sym mark ∙ z)) (ap (λ (m : ℕ). markFits m (getElem? table i)) mark ∙ sym (f bytes))) ∙ rule-fits a e g table;
+        sym (misfit table (reverse (columnsOf e)) i (λ z. n (sym mark ∙ z)) (ap (λ (m : ℕ). markFits m (getElem? table i)) mark ∙ sym (f bytes))) ∙ rule-fits e table;
   }
 
   module _ {i : ℕ} (all : Fitted (seen .marks) t i) (last : 16 ≤ i) (none-beyond : (j : ℕ) → 16 ≤ j → j < 256 → getD (seen .marks) j 0 ≡ 0) where
-    module _ (bytes : List ℕ) (a : NodeRead) (e : Expr) (g : RuleRead a e) (is : a .seen ≡ seen) (j : ℕ) where
-      mark-is : markAt (g .columns) j ≡ getD (seen .marks) j 0
-      mark-is = sym (g .seen-are .marked j) ∙ ap (λ (s : Seen). getD (s .marks) j 0) is
+    module _ (bytes : List ℕ) (e : Expr) (g : ColumnsMet seen e) (j : ℕ) where
+      mark-is : markAt (reverse (columnsOf e)) j ≡ getD (seen .marks) j 0
+      mark-is = sym (g .marked j)
 
       -- behind the last mark there is none
       behind : 16 ≤ j → Dec (j < 256) → getD (seen .marks) j 0 ≡ 0
       behind h (yes b) = none-beyond j h b
       behind h (no b) =
-          let size : length (seen .marks) ≡ 256 = ap (λ (s : Seen). length (s .marks)) (sym is) ∙ g .seen-are .sized in
+          let size : length (seen .marks) ≡ 256 = g .sized in
           List·getD-eq-default (seen .marks) 0 (omega arith)
 
-      inside : (markAt (g .columns) j ≡ 0 → ⊥) → Dec (j < i) → j < i
+      inside : (markAt (reverse (columnsOf e)) j ≡ 0 → ⊥) → Dec (j < i) → j < i
       inside n (yes h) = h
       inside n (no h) = absurd (n (mark-is ∙ behind (omega arith) (decLt j 256)))
 
-      mark-fits : (markAt (g .columns) j ≡ 0 → ⊥) → markFits (markAt (g .columns) j) (getElem? (tableIn bytes t .columns) j) ≡ true
+      mark-fits : (markAt (reverse (columnsOf e)) j ≡ 0 → ⊥) → markFits (markAt (reverse (columnsOf e)) j) (getElem? (tableIn bytes t .columns) j) ≡ true
       mark-fits n =
           ap (λ (m : ℕ). markFits m (getElem? (tableIn bytes t .columns) j)) mark-is ∙ all .fit bytes j (inside n (decLt j i)) (λ z. n (mark-is ∙ z))
 
     -- all marks fit
     table-fits : FitsGives seen t true
     table-fits = record {
-      says = λ bytes a e g is.
-          sym (all-fit (tableIn bytes t .columns) (g .columns) (g .seen-are .all-alike) (mark-fits bytes a e g is)) ∙ rule-fits a e g (tableIn bytes t .columns);
+      says = λ bytes e g.
+          sym (all-fit (tableIn bytes t .columns) (reverse (columnsOf e)) (g .all-alike) (mark-fits bytes e g)) ∙ rule-fits e (tableIn bytes t .columns);
     }
 
 -- ---- one column

@@ -8,9 +8,8 @@ use lib.Dec.{eqb, leb}
 use lib.ListN.{getD}
 use Rattle.scalar.specs.Types.{typeNumber}
 use Rattle.rule.specs.declared.seen.Seen.{Seen}
-use Rattle.rule.specs.declared.node.NodeRead.{NodeRead}
 use Rattle.rule.specs.Tree.{Expr}
-use Rattle.rule.specs.Steps.{RuleRead}
+use Rattle.rule.specs.Steps.{ColumnsMet}
 use Rattle.table.specs.declared.places.Table.{Table}
 use Rattle.table.specs.Column.{TableColumn}
 use Rattle.table.specs.Places.{tableIn}
@@ -28,4 +27,4 @@ pub record Beyond (marks : List ℕ) (n most : ℕ) : Type 0 where
 
 -- whatever rule was read with these marks, and whatever bytes the places are in: the answer says whether the table fits the rule
 pub record FitsGives (seen : Seen) (t : Table) (r : Bool) : Type 0 where
-  pub says : (bytes : List ℕ) (a : NodeRead) (e : Expr) → RuleRead a e → a .seen ≡ seen → r ≡ fits e (tableIn bytes t)
+  pub says : (bytes : List ℕ) (e : Expr) → ColumnsMet seen e → r ≡ fits e (tableIn bytes t)

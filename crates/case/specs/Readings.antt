@@ -9,11 +9,11 @@ use Rattle.scalar.specs.declared.types.DataType.{DataType}
 use Rattle.scalar.specs.declared.value.Value.{Value}
 use Rattle.scalar.specs.Entry.{outcomeOfType}
 use Rattle.scalar.specs.Value.{meaning}
-use Rattle.rule.specs.declared.node.NodeRead.{NodeRead}
+use Rattle.rule.specs.declared.read.RuleReading.{RuleReading}
 use Rattle.rule.specs.Tree.{Expr}
 use Rattle.rule.specs.Row.{eval}
 use Rattle.rule.specs.Reading.{readRule}
-use Rattle.rule.specs.Steps.{RuleRead}
+use Rattle.rule.specs.Steps.{ReadingIs}
 use Rattle.rule.specs.Node.{NodeAt}
 use Rattle.table.specs.declared.places.Table.{Table}
 use Rattle.table.specs.Reading.{readTable}
@@ -23,10 +23,10 @@ use Rattle.writer.specs.Write.{WriteGives}
 use Rattle.case.specs.Evaluation.{rowIn}
 
 -- what was read of a rule's and of a table's bytes
-pub record ReadAsks (rule : List ℕ) (a : NodeRead) (table : List ℕ) (t : Table) : Type 0 where
+pub record ReadAsks (rule : List ℕ) (a : RuleReading) (table : List ℕ) (t : Table) : Type 0 where
   pub tree : Expr
   pub rule-reads : readRule rule ≡ ok tree
-  pub rule-is : RuleRead a tree
+  pub rule-is : ReadingIs a tree
   pub table-reads : readTable table ≡ ok (tableIn table t)
 
 -- each row of a table has the outcome of whatever rule the bytes are

@@ -3,8 +3,7 @@ use crate::case::expr;
 use crate::fits::fits_table;
 use crate::root::class_rows;
 use crate::rows::all_rows;
-use rule::node::NodeRead;
-use rule::nullable::nullable_of;
+use rule::read::RuleReading;
 use rule::read::read_rule;
 use scalar::types::DataType;
 use table::places::Table;
@@ -38,7 +37,7 @@ pub fn evaluate(rule: &[u8], table: &[u8], work: &mut [u8], output: &mut [u8]) -
 // The same of a rule and a table that were read: one reading serves many calls.
 pub(crate) fn evaluate_read(
     rule: &[u8],
-    r: NodeRead,
+    r: RuleReading,
     table: &[u8],
     t: Table,
     work: &mut [u8],
@@ -56,7 +55,7 @@ pub(crate) fn evaluate_read(
         return RunAnswer::Refused(14);
     }
     let result = r.result;
-    let answer = answer_rows(rule, table, t, result, nullable_of(rule), work, output);
+    let answer = answer_rows(rule, table, t, result, r.nullable, work, output);
     clear(work);
     answer
 }

@@ -11,6 +11,7 @@ pub mod CycleLaws
 pub mod ProjectionLaws
 pub mod ReadColumns
 pub mod MarksLaws
+pub mod ReadBack
 pub mod NodeLaws
 pub mod WalkLaws
 pub mod LiteralLaws

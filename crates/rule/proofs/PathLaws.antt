@@ -15,7 +15,8 @@ use Rattle.scalar.specs.Compare.{equalEntry, lessEntry}
 use Rattle.rule.specs.Tree.{Expr, column, literal, negation, negative, isNotNull, cast, tryCast, equal, less, caseWhen, Branches, noMore, branch, Optional, absent, present}
 use Rattle.rule.specs.Typing.{resultType}
 use Rattle.rule.specs.Row.{Row, Test, isTrueTest, equalsTest, passes, chosen, withBase, eval, evalBase, evalBranches, evalElse}
-use Rattle.rule.specs.Path.{Step, reads, casts, holdsMisfit, followedBy, castStep, chosenPath, basePath, path, pathBase, pathBranches, pathElse, columnsRead}
+use Rattle.rule.specs.Path.{Step, reads, casts, holdsMisfit, followedBy, castStep, chosenPath, basePath, path, pathBase, pathBranches, pathElse, readsColumn, columnsRead}
+use Rattle.rule.specs.Constant.{unread}
 
 -- a step fails at a row: its cast doesn't fit, or its column can't be read
 abbrev failing : Row → Step → Bool
@@ -138,6 +139,23 @@ readable-fails row h (casts t v ∷ p) = ap (λ b. isUnfit (castEntry t v) || b)
 -- the outcome is "doesn't fit" exactly when the path holds a cast that doesn't fit
 pub path-fails : (e : Expr) (row : Row) → Readable row → isUnfit (eval e row) ≡ holdsMisfit (path e row)
 path-fails e row h = expr-fails e row ∙ readable-fails row h (path e row)
+
+-- where no column can be read, a column that is read fails too
+unread-path : (p : List Step) → fails unread p ≡ (readsColumn p || holdsMisfit p)
+unfolding holdsMisfit readsColumn
+unread-path [] = refl
+unread-path (reads c ∷ p) = refl
+unread-path (casts t v ∷ p) = ap (λ b. isUnfit (castEntry t v) || b) (unread-path p) ∙ go (isUnfit (castEntry t v)) (readsColumn p) (holdsMisfit p)
+  where
+    go : (a b c : Bool) → (a || (b || c)) ≡ (b || (a || c))
+    go true true c = refl
+    go true false c = refl
+    go false true c = refl
+    go false false c = refl
+
+-- what can't be worked out without reading a column or failing
+pub unread-fails : (e : Expr) → isUnfit (eval e unread) ≡ (readsColumn (path e unread) || holdsMisfit (path e unread))
+unread-fails e = expr-fails e unread ∙ unread-path (path e unread)
 
 -- two rows have the same in these columns
 abbrev pub AgreeOn : List ℕ → Row → Row → Type 0

@@ -14,6 +14,7 @@ pub mod Strategy
 pub mod Projection
 pub mod Nullable
 pub mod Answers
+pub mod Allowed
 pub mod Walks
 pub mod ConstantWalks
 pub mod AnswerWalks

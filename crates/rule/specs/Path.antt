@@ -67,6 +67,12 @@ unfoldable mutual
   pathElse absent row = []
   pathElse (present e) row = path e row
 
+-- the path reads a column
+unfoldable pub readsColumn : List Step → Bool
+readsColumn [] = false
+readsColumn (reads c ∷ p) = true
+readsColumn (casts t v ∷ p) = readsColumn p
+
 -- the columns that a path reads
 unfoldable pub columnsRead : List Step → List ℕ
 columnsRead [] = []

@@ -2,6 +2,7 @@
 pub mod IntegerLaws
 pub mod FloatLaws
 pub mod TypeLaws
+pub mod FittingLaws
 pub mod ValueLaws
 pub mod CastLaws
 pub mod EntryLaws

@@ -41,6 +41,20 @@ markNumbered-ok n zero b e = ap markNumber (ok-injective e)
 markNumbered-ok n (suc zero) b e = ap markNumber (ok-injective e)
 markNumbered-ok n (suc (suc k)) b e = absurd (refused-not-ok n b e)
 
+-- the number of a type is read as that type, and the number of a mark as that mark
+pub typeNumbered-back : (n : ℕ) (t : DataType) → typeNumbered n (typeNumber t) ≡ ok t
+unfolding typeNumbered
+typeNumbered-back n Boolean = refl
+typeNumbered-back n Int32 = refl
+typeNumbered-back n Int64 = refl
+typeNumbered-back n Float64 = refl
+typeNumbered-back n Utf8 = refl
+
+pub markNumbered-back : (n : ℕ) (b : Bool) → markNumbered n (markNumber b) ≡ ok b
+unfolding markNumbered
+markNumbered-back n true = refl
+markNumbered-back n false = refl
+
 -- a number without a type is refused with the reader's number
 pub typeNumbered-among : (k : List ℕ) (n a : ℕ) → among k n ≡ true → RefusedAmong k (typeNumbered n a)
 unfolding typeNumbered
@@ -59,36 +73,35 @@ markNumbered-among k n zero h = ok-among k false
 markNumbered-among k n (suc zero) h = ok-among k true
 markNumbered-among k n (suc (suc j)) h = refused-among k n h
 
--- a type is told by its number
-type-numbered : (a : DataType) → typeNumbered 0 (typeNumber a) ≡ ok a
-unfolding typeNumbered
-type-numbered Boolean = refl
-type-numbered Int32 = refl
-type-numbered Int64 = refl
-type-numbered Float64 = refl
-type-numbered Utf8 = refl
-
 -- two types that are the same are one
 pub sameType-eq : (a b : DataType) → sameType a b ≡ true → a ≡ b
 sameType-eq a b p =
     let e : typeNumbered 0 (typeNumber a) ≡ typeNumbered 0 (typeNumber b) = ap (typeNumbered 0) (eqb-true _ _ p) in
-    cc (type-numbered a, type-numbered b)
+    cc (typeNumbered-back 0 a, typeNumbered-back 0 b)
 
 never : {A : Type 0} → false ≡ true → A
 never p = absurd (false≢true p)
 
--- a number is of one type alone
-int32-type : (t : DataType) (n : ℕ) → ofType t (int32 n) ≡ true → t ≡ Int32
+-- a value is of one type alone
+pub boolean-type : (t : DataType) (b : Bool) → ofType t (boolean b) ≡ true → t ≡ Boolean
+unfolding ofType
+boolean-type t b = elim t [ Boolean ↦ λ p. refl | Int32 ↦ never | Int64 ↦ never | Float64 ↦ never | Utf8 ↦ never ]
+
+pub int32-type : (t : DataType) (n : ℕ) → ofType t (int32 n) ≡ true → t ≡ Int32
 unfolding ofType
 int32-type t n = elim t [ Boolean ↦ never | Int32 ↦ λ p. refl | Int64 ↦ never | Float64 ↦ never | Utf8 ↦ never ]
 
-int64-type : (t : DataType) (n : ℕ) → ofType t (int64 n) ≡ true → t ≡ Int64
+pub int64-type : (t : DataType) (n : ℕ) → ofType t (int64 n) ≡ true → t ≡ Int64
 unfolding ofType
 int64-type t n = elim t [ Boolean ↦ never | Int32 ↦ never | Int64 ↦ λ p. refl | Float64 ↦ never | Utf8 ↦ never ]
 
-float64-type : (t : DataType) (n : ℕ) → ofType t (float64 n) ≡ true → t ≡ Float64
+pub float64-type : (t : DataType) (n : ℕ) → ofType t (float64 n) ≡ true → t ≡ Float64
 unfolding ofType
 float64-type t n = elim t [ Boolean ↦ never | Int32 ↦ never | Int64 ↦ never | Float64 ↦ λ p. refl | Utf8 ↦ never ]
+
+pub utf8-type : (t : DataType) (s : List ℕ) → ofType t (utf8 s) ≡ true → t ≡ Utf8
+unfolding ofType
+utf8-type t s = elim t [ Boolean ↦ never | Int32 ↦ never | Int64 ↦ never | Float64 ↦ never | Utf8 ↦ λ p. refl ]
 
 -- not gives a Boolean
 pub not-typed : (v : Entry) → ofType Boolean (notEntry v) ≡ true

@@ -1,5 +1,7 @@
 -- Cast: a value that doesn't fit fails (01, Modules: cast.rs).
+use mathlib.Core.Path.{_≡_}
 use mathlib.Core.Bool.{Bool, true, false, cond, not, _||_}
+use mathlib.Core.Logic.{_↔_}
 use Prim.Native.Nat.{ℕ}
 use lib.Dec.{eqb}
 use Rattle.scalar.specs.declared.types.DataType.{DataType}
@@ -7,7 +9,7 @@ use Rattle.scalar.specs.declared.types.DataType.the-variants.{Boolean, I
 use Rattle.scalar.specs.Types.{sameType}
 use Rattle.scalar.specs.Integer.{signed, bitsOf, inRange}
 use Rattle.scalar.specs.Float.{floatBits}
-use Rattle.scalar.specs.Entry.{Entry, null, boolean, int32, int64, float64, utf8, Outcome, entry, unfit}
+use Rattle.scalar.specs.Entry.{Entry, null, boolean, int32, int64, float64, utf8, Outcome, entry, unfit, ofType}
 
 -- one of the types 1, 2, 3
 abbrev pub whole : DataType → Bool
@@ -83,3 +85,15 @@ castEntry Utf8 e = toUtf8 e
 abbrev pub isUnfit : Outcome → Bool
 isUnfit (entry e) = false
 isUnfit unfit = true
+
+-- a cast that fails to fit: an Int64 to Int32, at a value outside Int32's range (01, One row)
+pub record NarrowsOutside (from to : DataType) (v : Entry) : Type 0 where
+  pub number : ℕ
+  pub from-is : from ≡ Int64
+  pub to-is : to ≡ Int32
+  pub value-is : v ≡ int64 number
+  pub outside : inRange 31 (signed 63 number) ≡ false
+
+-- of the listed casts only these can fail to fit, and they do (01, One row)
+abbrev pub CastFailsExactly : Type 0
+CastFailsExactly = (from to : DataType) (v : Entry) → listed from to ≡ true → ofType from v ≡ true → (castEntry to v ≡ unfit) ↔ NarrowsOutside from to v
