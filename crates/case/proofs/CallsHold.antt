@@ -10,7 +10,7 @@ use Rattle.writer.specs.declared.RunAnswer.the-variants.{Answered, Refused}
 use Rattle.writer.specs.Written.{runAnswer, outputAfter}
 use Rattle.case.specs.Promise.{callRun}
 use Rattle.case.specs.Demands.{Holds, CallsAgree, CallFailsExactly}
-use Rattle.case.proofs.DemandsHold.{class-goes-with-target, fails-exactly}
+use Rattle.case.proofs.DemandsHold.{entry-follows-path, fails-exactly}
 
 -- what a call that answers has at the front of its output
 front : (r : Result (List ℕ)) (output o : List ℕ) (n : ℕ) → Answered n ≡ runAnswer r → o ≡ outputAfter r output → (answer : List ℕ) × (r ≡ ok answer) × (take n o ≡ answer)
@@ -24,8 +24,8 @@ pub calls-agree : CallsAgree
 calls-agree rule table table′ e t t′ i i′ work output w o work′ output′ w′ o′ n n′ b b′ g g′ h h′ same =
     let (answer, r, p) = front (callRun rule table work output) output o n (g .says) (g .output-is) in
     let (answer′, r′, p′) = front (callRun rule table′ work′ output′) output′ o′ n′ (g′ .says) (g′ .output-is) in
-    let (v, is, x, y) = class-goes-with-target rule table table′ e t t′ i i′ (length work) (length output) (length work′) (length output′) answer answer′ b b′ r r′ h h′ same in
-    (v, is, subst (λ (l : List ℕ). Holds l (t .rows) i v) (sym p) x, subst (λ (l : List ℕ). Holds l (t′ .rows) i′ v) (sym p′) y)
+    let (v, is, x, y) = entry-follows-path rule table table′ e t t′ i i′ (length work) (length output) (length work′) (length output′) answer answer′ b b′ r r′ h h′ same in
+    (v, is, subst (λ (l : List ℕ). Holds e l (t .rows) i v) (sym p) x, subst (λ (l : List ℕ). Holds e l (t′ .rows) i′ v) (sym p′) y)
 
 -- a call says a refusal exactly when the run is one
 refused-said : (r : Result (List ℕ)) (n : ℕ) → runAnswer r ≡ Refused n → r ≡ refused n

@@ -1,6 +1,6 @@
 -- What must hold of the definitions, proved. Assumes nothing.
 use mathlib.Core.Path.{_≡_, refl, sym, ap, subst, _∙_}
-use mathlib.Core.Bool.{true}
+use mathlib.Core.Bool.{true, false≢true}
 use mathlib.Core.List.{List, [], _++_, append-nil}
 use Prim.Native.Nat.{ℕ, _+_, _<_, _≤_}
 use native.Mathlib.Decide.{decLt}
@@ -8,14 +8,16 @@ use native.Mathlib.Omega.{arith}
 use lib.ListN.{length, getD, List·getD-eq-default, getElem?}
 use Rattle.layout.specs.Result.{ok}
 use Rattle.scalar.specs.declared.types.DataType.{DataType}
-use Rattle.scalar.specs.Entry.{Entry, null, entry, ofType, outcomeOfType}
+use Rattle.scalar.specs.Entry.{Entry, null, Outcome, entry, unfit, ofType, outcomeOfType}
 use Rattle.scalar.specs.Cast.{isUnfit}
+use Rattle.scalar.proofs.EntryLaws.{agree-eq}
 use Rattle.rule.specs.Tree.{Expr}
 use Rattle.rule.specs.Typing.{typeOf}
 use Rattle.rule.specs.Row.{eval}
 use Rattle.rule.specs.Nullable.{nullable}
-use Rattle.rule.specs.Path.{path, holdsMisfit}
-use Rattle.rule.proofs.PathLaws.{Readable, path-fails, path-decides}
+use Rattle.rule.specs.Path.{path, columnsRead, holdsMisfit}
+use Rattle.rule.specs.Constant.{unread}
+use Rattle.rule.proofs.PathLaws.{Readable, AgreeOn, path-fails, unread-fails, path-decides}
 use Rattle.rule.proofs.ReadBytes.{rule-bytes}
 use Rattle.table.specs.Column.{TableColumn, entryAt}
 use Rattle.table.specs.Reading.{readParts, Table, readTable}
@@ -23,7 +25,7 @@ use Rattle.table.proofs.TableInversions.{table-few}
 use Rattle.writer.specs.Answer.{columnOf, columnBytes}
 use Rattle.case.specs.Fits.{entryIn, rowOf}
 use Rattle.case.specs.Run.{answerBytes}
-use Rattle.case.specs.Demands.{Holds, BothRead, RuleIsItsTree, OutcomeOfResultType, EntryIsOneRow, ClassGoesWithTarget, FailsExactly, AnswerReadsBack, behindCount}
+use Rattle.case.specs.Demands.{Holds, BothRead, RuleIsItsTree, OutcomeOfResultType, EntryIsOneRow, EntryFollowsPath, FailsExactly, AnswerReadsBack, behindCount, entryOf, WorkedOutExactly}
 use Rattle.case.proofs.RunLaws.{Answered, run-answered, entries-length, entries-at, run-is, run-15, run-unfit}
 use Rattle.case.proofs.AnswerLaws.{AllOfType, entry-back, column-back, answer-table}
 use Rattle.case.proofs.RowsTyped.{run-sound}
@@ -71,10 +73,12 @@ module _ (rule table : List ℕ) (e : Expr) (t : Table) (work output : ℕ) (ans
   column-has : (i : ℕ) → i < t .rows → entryAt (columnOf (typeOf e) (nullable e) es) i ≡ getD es i null
   column-has i h = entry-back (typeOf e) (nullable e) es all-typed (omega (arith, a .text)) i (rw as-many h)
 
-  answer-holds : (i : ℕ) → i < t .rows → Holds answer (t .rows) i (getD es i null)
+  answer-holds : (i : ℕ) → i < t .rows → Holds e answer (t .rows) i (getD es i null)
   answer-holds i h = record {
     column = columnOf (typeOf e) (nullable e) es;
     reads = read;
+    type-is = refl;
+    mark-is = refl;
     has = column-has i h;
   }
     where
@@ -106,13 +110,14 @@ entry-is-one-row rule table e t i work output answer b r h =
       answer-holds rule table e t work output answer b (a .0) (a .1) i h,
     )
 
-pub class-goes-with-target : ClassGoesWithTarget
-class-goes-with-target rule table table′ e t t′ i i′ work output work′ output′ answer answer′ b b′ r r′ h h′ same =
+pub entry-follows-path : EntryFollowsPath
+entry-follows-path rule table table′ e t t′ i i′ work output work′ output′ answer answer′ b b′ r r′ h h′ same =
     let x = entry-is-one-row rule table e t i work output answer b r h in
     let y = entry-is-one-row rule table′ e t′ i′ work′ output′ answer′ b′ r′ h′ in
-    let decides : eval e (rowOf t i) ≡ eval e (rowOf t′ i′) = path-decides e (rowOf t i) (rowOf t′ i′) same in
+    let alike : AgreeOn (columnsRead (path e (rowOf t i))) (rowOf t i) (rowOf t′ i′) = λ c m. ap entry (agree-eq (entryOf t i c) (entryOf t′ i′ c) (same c m)) in
+    let decides : eval e (rowOf t i) ≡ eval e (rowOf t′ i′) = path-decides e (rowOf t i) (rowOf t′ i′) alike in
     let one : y .0 ≡ x .0 = entry-injective (sym (y .1) ∙ sym decides ∙ x .1) in
-    (x .0, x .1, x .2, subst (λ (v : Entry). Holds answer′ (t′ .rows) i′ v) one (y .2))
+    (x .0, x .1, x .2, subst (λ (v : Entry). Holds e answer′ (t′ .rows) i′ v) one (y .2))
 
 pub answer-reads-back : AnswerReadsBack
 answer-reads-back rule table e t work output answer u b r p =
@@ -138,3 +143,13 @@ fails-exactly rule table e t work output p q f h = (
 
     from-zero : (i : ℕ) → i ≡ 0 + i
     from-zero i = omega arith
+
+-- ---- what can be worked out
+
+-- an outcome is "doesn't fit" exactly when the test of it says so
+told-unfit : (o : Outcome) → isUnfit o ≡ true → o ≡ unfit
+told-unfit (entry v) p = absurd (false≢true p)
+told-unfit unfit p = refl
+
+pub worked-out-exactly : WorkedOutExactly
+worked-out-exactly e = (λ p. sym (unread-fails e) ∙ ap isUnfit p, λ q. told-unfit (eval e unread) (unread-fails e ∙ q))

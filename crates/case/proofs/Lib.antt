@@ -40,3 +40,4 @@ pub mod AnswerLaws
 pub mod RowsTyped
 pub mod DemandsHold
 pub mod CallsHold
+pub mod EndsHold
