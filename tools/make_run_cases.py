@@ -1,11 +1,12 @@
 #!/usr/bin/env python3
-"""make_run_cases.py CASES: writes the data of the program run_cases, from the folder with listing.txt and runs.txt.
+"""make_run_cases.py CASES: writes the data of the programs caserun and run_cases, from the folder with listing.txt and runs.txt.
 
-crates/run_cases/data/listings.bin  all of listing.txt
+crates/caserun/data/listings.bin    all of listing.txt
+crates/caserun/stdout               the listing of caserun's rule.bin and batch.bin, which is P1's, and those of listing.txt behind it
 crates/run_cases/data/runs.bin      all of runs.txt
 crates/run_cases/data/refusals.bin  the refused cases of listing.txt as runs, since runs.txt has no 1 to 8, 12, 15 and 16: what they leave in memory
 crates/run_cases/data/limits.bin    listings of what document 01 says is run only: no rows, 512 and 513 rows, 32 and 33 branches
-crates/run_cases/stdout             how many of each there are
+crates/run_cases/stdout             how many of each of its files there are
 
 A file is records of: the lengths of the rule, the table, the work buffer, the output and what is wanted (4 bytes each, little-endian),
 the rule, the table, what is wanted. Of a listing that is its text, of a run its refusal number, or 0 and the answer's bytes.
@@ -113,20 +114,40 @@ def limits():
             yield branches_case(base, count)
 
 
+# P1 of document 01, the run of caserun's own files.
+P1 = b"rows 4 type 2 nullable 0\n0 1\n1 0\n2 0\n3 1\n"
+
+
+def wanted(record):
+    return record[len(record) - int.from_bytes(record[16:20], "little"):]
+
+
+def store(crate, name, records):
+    folder = os.path.join(HERE, "crates", crate, "data")
+    os.makedirs(folder, exist_ok=True)
+    data = b"".join(records)
+    assert len(data) <= MOST_FILE
+    with open(os.path.join(folder, name + ".bin"), "wb") as out:
+        out.write(data)
+
+
+def say(crate, text):
+    with open(os.path.join(HERE, "crates", crate, "stdout"), "wb") as out:
+        out.write(text)
+
+
 def main(cases):
-    crate = os.path.join(HERE, "crates", "run_cases")
-    os.makedirs(os.path.join(crate, "data"), exist_ok=True)
+    records = list(listings(cases))
+    store("caserun", "listings", records)
+    say("caserun", P1 + b"".join(map(wanted, records)))
+    print(f"listings: {len(records)}")
     lines = ""
-    files = {"listings": listings(cases), "runs": stored_runs(cases), "refusals": refusals(cases), "limits": limits()}
+    files = {"runs": stored_runs(cases), "refusals": refusals(cases), "limits": limits()}
     for name, records in files.items():
         records = list(records)
-        data = b"".join(records)
-        assert len(data) <= MOST_FILE
-        with open(os.path.join(crate, "data", name + ".bin"), "wb") as out:
-            out.write(data)
+        store("run_cases", name, records)
         lines += f"{name}: {len(records)} of {len(records)} agree\n"
-    with open(os.path.join(crate, "stdout"), "w", encoding="utf-8") as out:
-        out.write(lines)
+    say("run_cases", lines.encode())
     print(lines, end="")
 
 

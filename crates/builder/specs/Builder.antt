@@ -26,6 +26,7 @@ risingBelow from count (r ∷ rows) = leb from r && ltb r count && risingBelow (
 abbrev pub isWhole : {A : Type 0} → Builder A → List ℕ → Bool
 isWhole b rows = eqb (length rows) (length (b .held))
 
+-- a row holds a value
 abbrev pub holds : {A : Type 0} → Option A → Bool
 holds none = false
 holds (some a) = true
@@ -59,5 +60,6 @@ abbrev pub orElse : {A : Type 0} → A → Option A → A
 orElse null none = null
 orElse null (some a) = a
 
+-- each row's value
 abbrev pub finish : {A : Type 0} → A → Builder A → List A
 finish null b = map (orElse null) (b .held)

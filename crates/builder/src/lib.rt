@@ -5,7 +5,7 @@ ghost use mathlib.Core.Bool.{true, not, _&&_, _||_};
 ghost use Prim.Native.Nat.{_≤_, min};
 ghost use lib.ListN.{length};
 ghost use Rattle.builder.specs.Builder.{risingBelow, orElse};
-ghost use Rattle.builder.specs.BuilderStruct.{marked, someMarked, countOf, NewGives, AddGives, FinishGives, Held};
+ghost use Rattle.builder.specs.BuilderStruct.{marked, someMarked, countOf, holding, emptyBuilder, newAnswer, addAnswer, finishAnswer};
 
 // Most rows of a result.
 const ROWS_MOST: usize = 512;
@@ -25,7 +25,7 @@ pub struct BuilderAnswer {
     pub builder: ResultBuilder,
 }
 
-// The value of each row, 0 where it holds none: the first `count` of `values`.
+// The value of each row, 0 where it holds none: the first `count` of `values`. Behind them stand zeros.
 pub struct Finished {
     pub count: usize,
     pub values: [u16; 512],
@@ -107,7 +107,7 @@ fn some_marked(held: [u8; 512], rows: &[u16], count: usize) -> bool
 // The builder with a value for each of the rows.
 fn hold(b: ResultBuilder, rows: &[u16], values: &[u16], count: usize) -> ResultBuilder
     requires { ⌜ (count ≡ countOf b) × (risingBelow 0 count (now rows) ≡ true) × (length (now rows) ≡ length (now values)) ⌝ }
-    ensures { λ r. ⌜ Held b (now (rows .entry)) (now (values .entry)) r ⌝ }
+    ensures { λ r. ⌜ r ≡ holding b (now (rows .entry)) (now (values .entry)) ⌝ }
 {
     let mut out = b;
     let mut i = 0;
@@ -120,24 +120,32 @@ fn hold(b: ResultBuilder, rows: &[u16], values: &[u16], count: usize) -> ResultB
     out
 }
 
+// A builder for so many rows, none of which is held.
+fn empty(rows: usize) -> ResultBuilder
+    ensures { λ r. ⌜ r ≡ emptyBuilder rows ⌝ }
+{
+    ResultBuilder {
+        rows,
+        part: false,
+        whole: false,
+        held: [0u8; 512],
+        values: [0u16; 512],
+    }
+}
+
 impl ResultBuilder {
-    // A builder for so many rows; above 512 it is refused with 10.
+    // A builder for so many rows, none of which is held; above 512 it is refused with 10, and the builder given has no rows.
     pub fn new(rows: usize) -> BuilderAnswer
-        ensures { λ r. ⌜ NewGives rows r ⌝ }
+        ensures { λ r. ⌜ r ≡ newAnswer rows ⌝ }
     {
-        let builder = ResultBuilder {
-            rows,
-            part: false,
-            whole: false,
-            held: [0u8; 512],
-            values: [0u16; 512],
-        };
         if ROWS_MOST < rows {
+            let none = empty(0);
             return BuilderAnswer {
                 refused: 10,
-                builder,
+                builder: none,
             };
         }
+        let builder = empty(rows);
         BuilderAnswer {
             refused: 0,
             builder,
@@ -146,7 +154,7 @@ impl ResultBuilder {
 
     // The values of the rows of a branch: 19, 18, 21 or 20, and the builder is unchanged; or the builder with them.
     pub fn add_branch_result(self, rows: &[u16], values: &[u16]) -> BuilderAnswer
-        ensures { λ r. ⌜ AddGives self (now (rows .entry)) (now (values .entry)) r ⌝ }
+        ensures { λ r. ⌜ r ≡ addAnswer self (now (rows .entry)) (now (values .entry)) ⌝ }
     {
         let count = count_of(self.rows);
         if rows.len() != values.len() {
@@ -186,7 +194,7 @@ impl ResultBuilder {
 
     // The value of each row; a row that no part holds is 0, null.
     pub fn finish(self) -> Finished
-        ensures { λ r. ⌜ FinishGives self r ⌝ }
+        ensures { λ r. ⌜ r ≡ finishAnswer self ⌝ }
     {
         let count = count_of(self.rows);
         let mut out = [0u16; 512];

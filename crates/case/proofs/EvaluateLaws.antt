@@ -27,11 +27,13 @@ use Rattle.table.specs.Places.{tableIn, readingIn, TableRead}
 use Rattle.table.proofs.TableInversions.{table-inv, table-few}
 use Rattle.table.proofs.RefusalLaws.{table-bounds}
 use Rattle.writer.specs.declared.RunAnswer.{RunAnswer}
+use Rattle.writer.specs.declared.WriteAnswer.{WriteAnswer}
+use Rattle.writer.specs.declared.WriteAnswer.the-variants.{Run, NoColumn}
 use Rattle.writer.specs.declared.RunAnswer.the-variants.{Refused}
 use Rattle.writer.specs.Answer.{columnOf, columnBytes, textLength}
 use Rattle.writer.specs.Written.{rowsFrom, entriesOf, textMost, writtenAs, runAnswer, zeros, outputAfter}
-use Rattle.writer.specs.Write.{rowOutcomes, rowsRun, RunGives, WriteGives, WriteAsks, slotsRun, classValue, classesRun}
-use Rattle.writer.proofs.FitLaws.{gives-rows, typed-fits, asks-write, asks-classed}
+use Rattle.writer.specs.Write.{rowOutcomes, rowsRun, RunGives, ColumnGives, WriteGives, WriteAsks, writable, classValue, classed}
+use Rattle.writer.proofs.FitLaws.{column-said, gives-rows, typed-fits, asks-write, asks-classed}
 use Rattle.case.specs.Fits.{fits}
 use Rattle.case.specs.Fitting.{FitsGives}
 use Rattle.case.specs.Run.{outcomes, runRead, run, workAfter}
@@ -95,14 +97,19 @@ module _ {rule table : List ℕ} {t : Places} {result : DataType} {w w₁ : List
   root-asks = record { few = asks .few; room = (let l = all .long in let r = asks .room in omega arith); short = asks .table-short; rows-are = all .rows-are }
 
   module _ {found : Bool} {w₂ classes kinds payloads : List ℕ} (c : ClassesGive rule table t result w₁ found w₂ classes kinds payloads) where
+    -- the rows' classes are a column
+    pub classes-column : {run : Result (List ℕ)} {output output′ : List ℕ} {a : WriteAnswer} → found ≡ true → ColumnGives (classed (t .rows) result classes payloads) run output a output′ → a ≡ NoColumn → ⊥
+    classes-column is wrote = column-said (asks-classed (t .rows) classes payloads (c .asks is)) wrote
+
     -- the rows by their classes
-    pub by-classes : {n : Bool} {output output′ : List ℕ} {r : RunAnswer} → found ≡ true
-        → ((rule table : List ℕ) → RunGives (classesRun rule table (t .rows) result n classes payloads (length output)) output r output′) → AnswerGives rule table t result n w output r w₂ output′
-    by-classes is wrote = record {
+    pub by-classes : {n : Bool} {output output′ : List ℕ} {a : WriteAnswer} {r : RunAnswer} → found ≡ true
+        → ((rule table : List ℕ) → ColumnGives (classed (t .rows) result classes payloads) (rowsRun rule table (classValue result classes payloads) (t .rows) result n (length output)) output a output′) → a ≡ Run r
+        → AnswerGives rule table t result n w output r w₂ output′
+    by-classes is wrote run = record {
       long = c .long ∙ all .long;
       value = classValue result classes payloads;
       right = c .right is;
-      wrote = gives-rows (asks-classed (t .rows) classes payloads (c .asks is)) (wrote rule table);
+      wrote = gives-rows (asks-classed (t .rows) classes payloads (c .asks is)) (wrote rule table) run;
     }
 
     -- the list is still there
@@ -136,12 +143,17 @@ module _ {rule table : List ℕ} {t : Places} {result : DataType} {w w₁ : List
         each = λ i h. typed-fits rule table result (slotAt w₃ i) (asks .typed (slotAt w₃) slots-right .typed i h);
       }
 
-      pub by-slots : {n : Bool} {output output′ : List ℕ} {r : RunAnswer} → RunGives (slotsRun rule table w₃ (t .rows) result n (length output)) output r output′ → AnswerGives rule table t result n w output r w₃ output′
-      by-slots wrote = record {
+      pub slots-column : {run : Result (List ℕ)} {output output′ : List ℕ} {a : WriteAnswer} → ColumnGives (writable rule table w₃ (t .rows) result) run output a output′ → a ≡ NoColumn → ⊥
+      slots-column wrote = column-said (asks-write rule table w₃ (t .rows) write-asks) wrote
+
+      pub by-slots : {n : Bool} {output output′ : List ℕ} {a : WriteAnswer} {r : RunAnswer}
+          → ColumnGives (writable rule table w₃ (t .rows) result) (rowsRun rule table (slotAt w₃) (t .rows) result n (length output)) output a output′ → a ≡ Run r
+          → AnswerGives rule table t result n w output r w₃ output′
+      by-slots wrote run = record {
         long = d .long ∙ c .long ∙ all .long;
         value = slotAt w₃;
         right = slots-right;
-        wrote = gives-rows (asks-write rule table w₃ (t .rows) write-asks) wrote;
+        wrote = gives-rows (asks-write rule table w₃ (t .rows) write-asks) wrote run;
       }
 
 -- ---- a rule and a table that were read

@@ -17,8 +17,8 @@ use Rattle.layout.proofs.ResultLaws.{ok-injective, refused-not-ok}
 use Rattle.builder.specs.declared.ResultBuilder.{ResultBuilder}
 use Rattle.builder.specs.declared.BuilderAnswer.{BuilderAnswer}
 use Rattle.builder.specs.Builder.{Builder, risingBelow, holds, someHeld, holdAll}
-use Rattle.builder.specs.BuilderStruct.{countOf, builderOf, answerOf, AddGives}
-use Rattle.builder.proofs.BuilderLaws.{rising-length, count-is, add-goes}
+use Rattle.builder.specs.BuilderStruct.{countOf, builderOf, answerOf, addAnswer}
+use Rattle.builder.proofs.BuilderLaws.{rising-length, count-is, add-goes, add-gives}
 use Rattle.case.specs.Choosing.{heldBy}
 use Rattle.case.specs.Parting.{Among, PartAsks, PartGives}
 
@@ -147,8 +147,9 @@ module _ (b : ResultBuilder) (rows values : List ℕ) (asks : PartAsks b rows va
         twice : (q k : ℕ) → k < length rows → getD rows k 0 ≡ q → holds (heldBy b q) ≡ true → ⊥
         twice q k h is t = false≢true (sym (ap holds (ap (heldBy b) (sym is) ∙ asks .free k h)) ∙ t)
 
-    pub part-added : (length rows ≡ 0 → ⊥) → (r : BuilderAnswer) → AddGives b rows values r → PartGives b rows values (r .builder)
-    part-added some-row r g =
+    pub part-added : (length rows ≡ 0 → ⊥) → (r : BuilderAnswer) → r ≡ addAnswer b rows values → PartGives b rows values (r .builder)
+    part-added some-row r said =
+        let g = add-gives b rows values long long-values said in
         let fits = no-clash (b .whole) (b .part) (eqb (length rows) (countOf b)) (λ p. some-row (asks .whole-done p)) clash in
         let goes = add-goes b rows values long long-values (asks .same) (rising-rows (countOf b) counted) fits (none-held (builderOf b .held) rows (asks .free)) in
         let is = answer-is (r .refused) (r .builder) _ (g .says ∙ goes) in

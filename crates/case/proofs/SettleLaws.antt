@@ -13,7 +13,8 @@ use Rattle.builder.specs.declared.ResultBuilder.{ResultBuilder}
 use Rattle.builder.specs.declared.BuilderAnswer.{BuilderAnswer}
 use Rattle.builder.specs.declared.Finished.{Finished}
 use Rattle.builder.specs.Builder.{Builder, holds, orElse}
-use Rattle.builder.specs.BuilderStruct.{builderOf, NewGives, FinishGives}
+use Rattle.builder.specs.BuilderStruct.{builderOf, newAnswer, finishAnswer}
+use Rattle.builder.proofs.BuilderLaws.{new-gives, finish-gives}
 use Rattle.case.specs.Frame.{rowAt, Rows, Listed}
 use Rattle.case.specs.Choosing.{heldBy, Open, Settles}
 use Rattle.case.specs.Parting.{Among, Parted, PartAsks, PartGives}
@@ -27,16 +28,16 @@ nothing zero q = refl
 nothing (suc n) zero = refl
 nothing (suc n) (suc q) = nothing n q
 
-module _ (rows : ℕ) (r : BuilderAnswer) (g : NewGives rows r) (few : rows ≤ 512) where
+module _ (rows : ℕ) (r : BuilderAnswer) (said : r ≡ newAnswer rows) (few : rows ≤ 512) where
   new-is : builderOf (r .builder) ≡ record { part = false; whole = false; held = replicate rows none }
-  new-is = answer-is (r .refused) (r .builder) _ (g .says ∙ simp (le-leb rows 512 few))
+  new-is = answer-is (r .refused) (r .builder) _ (new-gives said .says ∙ simp (le-leb rows 512 few))
 
   pub new-free : (q : ℕ) → heldBy (r .builder) q ≡ none
   new-free q = ap (λ (x : Builder ℕ). getD (x .held) q none) new-is ∙ nothing rows q
 
   pub new-open : (w : List ℕ) (left : ℕ) → Rows w 5632 left rows → Open (r .builder) w left rows
   new-open w left ok = record {
-    sized = g .same-rows;
+    sized = new-gives said .same-rows few;
     small = few;
     list-ok = ok;
     free = λ q l. new-free q;
@@ -44,8 +45,9 @@ module _ (rows : ℕ) (r : BuilderAnswer) (g : NewGives rows r) (few : rows ≤ 
     part-held = λ p. absurd (false≢true (sym (ap (λ (x : Builder ℕ). x .part) new-is) ∙ p));
   }
 
-pub finished-at : (b : ResultBuilder) (f : Finished) → FinishGives b f → b .rows ≤ 512 → (r : ℕ) → r < b .rows → getD (f .values) r 0 ≡ orElse 0 (heldBy b r)
-finished-at b f g few r h =
+pub finished-at : (b : ResultBuilder) (f : Finished) → length (b .held) ≡ 512 → length (b .values) ≡ 512 → f ≡ finishAnswer b → b .rows ≤ 512 → (r : ℕ) → r < b .rows → getD (f .values) r 0 ≡ orElse 0 (heldBy b r)
+finished-at b f long long-values said few r h =
+    let g = finish-gives b long long-values said in
     sym (getD-take (f .count) (f .values) r 0 (omega (arith, g .count-is)))
     ∙ ap (λ (l : List ℕ). getD l r 0) (g .says)
     ∙ List·getD-map (orElse 0) (builderOf b .held) r none

@@ -9,9 +9,12 @@ use scalar::types::DataType;
 use table::places::Table;
 use table::read::read;
 use writer::RunAnswer;
+use writer::WriteAnswer;
 use writer::classes::write_classes;
 use writer::clear::clear;
 use writer::write::write_answer;
+ghost use mathlib.Core.Path.{_≡_};
+ghost use Rattle.writer.specs.declared.WriteAnswer.the-variants.{Run, NoColumn};
 ghost use Rattle.case.specs.Promise.{Evaluated};
 ghost use Rattle.case.specs.Readings.{ReadAsks, AnswerAsks, AnswerGives};
 
@@ -88,8 +91,19 @@ fn answer_rows(
         &mut kinds,
         &mut payloads,
     ) {
-        return write_classes(rows, result, nullable, &classes, &payloads, output);
+        return run_of(write_classes(rows, result, nullable, &classes, &payloads, output));
     }
     expr(rule, 0, rule.len(), table, t, work, rows, 8);
-    write_answer(rule, table, work, rows, result, nullable, output)
+    run_of(write_answer(rule, table, work, rows, result, nullable, output))
+}
+
+// What a run with rows that are a column says.
+fn run_of(a: WriteAnswer) -> RunAnswer
+    requires { ⌜ (a ≡ NoColumn → ⊥) ⌝ }
+    ensures { λ r. ⌜ a ≡ Run r ⌝ }
+{
+    match a {
+        WriteAnswer::Run(r) => r,
+        WriteAnswer::NoColumn => RunAnswer::Refused(15),
+    }
 }

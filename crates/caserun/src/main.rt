@@ -1,19 +1,16 @@
-// Evaluates the rule in rule.bin over the table in batch.bin, or in the two files that the arguments name, and prints the answer's listing.
+// Evaluates the rule in rule.bin over the table in batch.bin, or in the two files that the first arguments name, and prints the listing of the
+// run. A single argument, or a third, names a file of records: the listings of their runs are printed one behind the other.
 mod file;
-mod print;
+mod list;
+mod record;
 
-use case::evaluate::evaluate;
 use file::Loaded;
 use file::load;
 use layout::part::part_of;
-use listing::line::LINE_MOST;
-use print::print_answer;
-use print::print_refused;
-use table::read::read;
-use writer::RunAnswer;
+use list::list;
+use record::list_records;
 ghost use mathlib.Core.Path.{_≡_};
 ghost use lib.ListN.{length};
-ghost use Rattle.listing.specs.Listing.{lineMost};
 
 // One byte more than a rule may have.
 fn rule_buffer() -> [u8; 4097]
@@ -29,25 +26,11 @@ fn table_buffer() -> [u8; 65537]
     [0; 65537]
 }
 
-// As many bytes as the longest line has.
-fn line_buffer() -> [u8; LINE_MOST]
-    ensures { λ r. ⌜ lineMost ≡ length r ⌝ }
+// More bytes than a file of records has.
+fn record_buffer() -> [u8; 524288]
+    ensures { λ r. ⌜ 524288 ≡ length r ⌝ }
 {
-    [0; LINE_MOST]
-}
-
-// Evaluates a rule over a table and prints the listing.
-fn list(rule: &[u8], table: &[u8]) {
-    let mut work = io::large_buffer();
-    let mut output = io::large_buffer();
-    let mut line = line_buffer();
-    match evaluate(rule, table, &mut work, &mut output) {
-        RunAnswer::Answered(size) => {
-            let t = read(table).table;
-            print_answer(part_of(&output, 0, size), t.rows, &mut line);
-        },
-        RunAnswer::Refused(n) => print_refused(n, &mut line),
-    }
+    [0; 524288]
 }
 
 // Reads the table and goes on.
@@ -59,10 +42,32 @@ fn with_rule(rule: &[u8]) {
     }
 }
 
-fn main() {
+// The listing of the rule and the table.
+fn list_files() {
     let mut rule = rule_buffer();
     match load(1, b"rule.bin", &mut rule) {
         Loaded::Size(size) => with_rule(part_of(&rule, 0, size)),
         Loaded::Failed => {},
+    }
+}
+
+// The listings of the records of the file that an argument names.
+fn list_file(argument: usize) {
+    let mut records = record_buffer();
+    match load(argument, b"listings.bin", &mut records) {
+        Loaded::Size(size) => list_records(part_of(&records, 0, size)),
+        Loaded::Failed => {},
+    }
+}
+
+fn main() {
+    let words = os::arg_count();
+    if words == 2 {
+        list_file(1);
+        return;
+    }
+    list_files();
+    if 3 < words {
+        list_file(3);
     }
 }

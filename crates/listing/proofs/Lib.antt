@@ -4,5 +4,7 @@ pub mod DigitLaws
 pub mod FitLaws
 pub mod ShownLaws
 pub mod LineLaws
-pub mod LineMostLaws
+pub mod ListingMostLaws
+pub mod WholeLaws
+pub mod RunListingLaws
 pub mod ListingExamples

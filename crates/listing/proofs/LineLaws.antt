@@ -1,5 +1,5 @@
 -- The lines of a listing: how long they are, and whether they fit. Assumes nothing.
-use mathlib.Core.Path.{_≡_, sym, ap, ap₂, _∙_}
+use mathlib.Core.Path.{_≡_, refl, sym, ap, ap₂, _∙_}
 use mathlib.Core.Bool.{Bool, true, false, not}
 use mathlib.Core.List.{List, [], _∷_, _++_}
 use Prim.Native.Nat.{ℕ, _+_, _-_, _<_, _≤_}
@@ -32,6 +32,10 @@ no-room {out} {at} xs {size} {r} e h q =
 pub has-room : (at size n : ℕ) {r : Bool} → r ≡ leb (at + size) n → not r ≡ false → at + size ≤ n
 has-room at size n {r} e h = leb-true (at + size) n (sym e ∙ not-false r h)
 
+-- for bytes of that length
+pub lines-fit : (xs : List ℕ) (at : ℕ) {n size : ℕ} {r : Bool} → size ≡ length xs → r ≡ leb (at + size) n → not r ≡ false → at + length xs ≤ n
+lines-fit xs at {n} {size} e q h = let fits : at + size ≤ n = has-room at size n q h in omega arith
+
 -- for a decimal and more
 pub decimal-room : (n at more : ℕ) {k size : ℕ} {r : Bool} → k ≡ places n → r ≡ leb (at + (k + more)) size → not r ≡ false → at + (length (decimal n) + more) ≤ size
 decimal-room n at more {k} {size} e q h =
@@ -62,10 +66,14 @@ length-row row xs =
 
 -- ---- the head line
 
+-- what follows the word fits
+pub head-room : (rows at n : ℕ) (d : DataType) (b : Bool) → at + length (headLine rows d b) ≤ n → at + (length (decimal rows) + 24) ≤ n
+head-room rows at n d b h = omega (arith, length-head rows d b refl, length-decimal rows)
+
 -- the numbers of a type and a mark
 pub head-as : (rows : ℕ) (d : DataType) (b : Bool) {out : List ℕ} {at t n p : ℕ} {m : List ℕ} → t ≡ typeNumber d → n ≡ markNumber b
-    → Wrote out at (rowsWord ++ decimal rows ++ typeWords t n) p m → Put out at (headLine rows d b) (Ends p) m
-head-as rows d b e q w = put-fits (wrote-as (ap₂ (λ (x y : ℕ). rowsWord ++ decimal rows ++ typeWords x y) e q) w)
+    → Wrote out at (rowsWord ++ decimal rows ++ typeWords t n) p m → Wrote out at (headLine rows d b) p m
+head-as rows d b e q w = wrote-as (ap₂ (λ (x y : ℕ). rowsWord ++ decimal rows ++ typeWords x y) e q) w
 
 -- ---- an entry
 
@@ -93,41 +101,15 @@ shown-room xs at n h {r} e q =
 
 -- ---- a row's line
 
--- its number doesn't fit
-pub row-cut : (row : ℕ) (e : Entry) {out : List ℕ} {at k : ℕ} {r : Bool} → k ≡ places row → r ≡ leb (at + (k + 2)) (length out) → not r ≡ true → Put out at (rowLine row e) Full out
-row-cut row e {out} {at} {k} {r} p q h =
-    let over : length out < at + (k + 2) = leb-false (at + (k + 2)) (length out) (sym q ∙ not-true r h) in
-    put-full (rowLine row e) (omega (arith, p, length-row row (entryBytes e)))
-
--- there is room for its number
-pub number-room : (at k n : ℕ) {r : Bool} → r ≡ leb (at + (k + 2)) n → not r ≡ false → (at ≤ n) × (k + 2 ≤ n - at)
-number-room at k n q h =
-    let fits : at + (k + 2) ≤ n = has-room at (k + 2) n q h in
-    (omega arith, omega arith)
-
--- there is room for the rest too
-pub row-room : (row : ℕ) (xs : List ℕ) (at k n : ℕ) → k ≡ places row → {r : Bool} → r ≡ leb (at + (k + 2)) n → not r ≡ false
-    → {b : Bool} → b ≡ leb (length xs) (n - at - (k + 2)) → not b ≡ false → at + (length (decimal row) + 2 + length xs) ≤ n
-row-room row xs at k n p q h {b} e g =
-    let room = number-room at k n q h in
-    let fits : length xs ≤ n - at - (k + 2) = leb-true (length xs) (n - at - (k + 2)) (sym e ∙ not-false b g) in
-    omega (arith, p, length-decimal row, room .0, room .1)
-
 module _ {bytes : List ℕ} {e : Entry} {v : Value} {s : Shown} (g : ValueGives bytes e v) (w : Shows v s) where
   -- what is shown is the entry
   shown-entry : shownBytes bytes s ≡ entryBytes e
   shown-entry = w .says bytes ∙ ap (λ (o : Outcome). entryBytes (orNull o)) (g .says [])
 
-  module _ (row : ℕ) {out : List ℕ} {at : ℕ} where
-    -- its entry doesn't fit
-    pub row-full : {k : ℕ} → k ≡ places row → {r : Bool} → r ≡ leb (at + (k + 2)) (length out) → not r ≡ false
-        → {b : Bool} → b ≡ leb (length (shownBytes bytes s)) (length out - at - (k + 2)) → not b ≡ true → Put out at (rowLine row e) Full out
-    row-full {k} p q h {b} x y =
-        let room = number-room at k (length out) q h in
-        let over : length out - at - (k + 2) < length (shownBytes bytes s) = leb-false (length (shownBytes bytes s)) (length out - at - (k + 2)) (sym x ∙ not-true b y) in
-        let size : length (shownBytes bytes s) ≡ length (entryBytes e) = ap length shown-entry in
-        put-full (rowLine row e) (omega (arith, p, room .0, room .1, length-row row (entryBytes e)))
+  -- how long the line is
+  pub row-length : (row : ℕ) → length (decimal row) + 2 + length (shownBytes bytes s) ≡ length (rowLine row e)
+  row-length row = omega (arith, length-row row (entryBytes e), length-decimal row, ap length shown-entry)
 
-    -- the line is put
-    pub row-put : {p : ℕ} {m : List ℕ} → Wrote out at (decimal row ++ (32 ∷ []) ++ shownBytes bytes s ++ (10 ∷ [])) p m → Put out at (rowLine row e) (Ends p) m
-    row-put x = put-fits (wrote-as (ap (rowOf row) shown-entry) x)
+  -- the line by what is shown
+  pub row-as : (row : ℕ) {out : List ℕ} {at p : ℕ} {m : List ℕ} → Wrote out at (decimal row ++ (32 ∷ []) ++ shownBytes bytes s ++ (10 ∷ [])) p m → Wrote out at (rowLine row e) p m
+  row-as row x = wrote-as (ap (rowOf row) shown-entry) x

@@ -2,7 +2,7 @@
 use mathlib.Core.Path.{_≡_, refl, sym, ap, subst, _∙_}
 use mathlib.Core.Bool.{Bool}
 use mathlib.Core.List.{List, [], _∷_}
-use Prim.Native.Nat.{ℕ, suc, _+_, _-_, _%_, _^_, _<_, _≤_}
+use Prim.Native.Nat.{ℕ, suc, _+_, _-_, _*_, _%_, _^_, _<_, _≤_}
 use native.Mathlib.Decide.{decLt}
 use native.Mathlib.Omega.{arith}
 use lib.Dec.{leb}
@@ -17,9 +17,9 @@ use Rattle.scalar.specs.Value.{placeText}
 use Rattle.scalar.proofs.IntegerLaws.{signed-low, signed-high}
 use Rattle.listing.specs.declared.shown.Shown.{Shown}
 use Rattle.listing.specs.declared.shown.Shown.the-variants.{Null, Truth, Number, Negative, Bits, Text}
-use Rattle.listing.specs.Listing.{digits, places, decimal, hexBytes, truthWord, integerBytes, entryBytes}
+use Rattle.listing.specs.Listing.{digits, places, decimal, hexBytes, truthWord, integerBytes, entryBytes, listingMost}
 use Rattle.listing.specs.Putting.{Wrote, shownBytes, Shows, ShowsInteger}
-use Rattle.listing.proofs.DigitLaws.{length-digits, length-decimal}
+use Rattle.listing.proofs.DigitLaws.{length-digits, length-decimal, length-hex}
 
 -- ---- an integer
 
@@ -102,6 +102,10 @@ module _ (bytes : List ℕ) {s t : Shown} (e : s ≡ t) where
   pub fits-at : (room : ℕ) {b : Bool} (n : ℕ) → n ≡ length (shownBytes bytes t) → b ≡ leb n room → b ≡ leb (length (shownBytes bytes s)) room
   fits-at room n q h = h ∙ ap (λ (k : ℕ). leb k room) (q ∙ ap (λ (x : Shown). length (shownBytes bytes x)) (sym e))
 
+  -- so many bytes by another name of what is shown
+  pub size-at : {n : ℕ} → n ≡ length (shownBytes bytes t) → n ≡ length (shownBytes bytes s)
+  size-at q = q ∙ ap (λ (x : Shown). length (shownBytes bytes x)) (sym e)
+
   -- the same room
   pub room-at : (at n : ℕ) → at + length (shownBytes bytes s) ≤ n → at + length (shownBytes bytes t) ≤ n
   room-at at n h = subst (λ (x : Shown). at + length (shownBytes bytes x) ≤ n) e h
@@ -114,6 +118,9 @@ module _ (bytes : List ℕ) {s t : Shown} (e : s ≡ t) where
 pub after-sign : (n : ℕ) {k : ℕ} → k ≡ places n → suc k ≡ length (45 ∷ decimal n)
 after-sign n e = ap suc (e ∙ sym (length-decimal n))
 
+pub with-sign : (n : ℕ) {k : ℕ} → k ≡ places n → 1 + k ≡ length (45 ∷ decimal n)
+with-sign n e = omega (arith, after-sign n e)
+
 -- as long as a decimal
 pub as-decimal : (n : ℕ) {k : ℕ} → k ≡ places n → k ≡ length (decimal n)
 as-decimal n e = e ∙ sym (length-decimal n)
@@ -125,3 +132,12 @@ as-truth b c e = ap (λ (x : Bool). length (truthWord x)) (sym e)
 -- the room of 16 digits
 pub digits-room : (n at size : ℕ) → at + length (digits 16 16 n) ≤ size → at + 16 ≤ size
 digits-room n at size h = omega (arith, h, length-digits 16 16 n)
+
+-- as long as a text in hex and one byte before it
+pub as-text : {text place : List ℕ} → text ≡ place → 1 + 2 * length text ≡ length (116 ∷ hexBytes place)
+as-text {text} {place} e = omega (arith, length-hex place, ap length e)
+
+-- which is no longer than a listing where what is shown isn't
+pub text-room : (bytes : List ℕ) {s : Shown} {start size : ℕ} {text : List ℕ} → s ≡ Text start size → text ≡ placeText bytes start size → length (shownBytes bytes s) ≤ listingMost
+    → 1 + 2 * length text ≤ listingMost
+text-room bytes e q h = let k = size-at bytes e (as-text q) in omega arith

@@ -10,6 +10,8 @@ use Rattle.scalar.specs.Types.{typeNumber, markNumber}
 use Rattle.scalar.specs.Entry.{Entry, null, boolean, int32, int64, float64, utf8}
 use Rattle.scalar.specs.Integer.{signed}
 use Rattle.table.specs.Column.{TableColumn, entryAt}
+use Rattle.table.specs.Reading.{Table, readTable, readAlone}
+use Rattle.case.specs.Run.{run}
 
 -- a digit: 0 to 9, then a to f, letters small (01, A listing)
 abbrev pub digit : ℕ → ℕ
@@ -65,10 +67,6 @@ entryBytes (utf8 text) = 116 ∷ hexBytes text
 abbrev pub rowLine : ℕ → Entry → List ℕ
 rowLine row e = decimal row ++ (32 ∷ []) ++ entryBytes e ++ (10 ∷ [])
 
--- the longest line of an answer: a row's number below 512, a space, `t`, a text of 65,535 bytes in hex and LF (01, A listing)
-abbrev pub lineMost : ℕ
-lineMost = 131076
-
 -- `rows ` (01, A listing)
 abbrev pub rowsWord : List ℕ
 rowsWord = 114 ∷ 111 ∷ 119 ∷ 115 ∷ 32 ∷ []
@@ -95,7 +93,29 @@ unfoldable pub rowLines : TableColumn → ℕ → List ℕ
 rowLines c zero = []
 rowLines c (suc n) = rowLines c n ++ rowLine n (entryAt c n)
 
+-- the head line and each row's (01, A listing)
+abbrev pub columnLines : TableColumn → ℕ → List ℕ
+columnLines c rows = headLine rows (c .type) (c .nullable) ++ rowLines c rows
+
 -- what is printed of an answer of so many rows: the head line and each row's, or only the refusal's (01, A listing)
 unfoldable pub listing : ℕ → Result TableColumn → List ℕ
-listing rows (ok c) = headLine rows (c .type) (c .nullable) ++ rowLines c rows
+listing rows (ok c) = columnLines c rows
 listing rows (refused n) = refusedLine n
+
+-- the longest listing of an answer: a head line of 27 bytes, 512 lines of at most 26 bytes beside their text, and 65,535 bytes of text in hex (01, A listing)
+abbrev pub listingMost : ℕ
+listingMost = 144409
+
+-- how many rows a table has; one that is refused has none
+abbrev pub rowsIn : Result Table → ℕ
+rowsIn (refused n) = 0
+rowsIn (ok t) = t .rows
+
+-- what is printed of a run over so many rows: the answer's listing, or only the refusal's line (01, A listing)
+abbrev pub runLines : ℕ → Result (List ℕ) → List ℕ
+runLines rows (refused n) = refusedLine n
+runLines rows (ok bytes) = listing rows (readAlone rows bytes)
+
+-- what is printed of a rule and a table, in a work buffer and an output of two lengths (01, A listing)
+unfoldable pub runListing : List ℕ → List ℕ → ℕ → ℕ → List ℕ
+runListing rule table work output = runLines (rowsIn (readTable table)) (run rule table work output)

@@ -10,11 +10,14 @@ use Rattle.scalar.specs.declared.value.Value.{Value}
 use Rattle.scalar.specs.Entry.{Entry}
 use Rattle.scalar.specs.TryCast.{orNull}
 use Rattle.scalar.specs.Value.{meaning, placeText}
+use Rattle.writer.specs.Written.{outputAfter}
+use Rattle.case.specs.Run.{workAfter}
+use Rattle.case.specs.Promise.{callRun}
 use Rattle.listing.specs.declared.put.PutAnswer.{PutAnswer}
 use Rattle.listing.specs.declared.put.PutAnswer.the-variants.{Ends, Full}
 use Rattle.listing.specs.declared.shown.Shown.{Shown}
 use Rattle.listing.specs.declared.shown.Shown.the-variants.{Null, Truth, Number, Negative, Bits, Text}
-use Rattle.listing.specs.Listing.{digits, decimal, hexBytes, nullWord, truthWord, integerBytes, entryBytes}
+use Rattle.listing.specs.Listing.{digits, decimal, hexBytes, nullWord, truthWord, integerBytes, entryBytes, runListing}
 
 -- bytes written over those at a place
 unfoldable pub wrote : List ℕ → ℕ → List ℕ → List ℕ
@@ -34,6 +37,12 @@ fitsAt out at bytes = leb (at + length bytes) (length out)
 pub record Put (out : List ℕ) (at : ℕ) (bytes : List ℕ) (r : PutAnswer) (out′ : List ℕ) : Type 0 where
   pub says : r ≡ cond (fitsAt out at bytes) (Ends (at + length bytes)) Full
   pub holds : out′ ≡ cond (fitsAt out at bytes) (wrote out at bytes) out
+
+-- the listing of a run at the front of a buffer, where it fits, and the final state of the run's buffers
+pub record Listed (rule table work output out : List ℕ) (r : PutAnswer) (work′ output′ out′ : List ℕ) : Type 0 where
+  pub put : Put out 0 (runListing rule table (length work) (length output)) r out′
+  pub work-is : work′ ≡ workAfter (callRun rule table work output) work
+  pub output-is : output′ ≡ outputAfter (callRun rule table work output) output
 
 -- the entry that a value is, given the table's bytes; null where it failed
 abbrev pub entryOf : List ℕ → Value → Entry

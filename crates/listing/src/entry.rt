@@ -15,7 +15,7 @@ ghost use mathlib.Core.List.{_∷_};
 ghost use Prim.Native.Nat.{suc, _+_, _≤_};
 ghost use lib.Dec.{leb};
 ghost use lib.ListN.{length};
-ghost use Rattle.listing.specs.Listing.{decimal, hexBytes, truthWord, entryBytes};
+ghost use Rattle.listing.specs.Listing.{decimal, hexBytes, truthWord, entryBytes, listingMost};
 ghost use Rattle.listing.specs.Putting.{Wrote, Put, entryOf, shownBytes};
 
 // The entry that a value is, with the table's bytes, at a place.
@@ -53,6 +53,24 @@ pub(crate) fn shown_fits(bytes: &[u8], s: Shown, room: usize) -> bool
         Shown::Negative(n) => decimal_places(n) < room,
         Shown::Bits(_) => 16 <= room,
         Shown::Text(start, size) => text_fits(place_text(bytes, start, size), room),
+    }
+}
+
+// How many bytes are shown, at most as many as a listing has.
+pub(crate) fn shown_size(bytes: &[u8], s: Shown) -> usize
+    requires { ⌜ length (shownBytes (now bytes) s) ≤ listingMost ⌝ }
+    ensures { λ r. ⌜ r ≡ length (shownBytes (now (bytes .entry)) s) ⌝ }
+{
+    match s {
+        Shown::Null => 4,
+        Shown::Truth(b) => if b { 4 } else { 5 },
+        Shown::Number(n) => decimal_places(n),
+        Shown::Negative(n) => 1 + decimal_places(n),
+        Shown::Bits(_) => 16,
+        Shown::Text(start, size) => {
+            let text = place_text(bytes, start, size);
+            1 + 2 * text.len()
+        },
     }
 }
 

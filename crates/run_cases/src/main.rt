@@ -1,5 +1,5 @@
-// Replays the stored listings, the stored runs, the refused listings as runs, and the cases of document 01 that are only run, and prints of
-// each kind how many agree, with the first that doesn't.
+// Replays the stored runs, the refused listings as runs, and the cases of document 01 that are only run, and prints of each kind how many
+// agree, with the first that doesn't.
 mod bytes;
 mod record;
 mod run;
@@ -7,13 +7,13 @@ mod text;
 
 use layout::part::part_of;
 use libc::STDOUT_FILENO;
-use listing::line::LINE_MOST;
+use listing::whole::LISTING_MOST;
 use record::Kind;
 use record::Tally;
 use record::replay;
 ghost use mathlib.Core.Path.{_≡_};
 ghost use lib.ListN.{length};
-ghost use Rattle.listing.specs.Listing.{lineMost};
+ghost use Rattle.listing.specs.Listing.{listingMost};
 
 // More bytes than a file of cases has.
 fn file_buffer() -> [u8; 524288]
@@ -29,11 +29,11 @@ fn work_buffer() -> [u8; 70000]
     [0; 70000]
 }
 
-// As many bytes as the longest line has.
-fn line_buffer() -> [u8; LINE_MOST]
-    ensures { λ r. ⌜ lineMost ≡ length r ⌝ }
+// As many bytes as the longest listing has.
+fn listing_buffer() -> [u8; LISTING_MOST]
+    ensures { λ r. ⌜ listingMost ≡ length r ⌝ }
 {
-    [0; LINE_MOST]
+    [0; LISTING_MOST]
 }
 
 fn print(s: &[u8]) {
@@ -63,8 +63,8 @@ fn print_tally(name: &[u8], t: Tally) {
 fn replay_all(name: &[u8], cases: &[u8], kind: Kind) {
     let mut work = work_buffer();
     let mut output = io::large_buffer();
-    let mut line = line_buffer();
-    let t = replay(cases, kind, &mut work, &mut output, &mut line);
+    let mut lines = listing_buffer();
+    let t = replay(cases, kind, &mut work, &mut output, &mut lines);
     print_tally(name, t);
 }
 
@@ -82,7 +82,6 @@ fn replay_file(name: &[u8], path: &[u8], kind: Kind) {
 }
 
 fn main() {
-    replay_file(b"listings", b"listings.bin", Kind::Listing);
     replay_file(b"runs", b"runs.bin", Kind::Run);
     replay_file(b"refusals", b"refusals.bin", Kind::Run);
     replay_file(b"limits", b"limits.bin", Kind::Listing);

@@ -24,34 +24,34 @@ pub(crate) struct Tally {
 const HEAD: usize = 20;
 
 // Whether the record that is the whole of a slice agrees, in buffers of the lengths that it asks for.
-fn case_agrees(s: &[u8], kind: Kind, work: &mut [u8], output: &mut [u8], line: &mut [u8]) -> bool {
+fn case_agrees(s: &[u8], kind: Kind, work: &mut [u8], output: &mut [u8], lines: &mut [u8]) -> bool {
     let table_at = HEAD + (read_u32(s, 0) as usize);
     let want_at = table_at + (read_u32(s, 4) as usize);
     let rule = part_of(s, HEAD, table_at);
     let table = part_of(s, table_at, want_at);
     let want = part_of(s, want_at, s.len());
     match kind {
-        Kind::Listing => listing_agrees(rule, table, want, work, output, line),
+        Kind::Listing => listing_agrees(rule, table, want, work, output, lines),
         Kind::Run => run_agrees(rule, table, want, work, output),
     }
 }
 
 // The same in a work buffer of the length that it asks for, and an output that is cut to what it asks for.
-fn cut_output(s: &[u8], kind: Kind, work: &mut [u8], output: &mut [u8], line: &mut [u8]) -> bool {
+fn cut_output(s: &[u8], kind: Kind, work: &mut [u8], output: &mut [u8], lines: &mut [u8]) -> bool {
     let size = read_u32(s, 12) as usize;
     if output.len() < size {
         return false;
     }
-    case_agrees(s, kind, work, &mut output[..size], line)
+    case_agrees(s, kind, work, &mut output[..size], lines)
 }
 
 // The same in buffers that are cut to what it asks for.
-fn cut_work(s: &[u8], kind: Kind, work: &mut [u8], output: &mut [u8], line: &mut [u8]) -> bool {
+fn cut_work(s: &[u8], kind: Kind, work: &mut [u8], output: &mut [u8], lines: &mut [u8]) -> bool {
     let size = read_u32(s, 8) as usize;
     if work.len() < size {
         return false;
     }
-    cut_output(s, kind, &mut work[..size], output, line)
+    cut_output(s, kind, &mut work[..size], output, lines)
 }
 
 // How many bytes the record at the start of a slice has.
@@ -91,7 +91,7 @@ pub(crate) fn replay(
     kind: Kind,
     work: &mut [u8],
     output: &mut [u8],
-    line: &mut [u8],
+    lines: &mut [u8],
 ) -> Tally {
     let mut t = Tally {
         total: 0,
@@ -105,7 +105,7 @@ pub(crate) fn replay(
             return counted(t, false);
         }
         let next = at + size;
-        let agrees = cut_work(&s[at..next], kind, work, output, line);
+        let agrees = cut_work(&s[at..next], kind, work, output, lines);
         t = counted(t, agrees);
         at = next;
     }

@@ -11,7 +11,7 @@ use lib.Dec.{eqb, ltb, leb}
 use lib.ListN.{length, getD}
 use borrow.Author.Tests.{ltb-true, ltb-false, leb-true, eqb-true, lt-ltb, le-ltb, le-leb, lt-leb, eq-eqb, ne-eqb}
 use Rattle.layout.specs.Bytes.{Bytes}
-use Rattle.layout.specs.Result.{Result, _>>=_, require}
+use Rattle.layout.specs.Result.{Result}
 use Rattle.scalar.specs.declared.types.DataType.{DataType}
 use Rattle.scalar.specs.declared.types.DataType.the-variants as DataType
 use Rattle.scalar.specs.declared.value.Value.{Value}
@@ -20,26 +20,28 @@ use Rattle.scalar.specs.Entry.{ofType, outcomeOfType}
 use Rattle.scalar.specs.Types.{typeNumber}
 use Rattle.scalar.specs.Value.{meaning, kindOf}
 use Rattle.writer.specs.declared.RunAnswer.{RunAnswer}
-use Rattle.writer.specs.declared.RunAnswer.the-variants.{Refused}
-use Rattle.writer.specs.Written.{outputAfter}
+use Rattle.writer.specs.declared.WriteAnswer.{WriteAnswer}
+use Rattle.writer.specs.declared.WriteAnswer.the-variants.{Run, NoColumn}
 use Rattle.writer.specs.Slots.{slotAt}
-use Rattle.writer.specs.Write.{RunGives, WriteAsks, ClassesAsk, PlainRows, kindFits, lengthsFit, slotFits, slotsFit, writable, slotKind, slotPayload, classesLong, numberType, classIn, classesIn, classed}
+use Rattle.writer.specs.Write.{RunGives, ColumnGives, WriteAsks, ClassesAsk, PlainRows, kindFits, lengthsFit, slotFits, slotsFit, writable, slotKind, slotPayload, classesLong, numberType, classIn, classesIn, classed}
 use Rattle.writer.specs.Writing.{eachRow, RowsAsk}
 use Rattle.writer.proofs.PlainLaws.{slot-fits, kind-plain}
 
--- ---- a run behind a test
+-- ---- rows that are a column, and rows that are none
 
--- the test failed
-pub gives-0 : {b : Bool} (run : Result (List ℕ)) {output : List ℕ} → b ≡ false → RunGives (require b 0 >>= λ _. run) output (Refused 0) output
-unfolding outputAfter
-gives-0 run e = rw e (record { says = refl; output-is = refl })
+pub no-column : {b : Bool} {run : Result (List ℕ)} {output : List ℕ} → b ≡ false → ColumnGives b run output NoColumn output
+no-column e = rw e (record { says = refl; output-is = refl })
 
--- it passed
-pub gives-run : {b : Bool} {run : Result (List ℕ)} {output output′ : List ℕ} {r : RunAnswer} → b ≡ true → RunGives run output r output′ → RunGives (require b 0 >>= λ _. run) output r output′
-gives-run e g = rw e g
+pub column-run : {b : Bool} {run : Result (List ℕ)} {output output′ : List ℕ} {r : RunAnswer} → b ≡ true → RunGives run output r output′ → ColumnGives b run output (Run r) output′
+column-run e g = rw e (record { says = ap Run (g .says); output-is = g .output-is })
 
-pub gives-rows : {b : Bool} {run : Result (List ℕ)} {output output′ : List ℕ} {r : RunAnswer} → b ≡ true → RunGives (require b 0 >>= λ _. run) output r output′ → RunGives run output r output′
-gives-rows e g = rw e at g
+-- of rows that are a column something else is said
+pub column-said : {b : Bool} {run : Result (List ℕ)} {output output′ : List ℕ} {a : WriteAnswer} → b ≡ true → ColumnGives b run output a output′ → a ≡ NoColumn → ⊥
+column-said e g n = let said = rw e at (g .says) in let z : _≡_ {A = ℕ} 0 1 = cc in omega arith
+
+-- and that is the run's
+pub gives-rows : {b : Bool} {run : Result (List ℕ)} {output output′ : List ℕ} {a : WriteAnswer} {r : RunAnswer} → b ≡ true → ColumnGives b run output a output′ → a ≡ Run r → RunGives run output r output′
+gives-rows e g is = let said = rw e at (g .says) in record { says = cc; output-is = rw e at (g .output-is) }
 
 -- two tests that both passed
 both : (a b : Bool) → (a && b) ≡ true → (a ≡ true) × (b ≡ true)
@@ -204,13 +206,9 @@ module _ (rule table w : List ℕ) (rows : ℕ) where
       pub rows-ask : RowsAsk w rows
       rows-ask = let f = length-facts fit in record { few = f .0; room = f .1 }
 
-      -- slots that don't
-      pub slots-refused : (t : DataType) {c : Bool} {code : ℕ} → c ≡ slotsFit code w rows → code ≡ typeNumber t → c ≡ false → writable rule table w rows t ≡ false
-      slots-refused t p q z = ap₂ _&&_ fit (sym (p ∙ ap (λ (k : ℕ). slotsFit k w rows) q) ∙ z)
-
-      -- slots that do
-      pub slots-written : (t : DataType) {c : Bool} {code : ℕ} → c ≡ slotsFit code w rows → code ≡ typeNumber t → c ≡ true → writable rule table w rows t ≡ true
-      slots-written t p q z = ap₂ _&&_ fit (sym (p ∙ ap (λ (k : ℕ). slotsFit k w rows) q) ∙ z)
+      -- then the slots tell
+      pub slots-tell : (t : DataType) {c d : Bool} {code : ℕ} → c ≡ slotsFit code w rows → code ≡ typeNumber t → c ≡ d → writable rule table w rows t ≡ d
+      slots-tell t p q z = ap₂ _&&_ fit (sym (p ∙ ap (λ (k : ℕ). slotsFit k w rows) q) ∙ z)
 
       -- plain rows do
       pub plain-written : {t : DataType} → Bytes w → PlainRows (slotKind w) rows t → writable rule table w rows t ≡ true

@@ -53,6 +53,7 @@ unfoldable pub offsetsFrom : ℕ → List Entry → List ℕ
 offsetsFrom from [] = numberBytes 4 from
 offsetsFrom from (e ∷ es) = numberBytes 4 from ++ offsetsFrom (from + length (textIn e)) es
 
+-- the offsets of a column of text; others have none
 abbrev pub offsetsOf : DataType → List Entry → List ℕ
 offsetsOf Boolean es = []
 offsetsOf Int32 es = []
@@ -60,6 +61,7 @@ offsetsOf Int64 es = []
 offsetsOf Float64 es = []
 offsetsOf Utf8 es = offsetsFrom 0 es
 
+-- the values of a column of a type: Booleans as bits
 abbrev pub valuesOf : DataType → List Entry → List ℕ
 valuesOf Boolean es = bitmap (map isTrue es)
 valuesOf Int32 es = numbersOf 4 es

@@ -1,19 +1,21 @@
--- What writing the answer promises, for every argument: 0 where it is no column of the type; else 15, 16, 17 or the answer at the front of
--- the output (01, Where a call stops).
+-- What writing the answer promises, for every argument: where the rows are no column of the type, just that; else 15, 16, 17 or the answer at
+-- the front of the output (01, Where a call stops).
 use mathlib.Core.Path.{_≡_}
-use mathlib.Core.Bool.{Bool, true, cond, _&&_, _||_}
+use mathlib.Core.Bool.{Bool, true, false, cond, _&&_, _||_}
 use mathlib.Core.List.{List, map}
 use Prim.Native.Nat.{ℕ, _+_, _*_, _<_, _≤_}
 use lib.Dec.{eqb, ltb, leb}
 use lib.ListN.{length, getD}
 use Rattle.layout.specs.Bytes.{byte, numberAt}
-use Rattle.layout.specs.Result.{Result, _>>=_, require}
+use Rattle.layout.specs.Result.{Result, _>>=_}
 use Rattle.scalar.specs.declared.types.DataType.{DataType}
 use Rattle.scalar.specs.declared.value.Value.{Value}
 use Rattle.scalar.specs.Types.{typeNumber}
 use Rattle.scalar.specs.Entry.{Outcome}
 use Rattle.scalar.specs.Value.{meaning, kindOf, valueOf}
 use Rattle.writer.specs.declared.RunAnswer.{RunAnswer}
+use Rattle.writer.specs.declared.WriteAnswer.{WriteAnswer}
+use Rattle.writer.specs.declared.WriteAnswer.the-variants.{Run, NoColumn}
 use Rattle.writer.specs.Written.{rowsFrom, entriesOf, writtenAs, runAnswer, outputAfter}
 use Rattle.writer.specs.Slots.{slotAt}
 use Rattle.writer.specs.Writing.{eachRow}
@@ -34,6 +36,21 @@ pub record RunGives (run : Result (List ℕ)) (output : List ℕ) (r : RunAnswer
 -- of rows that each have a value
 abbrev pub WriteGives : List ℕ → List ℕ → (ℕ → Value) → ℕ → DataType → Bool → List ℕ → RunAnswer → List ℕ → Type 0
 WriteGives rule table v rows t n output r output′ = RunGives (rowsRun rule table v rows t n (length output)) output r output′
+
+-- rows that are a column say what the run says
+abbrev pub writeAnswer : Bool → Result (List ℕ) → WriteAnswer
+writeAnswer true run = Run (runAnswer run)
+writeAnswer false run = NoColumn
+
+-- rows that are none leave the output untouched
+abbrev pub writeOutput : Bool → Result (List ℕ) → List ℕ → List ℕ
+writeOutput true run output = outputAfter run output
+writeOutput false run output = output
+
+-- what is said of rows that are a column or none, and the final state of the output
+pub record ColumnGives (column : Bool) (run : Result (List ℕ)) (output : List ℕ) (r : WriteAnswer) (output′ : List ℕ) : Type 0 where
+  pub says : r ≡ writeAnswer column run
+  pub output-is : output′ ≡ writeOutput column run output
 
 -- ---- rows by their slots
 
@@ -57,10 +74,6 @@ slotsFit code w rows = eachRow (slotFits code w) rows
 abbrev pub writable : List ℕ → List ℕ → List ℕ → ℕ → DataType → Bool
 writable rule table w rows t = lengthsFit rule table w rows && slotsFit (typeNumber t) w rows
 
--- where they can't: 0
-abbrev pub slotsRun : List ℕ → List ℕ → List ℕ → ℕ → DataType → Bool → ℕ → Result (List ℕ)
-slotsRun rule table w rows t n output = require (writable rule table w rows t) 0 >>= λ _. rowsRun rule table (slotAt w) rows t n output
-
 -- the same, fact by fact
 pub record WriteAsks (rule table w : List ℕ) (rows : ℕ) (t : DataType) : Type 0 where
   pub few : rows ≤ 512
@@ -69,10 +82,11 @@ pub record WriteAsks (rule table w : List ℕ) (rows : ℕ) (t : DataType) : Typ
   pub table-short : length table ≤ 65536
   pub each : (i : ℕ) → i < rows → slotFits (typeNumber t) w i ≡ true
 
--- the kind and the payload of a row's slot
+-- the kind of a row's slot
 abbrev pub slotKind : List ℕ → ℕ → ℕ
 slotKind w i = byte w (1024 + 9 * i)
 
+-- its payload
 abbrev pub slotPayload : List ℕ → ℕ → ℕ
 slotPayload w i = numberAt 8 w (1025 + 9 * i)
 
@@ -116,10 +130,6 @@ classesIn classes rows = eachRow (classIn classes) rows
 -- the rows' classes can be written as a column of a type, which is one of numbers
 abbrev pub classed : ℕ → DataType → List ℕ → List ℕ → Bool
 classed rows t classes payloads = classesLong rows classes payloads && numberType (typeNumber t) && classesIn classes rows
-
--- where they can't: 0
-abbrev pub classesRun : List ℕ → List ℕ → ℕ → DataType → Bool → List ℕ → List ℕ → ℕ → Result (List ℕ)
-classesRun rule table rows t n classes payloads output = require (classed rows t classes payloads) 0 >>= λ _. rowsRun rule table (classValue t classes payloads) rows t n output
 
 -- the arrays have a class for each row, and a number for each class that a row has
 pub record ClassesIn (rows : ℕ) (classes payloads : List ℕ) : Type 0 where

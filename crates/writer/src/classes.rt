@@ -1,5 +1,6 @@
 // The answer's column of rows that each have the number of a class: 17 and nothing, or its bytes at the front of the output.
 use crate::RunAnswer;
+use crate::WriteAnswer;
 use crate::plain::FLOAT64;
 use crate::plain::INT32;
 use crate::plain::plain_front;
@@ -12,14 +13,14 @@ ghost use mathlib.Core.Path.{_≡_};
 ghost use mathlib.Core.List.{List};
 ghost use Prim.Native.Nat.{ℕ, _+_, _≤_};
 ghost use lib.ListN.{length};
-ghost use Rattle.writer.specs.Write.{RunGives, WriteGives, ClassesIn, ClassesAsk, classValue, classPayload, classesLong, numberType, classesIn, classed, classesRun};
+ghost use Rattle.writer.specs.Write.{ColumnGives, WriteGives, ClassesIn, ClassesAsk, classValue, classPayload, classesLong, numberType, classesIn, classed, rowsRun};
 ghost use Rattle.writer.specs.Writing.{Wrote, rowBytes, plainNumbers};
 
 // How many classes have a number.
 const CLASSES: usize = 258;
 
-// The answer at the front of the output, and its length, of rows that each have the number of their class; or 17, and the output is unchanged. 0,
-// which is no refusal of a run, says that they are no column of the type.
+// The answer at the front of the output, and its length, of rows that each have the number of their class; or 17, or that they are no column of
+// the type, and the output is unchanged.
 pub fn write_classes(
     rows: usize,
     t: DataType,
@@ -27,13 +28,13 @@ pub fn write_classes(
     classes: &[u16],
     payloads: &[u64],
     output: &mut [u8],
-) -> RunAnswer
-    ensures { λ r. ⌜ ((rule table : List ℕ) → RunGives (classesRun rule table rows t nullable (now (classes .entry)) (now (payloads .entry)) (length (now (output .entry)))) (now (output .entry)) r (now (output .exit))) ⌝ }
+) -> WriteAnswer
+    ensures { λ r. ⌜ ((rule table : List ℕ) → ColumnGives (classed rows t (now (classes .entry)) (now (payloads .entry))) (rowsRun rule table (classValue t (now (classes .entry)) (now (payloads .entry))) rows t nullable (length (now (output .entry)))) (now (output .entry)) r (now (output .exit))) ⌝ }
 {
     if !classes_fit(rows, t, classes, payloads) {
-        return RunAnswer::Refused(0);
+        return WriteAnswer::NoColumn;
     }
-    write_classed(rows, t, nullable, classes, payloads, output)
+    WriteAnswer::Run(write_classed(rows, t, nullable, classes, payloads, output))
 }
 
 // Whether the type is one of numbers, and every row's class has a number.

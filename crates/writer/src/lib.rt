@@ -14,3 +14,9 @@ pub enum RunAnswer {
     Answered(usize),
     Refused(u8),
 }
+
+// What writing rows says: what a run with them says, or that they are no column of the type.
+pub enum WriteAnswer {
+    Run(RunAnswer),
+    NoColumn,
+}

@@ -1,5 +1,6 @@
 // The answer's column, written to the output: 15, 16 or 17 and nothing, or its bytes at the front.
 use crate::RunAnswer;
+use crate::WriteAnswer;
 use crate::bitmap::put_bits;
 use crate::numbers::put_numbers;
 use crate::plain::plain_rows;
@@ -21,7 +22,7 @@ ghost use lib.ListN.{length};
 ghost use Rattle.layout.specs.Bytes.{bitmapLength};
 ghost use Rattle.layout.specs.Field.{fieldBytes};
 ghost use Rattle.writer.specs.Slots.{slotAt};
-ghost use Rattle.writer.specs.Write.{RunGives, WriteGives, WriteAsks, kindFits, lengthsFit, slotsFit, slotsRun};
+ghost use Rattle.writer.specs.Write.{ColumnGives, WriteGives, WriteAsks, kindFits, lengthsFit, slotsFit, writable, rowsRun};
 ghost use Rattle.writer.specs.Writing.{Wrote, RowsAsk, someOfKind, rowBytes, rowNumbers, rowBits, rowText, rowOffset, rowValidity, rowValues, rowColumn, validitySize, valuesSize};
 
 // Most rows, where their slots end, and most bytes of a rule and of a table.
@@ -51,8 +52,7 @@ pub(crate) const VALUES: u8 = 4;
 
 const OFFSETS: u8 = 5;
 
-// The answer at the front of the output, and its length; or 15, 16 or 17, and the output is unchanged. 0, which is no refusal of a run, says
-// that the slots are no column of the type.
+// The answer at the front of the output, and its length; or 15, 16 or 17, or that the slots are no column of the type, and the output is unchanged.
 pub fn write_answer(
     rule: &[u8],
     table: &[u8],
@@ -61,19 +61,19 @@ pub fn write_answer(
     t: DataType,
     nullable: bool,
     output: &mut [u8],
-) -> RunAnswer
-    ensures { λ r. ⌜ RunGives (slotsRun (now (rule .entry)) (now (table .entry)) (now (work .entry)) rows t nullable (length (now (output .entry)))) (now (output .entry)) r (now (output .exit)) ⌝ }
+) -> WriteAnswer
+    ensures { λ r. ⌜ ColumnGives (writable (now (rule .entry)) (now (table .entry)) (now (work .entry)) rows t) (rowsRun (now (rule .entry)) (now (table .entry)) (slotAt (now (work .entry))) rows t nullable (length (now (output .entry)))) (now (output .entry)) r (now (output .exit)) ⌝ }
 {
     if !lengths_fit(rule, table, work, rows) {
-        return RunAnswer::Refused(0);
+        return WriteAnswer::NoColumn;
     }
     if plain_rows(work, rows, t) {
-        return write_plain(work, rows, t, nullable, output);
+        return WriteAnswer::Run(write_plain(work, rows, t, nullable, output));
     }
     if !slots_fit(work, rows, type_number(t)) {
-        return RunAnswer::Refused(0);
+        return WriteAnswer::NoColumn;
     }
-    write_rows(rule, table, work, rows, t, nullable, output)
+    WriteAnswer::Run(write_rows(rule, table, work, rows, t, nullable, output))
 }
 
 // Whether the rows have slots, and their texts can be counted.

@@ -1,5 +1,5 @@
--- `finish` gives each row's value, 0 where none is held. The loop's invariant: the rows before i have theirs.
-use Rattle.builder.proofs.BuilderLaws.{finish-gives, FinishedSoFar, finished-none, finished-more}
+-- `finish` gives each row's value, 0 where none is held. The loop's invariant: the rows before i have theirs, and zeros stand behind.
+use Rattle.builder.proofs.BuilderLaws.{finish-is, FinishedSoFar, finished-none, finished-more}
 use borrow.Author.Needs.{needs}
 use mathlib.Core.Path.{_≡_, refl}
 use Prim.Native.Nat.{_-_, _≤_}
@@ -21,7 +21,7 @@ finish-spec =
     Inv-loop
     μ-loop
     (λ c κs. tt)
-    (λ c. ((search needs, search needs), omega arith, finished-none (c .before .args .t1 .held) (c .before .args .t1 .values) _ refl))
+    (λ c. ((search needs, search needs), omega arith, finished-none (c .before .args .t1 .held) (c .before .args .t1 .values)))
     (λ c. omega (arith, c .before .before .count-of .ensures, c .before .loop .inv .1))
     (λ c. omega (arith, c .before .before .before .count-of .ensures, c .before .before .loop .inv .1))
     (λ c. omega (arith, c .before .before .before .count-of .ensures, c .before .before .loop .inv .1))
@@ -31,4 +31,4 @@ finish-spec =
     (λ c. omega (arith, c .before .before .before .before .before .count-of .ensures, c .before .before .before .before .loop .inv .1))
     (λ c. omega arith)
     (λ c. (c .before .before .before .before .loop .inv .0, omega arith, finished-more (c .before .before .before .before .before .before .args .t1 .held) (c .before .before .before .before .before .before .args .t1 .values) (c .before .before .before .before .loop .i) (c .before .before .before .before .loop .out) (c .kept .result) (c .before .before .before .before .loop .inv .2) (omega (arith, c .before .before .before .before .before .count-of .ensures)) (c .kept .ensures)))
-    (λ c. finish-gives (c .before .before .before .args .t1) (c .before .before .count-of .result) (c .before .loop .i) (c .before .loop .out) (c .before .before .count-of .ensures) (c .before .loop .inv .2) (omega arith) (c .before .loop .inv .0 .0) (c .before .loop .inv .0 .1)))
+    (λ c. finish-is (c .before .before .before .args .t1) (c .before .loop .inv .0 .0) (c .before .loop .inv .0 .1) (c .before .before .count-of .result) (c .before .loop .i) (c .before .loop .out) (c .before .before .count-of .ensures) (c .before .loop .inv .2) (omega arith)))

@@ -1,7 +1,8 @@
 -- The rows' classes are written, or the slots, which have the outcomes.
 use mathlib.Core.Path.{refl, _∙_}
+use mathlib.Core.List.{[]}
 use native.Mathlib.Omega.{arith}
-use Rattle.case.proofs.EvaluateLaws.{root-asks, rows-framed, by-classes, by-slots}
+use Rattle.case.proofs.EvaluateLaws.{root-asks, rows-framed, classes-column, by-classes, slots-column, by-slots}
 use Rattle.case.proofs.LookUpTrees.{zeros}
 use borrow.Author.Needs.{needs}
 use Rattle.case.proofs.evaluate.answer_rows.Statement.{statement}
@@ -19,11 +20,13 @@ answer-rows-spec =
     (λ c. search needs)
     (λ c. search needs)
     (λ c κs. search needs)
-    (λ c. c .before .before .before .before .before .before .before .before .before .before .before .before .class-rows .ensures .long ∙ c .before .before .before .before .before .before .before .before .before .before .before .before .before .before .before .before .before .before .before .all-rows .ensures .long)
+    (λ c κs. classes-column (c .before .before .before .before .before .before .before .before .before .before .before .before .before .before .before .before .before .before .before .before .before .before .before .before .before .pre) (c .before .before .before .before .before .before .before .before .before .before .before .before .before .before .before .before .before .before .before .all-rows .ensures) (c .before .before .before .before .before .before .before .before .before .before .before .before .class-rows .ensures) (c .before .before .before .before .before .before .if1 .taken) (c .before .before .write-classes .ensures [] []))
+    (λ c. c .before .before .before .before .before .before .before .before .before .before .before .before .before .class-rows .ensures .long ∙ c .before .before .before .before .before .before .before .before .before .before .before .before .before .before .before .before .before .before .before .before .all-rows .ensures .long)
     (λ c. search needs)
-    (λ c. by-classes (c .before .before .before .before .before .before .before .before .before .before .before .before .before .before .before .before .before .before .before .before .before .before .before .before .before .pre) (c .before .before .before .before .before .before .before .before .before .before .before .before .before .before .before .before .before .before .before .all-rows .ensures) (c .before .before .before .before .before .before .before .before .before .before .before .before .class-rows .ensures) (c .before .before .before .before .before .before .if1 .taken) (c .before .before .write-classes .ensures))
+    (λ c. by-classes (c .before .before .before .before .before .before .before .before .before .before .before .before .before .before .before .before .before .before .before .before .before .before .before .before .before .before .pre) (c .before .before .before .before .before .before .before .before .before .before .before .before .before .before .before .before .before .before .before .before .all-rows .ensures) (c .before .before .before .before .before .before .before .before .before .before .before .before .before .class-rows .ensures) (c .before .before .before .before .before .before .before .if1 .taken) (c .before .before .before .write-classes .ensures) (c .run-of .ensures))
     (λ c κs. rows-framed (c .before .before .before .before .before .before .before .before .before .before .before .before .before .before .before .before .before .before .before .before .pre) (c .before .before .before .before .before .before .before .before .before .before .before .before .before .before .all-rows .ensures) (c .before .before .before .before .before .before .before .class-rows .ensures))
     (λ c κs. search needs)
+    (λ c κs. slots-column (c .before .before .before .before .before .before .before .before .before .before .before .before .before .before .before .before .before .before .before .before .before .before .before .before .before .before .before .before .pre) (c .before .before .before .before .before .before .before .before .before .before .before .before .before .before .before .before .before .before .before .before .before .before .all-rows .ensures) (c .before .before .before .before .before .before .before .before .before .before .before .before .before .before .before .class-rows .ensures) (c .before .before .before .before .before .before .before .expr .ensures) (c .before .before .write-answer .ensures))
     (λ c. search needs)
     (λ c. search needs)
-    (λ c. by-slots (c .before .before .before .before .before .before .before .before .before .before .before .before .before .before .before .before .before .before .before .before .before .before .before .before .before .before .before .before .pre) (c .before .before .before .before .before .before .before .before .before .before .before .before .before .before .before .before .before .before .before .before .before .before .all-rows .ensures) (c .before .before .before .before .before .before .before .before .before .before .before .before .before .before .before .class-rows .ensures) (c .before .before .before .before .before .before .before .expr .ensures) (c .before .before .write-answer .ensures)))
+    (λ c. by-slots (c .before .before .before .before .before .before .before .before .before .before .before .before .before .before .before .before .before .before .before .before .before .before .before .before .before .before .before .before .before .pre) (c .before .before .before .before .before .before .before .before .before .before .before .before .before .before .before .before .before .before .before .before .before .before .before .all-rows .ensures) (c .before .before .before .before .before .before .before .before .before .before .before .before .before .before .before .before .class-rows .ensures) (c .before .before .before .before .before .before .before .before .expr .ensures) (c .before .before .before .write-answer .ensures) (c .run-of2 .ensures)))

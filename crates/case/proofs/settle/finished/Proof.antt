@@ -9,4 +9,4 @@ finished-spec =
     tie.close
     (tie.spec
     (λ c κs. search needs)
-    (λ c. finished-at (c .before .before .args .b) (c .before .finish .result) (c .before .finish .ensures) (c .before .before .pre)))
+    (λ c. finished-at (c .before .before .args .b) (c .before .finish .result) (search needs) (search needs) (c .before .finish .ensures) (c .before .before .pre)))

@@ -7,12 +7,12 @@ use Rattle.run_cases.proofs.record.replay.Statement.{statement}
 use Rattle.run_cases.proofs.record.replay.Tie as tie
 
 abbrev Inv-loop : tie.InvT-loop
-Inv-loop s kind work₀ output₀ line₀ t₀ at₀ work output line t at =
+Inv-loop s kind work₀ output₀ lines₀ t₀ at₀ work output lines t at =
     (at ≤ length s) × (t .total ≤ at) × (t .agree ≤ t .total)
-    × (length work ≡ length work₀) × (length output ≡ length output₀) × (length line ≡ length line₀)
+    × (length work ≡ length work₀) × (length output ≡ length output₀) × (length lines ≡ length lines₀)
 
 abbrev μ-loop : tie.MeasureT-loop
-μ-loop s kind work₀ output₀ line₀ t₀ at₀ work output line t at = length s - at
+μ-loop s kind work₀ output₀ lines₀ t₀ at₀ work output lines t at = length s - at
 
 pub replay-spec : {M : Type 1} → statement M
 replay-spec =
