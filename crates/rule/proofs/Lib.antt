@@ -12,6 +12,7 @@ pub mod ProjectionLaws
 pub mod ReadColumns
 pub mod NodeLaws
 pub mod WalkLaws
+pub mod WalkExamples
 pub mod LiteralLaws
 pub mod TypeOfLaws
 pub mod ConstantLaws

@@ -17,3 +17,5 @@ pub mod Answers
 pub mod Walks
 pub mod ConstantWalks
 pub mod AnswerWalks
+pub mod Walked
+pub mod WalkedStrategy
