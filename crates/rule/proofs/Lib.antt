@@ -14,6 +14,7 @@ pub mod MarksLaws
 pub mod ReadBack
 pub mod NodeLaws
 pub mod WalkLaws
+pub mod WalkExamples
 pub mod LiteralLaws
 pub mod TypeOfLaws
 pub mod ConstantLaws

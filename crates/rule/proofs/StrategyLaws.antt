@@ -2,7 +2,7 @@
 use mathlib.Core.Path.{_≡_, refl, ap, ap₂, sym, _∙_}
 use mathlib.Core.Bool.{Bool, true, false, cond, not, _&&_, _||_, and-assoc}
 use mathlib.Core.List.{List, [], _∷_, _++_}
-use Prim.Native.Nat.{ℕ, _+_, _-_, _*_, _%_, _<_, _≤_}
+use Prim.Native.Nat.{ℕ, zero, suc, _+_, _-_, _*_, _%_, _<_, _≤_}
 use native.Mathlib.Omega.{arith}
 use lib.Dec.{eqb, ltb}
 use lib.ListN.{length}
@@ -13,16 +13,19 @@ use Rattle.scalar.specs.Types.{typeNumber, sameType}
 use Rattle.scalar.specs.Entry.{isNull}
 use Rattle.rule.specs.declared.strategy.Strategy.{Strategy}
 use Rattle.rule.specs.declared.strategy.Strategy.the-variants.{NoExpression, WithExpression, InfallibleExprOrNull, ScalarOrScalar, ExpressionOrExpression, WithExprScalarLookupTable}
-use Rattle.rule.specs.Tree.{Expr, Branches, noMore, branch, Optional, absent, present, branchCount, isNullLiteral}
-use Rattle.rule.specs.TreeBytes.{isPresent}
+use Rattle.rule.specs.Tree.{Expr, column, literal, negation, negative, isNotNull, cast, tryCast, equal, less, caseWhen, Branches, noMore, branch, Optional, absent, present, branchCount, isNullLiteral}
+use Rattle.rule.specs.TreeBytes.{isPresent, flagsOf}
 use Rattle.rule.specs.Typing.{typeOf}
 use Rattle.rule.specs.Strategy.{isColumn, isLiteral, dropNull, allLiterals, someWhenValue, elseServes, tableServes, singleBranch, strategyOf, strategy}
 use Rattle.rule.specs.Node.{NodeAt}
-use Rattle.rule.specs.Walks.{branchTrees, optionalTrees, nodeTag, TreesAt, EndGives, BehindGives, TypeGives}
-use Rattle.rule.specs.AnswerWalks.{treesLiteral, NullLiteralGives, ElseThereGives, LiteralsGives, SomeWhenGives, ElseServesGives, TableServesGives, SingleGives, StrategyGives}
-use Rattle.rule.proofs.NodeLaws.{Tagged, ofColumn, ofLiteral, ofNegation, ofNegative, ofIsNotNull, ofCast, ofTryCast, ofEqual, ofLess, ofCase, tagged-by, node-byte, node-children, case-counted, trees-split, trees-one, trees-none, trees-some}
-use Rattle.rule.proofs.WalkLaws.{node-of-tag, nothing-behind, first-tree, first-two, base-flag, branches-length}
+use Rattle.rule.specs.Walks.{branchTrees, optionalTrees, nodeTag, TreesAt}
+use Rattle.rule.specs.AnswerWalks.{treesLiteral, StrategyGives}
+use Rattle.rule.specs.Walked.{fieldEnd, behindFields, typeAt}
+use Rattle.rule.specs.WalkedStrategy.{literalThere, nullThere, elseThere, literalsThere, whenThere, elseServesAt, tableServesAt, singleBy, singleAt, branchesAt, baseCount, strategyAt}
+use Rattle.rule.proofs.NodeLaws.{Tagged, ofColumn, ofLiteral, ofNegation, ofNegative, ofIsNotNull, ofCast, ofTryCast, ofEqual, ofLess, ofCase, node-byte, node-tag, node-children, trees-split, trees-one, trees-none, trees-some}
+use Rattle.rule.proofs.WalkLaws.{node-of-tag, end-gives, behind-gives, first-tree, first-two, base-flag, branches-length}
 use Rattle.rule.proofs.LiteralLaws.{mark-told}
+use Rattle.rule.proofs.TypeOfLaws.{type-gives}
 
 -- a literal is told by its tag
 literal-tag : {tag : ℕ} {e : Expr} → Tagged tag e → isLiteral e ≡ eqb tag 17
@@ -51,221 +54,183 @@ column-tag (ofLess a b) = refl
 column-tag (ofCase b bs e) = refl
 
 -- by the byte that was read
-is-literal : {rule : List ℕ} {at end depth tag : ℕ} {e : Expr} → NodeAt rule at end e depth → tag ≡ byte rule at → tag ≡ 17 → isLiteral e ≡ true
-is-literal {tag = tag} n read is = literal-tag (node-of-tag n (sym read)) ∙ eq-eqb tag 17 is
+literal-at : {rule : List ℕ} {at end depth : ℕ} {e : Expr} → NodeAt rule at end e depth → literalThere rule at ≡ isLiteral e
+literal-at n = sym (literal-tag (node-of-tag n refl))
 
-no-literal : {rule : List ℕ} {at end depth tag : ℕ} {e : Expr} → NodeAt rule at end e depth → tag ≡ byte rule at → (tag ≡ 17 → ⊥) → isLiteral e ≡ false
-no-literal {tag = tag} n read is = literal-tag (node-of-tag n (sym read)) ∙ ne-eqb tag 17 is
+column-at : {rule : List ℕ} {at end depth : ℕ} {e : Expr} → NodeAt rule at end e depth → eqb (byte rule at) 16 ≡ isColumn e
+column-at n = sym (column-tag (node-of-tag n refl))
 
--- a null literal is a literal
-null-literal : (e : Expr) → isLiteral e ≡ false → isNullLiteral e ≡ false
-null-literal e = go (tagged-by e (nodeTag e) refl)
+-- a null literal, by its tag and mark
+pub null-other : (rule : List ℕ) (at : ℕ) {tag : ℕ} → tag ≡ byte rule at → (tag ≡ 17 → ⊥) → false ≡ nullThere rule at
+unfolding nullThere
+null-other rule at read is = rw (ne-eqb (byte rule at) 17 (λ p. is (read ∙ p)))
+
+pub null-mark : (rule : List ℕ) (at : ℕ) {tag mark : ℕ} → tag ≡ byte rule at → tag ≡ 17 → mark ≡ byte rule (at + 4) → eqb mark 1 ≡ nullThere rule at
+unfolding nullThere
+null-mark rule at read is marked = rw (eq-eqb (byte rule at) 17 (sym read ∙ is)) (ap (λ (x : ℕ). eqb x 1) marked)
+
+-- whatever node stands at the place
+null-at : {rule : List ℕ} {at end depth : ℕ} (e : Expr) → NodeAt rule at end e depth → nullThere rule at ≡ isNullLiteral e
+unfolding nullThere
+null-at {rule} {at} {end} {depth} e n = ap (λ (tag : ℕ). eqb tag 17 && eqb (byte rule (at + 4)) 1) (node-tag n) ∙ go e n
   where
-    go : {tag : ℕ} {f : Expr} → Tagged tag f → isLiteral f ≡ false → isNullLiteral f ≡ false
-    go (ofColumn c) p = refl
-    go (ofLiteral t v) p = let z : _≡_ {A = ℕ} 0 1 = cc in absurd (omega arith)
-    go (ofNegation f) p = refl
-    go (ofNegative f) p = refl
-    go (ofIsNotNull f) p = refl
-    go (ofCast t f) p = refl
-    go (ofTryCast t f) p = refl
-    go (ofEqual a b) p = refl
-    go (ofLess a b) p = refl
-    go (ofCase b bs f) p = refl
-
-pub null-other : {rule : List ℕ} {at : ℕ} → (byte rule at ≡ 17 → ⊥) → NullLiteralGives rule at false
-null-other is = record { is = λ end e depth n. sym (null-literal e (no-literal n refl is)) }
-
-pub null-mark : {rule : List ℕ} {at mark : ℕ} → byte rule at ≡ 17 → mark ≡ byte rule (at + 4) → NullLiteralGives rule at (eqb mark 1)
-null-mark {rule} {at} {mark} is read = record { is = λ end e depth n. go e (node-of-tag n is) n }
-  where
-    go : {end depth : ℕ} (e : Expr) → Tagged 17 e → NodeAt rule at end e depth → eqb mark 1 ≡ isNullLiteral e
-    go e (ofLiteral t v) n = ap (λ (x : ℕ). eqb x 1) (read ∙ node-byte 1 (at + 4) n (omega arith) (omega arith)) ∙ mark-told (isNull v)
+    go : (f : Expr) → NodeAt rule at end f depth → (eqb (nodeTag f) 17 && eqb (byte rule (at + 4)) 1) ≡ isNullLiteral f
+    go (column c) m = refl
+    go (literal t v) m = ap (λ (x : ℕ). eqb x 1) (node-byte 1 (at + 4) m (omega arith) (omega arith)) ∙ mark-told (isNull v)
+    go (negation f) m = refl
+    go (negative f) m = refl
+    go (isNotNull f) m = refl
+    go (cast t f) m = refl
+    go (tryCast t f) m = refl
+    go (equal a b) m = refl
+    go (less a b) m = refl
+    go (caseWhen b bs els) m = refl
 
 -- an ELSE that is there
+pub there-none : (rule : List ℕ) {at end : ℕ} → at ≡ end → false ≡ elseThere rule at end
+unfolding elseThere
+there-none rule {at} {end} same = rw (eq-eqb at end same)
+
+pub there-some : (rule : List ℕ) {at end : ℕ} {null : Bool} → (at ≡ end → ⊥) → null ≡ nullThere rule at → not null ≡ elseThere rule at end
+unfolding elseThere
+there-some rule {at} {end} differ is = rw (ne-eqb at end differ) (ap not is)
+
+-- one that is dropped is not
 dropped : (e : Expr) (null : Bool) → isNullLiteral e ≡ null → isPresent (dropNull (present e)) ≡ not null
 dropped e true p = rw p
 dropped e false p = rw p
 
-pub there-none : {rule : List ℕ} {at end : ℕ} → at ≡ end → ElseThereGives rule at end false
-there-none {rule} {at} {end} same = record { is = go }
+there-at : {rule : List ℕ} {at end depth : ℕ} (els : Optional) → TreesAt rule at end (optionalTrees els) depth → elseThere rule at end ≡ isPresent (dropNull els)
+there-at {rule} absent t = sym (there-none rule (trees-none t))
+there-at {rule} {at} {end} (present e) t =
+    let before = trees-some t in
+    sym (dropped e (nullThere rule at) (sym (null-at e (trees-one t))) ∙ there-some rule {at = at} {end = end} (λ p. omega arith) refl)
+
+-- literals from the place on, as many as are left
+pub literals-found : (rule : List ℕ) (place : ℕ) {left tag : ℕ} {all : Bool} → literalsThere rule place left ≡ all → 0 < left → tag ≡ byte rule place → (tag ≡ 17 → ⊥) → false ≡ all
+unfolding literalsThere
+literals-found rule place {left = zero} same some read is = absurd (omega arith)
+literals-found rule place {left = suc n} same some read is = let k = ne-eqb (byte rule place) 17 (λ p. is (read ∙ p)) in sym (ap (λ (b : Bool). b && literalsThere rule (fieldEnd rule place) n) k) ∙ same
+
+pub literals-next : (rule : List ℕ) (place : ℕ) {left tag next : ℕ} {all : Bool} → literalsThere rule place left ≡ all → 0 < left → tag ≡ byte rule place → tag ≡ 17 → next ≡ fieldEnd rule place
+    → literalsThere rule next (left - 1) ≡ all
+unfolding literalsThere
+literals-next rule place {left = zero} same some read is ends = absurd (omega arith)
+literals-next rule place {left = suc n} same some read is ends =
+    let k = eq-eqb (byte rule place) 17 (sym read ∙ is) in
+    let one : suc n - 1 ≡ n = omega arith in
+    ap₂ (literalsThere rule) ends one ∙ sym (ap (λ (b : Bool). b && literalsThere rule (fieldEnd rule place) n) k) ∙ same
+
+pub literals-end : (rule : List ℕ) (place : ℕ) {left : ℕ} {all : Bool} → literalsThere rule place left ≡ all → left ≤ 0 → true ≡ all
+unfolding literalsThere
+literals-end rule place {left = zero} same none = same
+literals-end rule place {left = suc n} same none = absurd (omega arith)
+
+literals-at : {rule : List ℕ} {at end depth : ℕ} (es rest : List Expr) → TreesAt rule at end (es ++ rest) depth → literalsThere rule at (length es) ≡ treesLiteral es
+unfolding literalsThere
+literals-at [] rest t = refl
+literals-at (e ∷ es) rest t = let (first, later) = first-tree (end-gives refl) t in ap₂ _&&_ (literal-at first) (literals-at es rest later)
+
+-- a WHEN of the branches that are left isn't null
+pub whens-found : (rule : List ℕ) (place : ℕ) {left : ℕ} {null some : Bool} → whenThere rule place left ≡ some → 0 < left → null ≡ nullThere rule place → null ≡ false → true ≡ some
+unfolding whenThere
+whens-found rule place {left = zero} same more read is = absurd (omega arith)
+whens-found rule place {left = suc n} same more read is = sym (ap (λ (b : Bool). not b || whenThere rule (behindFields rule place 2) n) (sym read ∙ is)) ∙ same
+
+pub whens-next : (rule : List ℕ) (place : ℕ) {left next : ℕ} {null some : Bool} → whenThere rule place left ≡ some → 0 < left → null ≡ nullThere rule place → null ≡ true
+    → next ≡ behindFields rule place 2 → whenThere rule next (left - 1) ≡ some
+unfolding whenThere
+whens-next rule place {left = zero} same more read is behind = absurd (omega arith)
+whens-next rule place {left = suc n} same more read is behind =
+    let one : suc n - 1 ≡ n = omega arith in
+    ap₂ (whenThere rule) behind one ∙ sym (ap (λ (b : Bool). not b || whenThere rule (behindFields rule place 2) n) (sym read ∙ is)) ∙ same
+
+pub whens-end : (rule : List ℕ) (place : ℕ) {left : ℕ} {some : Bool} → whenThere rule place left ≡ some → left ≤ 0 → false ≡ some
+unfolding whenThere
+whens-end rule place {left = zero} same none = same
+whens-end rule place {left = suc n} same none = absurd (omega arith)
+
+whens-at : {rule : List ℕ} {at end depth : ℕ} (bs : Branches) (rest : List Expr) → TreesAt rule at end (branchTrees bs ++ rest) depth → whenThere rule at (branchCount bs) ≡ someWhenValue bs
+unfolding whenThere someWhenValue branchCount
+whens-at noMore rest t = refl
+whens-at {end = end} {depth} (branch w u bs) rest t =
+    let (m, first, later) = trees-split t in
+    let behind = behind-gives refl .stand end (w ∷ u ∷ []) (branchTrees bs ++ rest) depth refl t in
+    ap₂ (λ (a b : Bool). not a || b) (null-at w first) (whens-at bs rest behind)
+
+-- whether an ELSE serves beside a THEN
+module _ (rule : List ℕ) (at end then : ℕ) {there : Bool} (is : there ≡ elseThere rule at end) where
+  pub serves-none : there ≡ false → true ≡ elseServesAt rule at end then
+  unfolding elseServesAt
+  serves-none none = rw (sym is ∙ none)
+
+  pub serves-other : {tag : ℕ} → there ≡ true → tag ≡ byte rule at → (tag ≡ 17 → ⊥) → false ≡ elseServesAt rule at end then
+  unfolding elseServesAt
+  serves-other some read other = rw (sym is ∙ some, ne-eqb (byte rule at) 17 (λ p. other (read ∙ p)))
+
+  pub serves-literal : {tag x y : ℕ} {a b : DataType} → there ≡ true → tag ≡ byte rule at → tag ≡ 17 → a ≡ typeAt rule at → x ≡ typeNumber a → b ≡ typeAt rule then → y ≡ typeNumber b
+      → eqb x y ≡ elseServesAt rule at end then
+  unfolding elseServesAt
+  serves-literal some read one typed x-is typed-then y-is =
+      rw (sym is ∙ some, eq-eqb (byte rule at) 17 (sym read ∙ one)) (ap₂ eqb (x-is ∙ ap typeNumber typed) (y-is ∙ ap typeNumber typed-then))
+
+serves-at : {rule : List ℕ} {at end depth then m d : ℕ} (els : Optional) {t : Expr} → TreesAt rule at end (optionalTrees els) depth → NodeAt rule then m t d
+    → elseServesAt rule at end then ≡ elseServes (typeOf t) (dropNull els)
+unfolding elseServesAt
+serves-at {rule} {at} {then = then} absent trees n = ap (λ (b : Bool). not b || (literalThere rule at && sameType (typeAt rule at) (typeAt rule then))) (there-at absent trees)
+serves-at {rule} {at} {end} {depth} {then} {m} {d} (present e) {t} trees n =
+    ap (λ (b : Bool). not b || (literalThere rule at && sameType (typeAt rule at) (typeAt rule then))) (there-at (present e) trees) ∙ go (isNullLiteral e)
   where
-    go : (els : Optional) (depth : ℕ) → TreesAt rule at end (optionalTrees els) depth → false ≡ isPresent (dropNull els)
-    go absent depth t = refl
-    go (present e) depth t = absurd (let k = trees-some t in omega arith)
+    same : (literalThere rule at && sameType (typeAt rule at) (typeAt rule then)) ≡ (isLiteral e && sameType (typeOf e) (typeOf t))
+    same = ap₂ _&&_ (literal-at (trees-one trees)) (ap₂ sameType (type-gives refl end e depth (trees-one trees)) (type-gives refl m t d n))
 
-pub there-some : {rule : List ℕ} {at end : ℕ} {null : Bool} → (at ≡ end → ⊥) → NullLiteralGives rule at null → ElseThereGives rule at end (not null)
-there-some {rule} {at} {end} {null} differ nulls = record { is = go }
-  where
-    go : (els : Optional) (depth : ℕ) → TreesAt rule at end (optionalTrees els) depth → not null ≡ isPresent (dropNull els)
-    go absent depth t = absurd (differ (trees-none t))
-    go (present e) depth t = sym (dropped e null (sym (nulls .is end e depth (trees-one t))))
+    go : (null : Bool) → (not (isPresent (cond null absent (present e))) || (literalThere rule at && sameType (typeAt rule at) (typeAt rule then))) ≡ elseServes (typeOf t) (cond null absent (present e))
+    go true = refl
+    go false = same
 
--- literals from the place on, if all are; as many as are left
-pub record LiteralsLeft (rule : List ℕ) (at count place left : ℕ) : Type 0 where
-  pub stand : (end : ℕ) (es rest : List Expr) (depth : ℕ) → length es ≡ count → TreesAt rule at end (es ++ rest) depth
-      → (fs : List Expr) × (length fs ≡ left) × TreesAt rule place end (fs ++ rest) depth × (treesLiteral es ≡ treesLiteral fs)
-
-pub literals-start : {rule : List ℕ} {at count : ℕ} → LiteralsLeft rule at count at count
-literals-start = record { stand = λ end es rest depth n t. (es, n, t, refl) }
-
-module _ {rule : List ℕ} {at count place left tag : ℕ} (inv : LiteralsLeft rule at count place left) where
-  pub literals-found : 0 < left → tag ≡ byte rule place → (tag ≡ 17 → ⊥) → LiteralsGives rule at count false
-  literals-found some read is = record { is = λ end es rest depth n t. let (fs, size, trees, same) = inv .stand end es rest depth n t in go fs rest size trees ∙ sym same }
-    where
-      go : {end depth : ℕ} (fs rest : List Expr) → length fs ≡ left → TreesAt rule place end (fs ++ rest) depth → false ≡ treesLiteral fs
-      go [] rest size t = absurd (omega arith)
-      go (f ∷ fs) rest size t = rw (no-literal (trees-split t .1) read is)
-
-  pub literals-next : {next : ℕ} → 0 < left → tag ≡ byte rule place → tag ≡ 17 → EndGives rule place next → LiteralsLeft rule at count next (left - 1)
-  literals-next {next} some read is ends = record { stand = λ end es rest depth n t. let (fs, size, trees, same) = inv .stand end es rest depth n t in go fs rest size trees same }
-    where
-      go : {end depth : ℕ} {b : Bool} (fs rest : List Expr) → length fs ≡ left → TreesAt rule place end (fs ++ rest) depth → b ≡ treesLiteral fs
-          → (gs : List Expr) × (length gs ≡ left - 1) × TreesAt rule next end (gs ++ rest) depth × (b ≡ treesLiteral gs)
-      go [] rest size t same = absurd (omega arith)
-      go {end} {depth} (f ∷ fs) rest size t same =
-          let (first, later) = first-tree ends t in (
-            fs,
-            omega arith,
-            later,
-            same ∙ ap (λ (x : Bool). x && treesLiteral fs) (is-literal first read is),
-          )
-
-pub literals-end : {rule : List ℕ} {at count place left : ℕ} → LiteralsLeft rule at count place left → left ≤ 0 → LiteralsGives rule at count true
-literals-end {left = left} inv none = record { is = λ end es rest depth n t. let (fs, size, trees, same) = inv .stand end es rest depth n t in go fs size ∙ sym same }
-  where
-    go : (fs : List Expr) → length fs ≡ left → true ≡ treesLiteral fs
-    go [] size = refl
-    go (f ∷ fs) size = absurd (omega arith)
-
--- branches from the place on, some of whose WHENs isn't a null literal if one of all is
-pub record WhensLeft (rule : List ℕ) (at count place left : ℕ) : Type 0 where
-  pub stand : (end : ℕ) (bs : Branches) (rest : List Expr) (depth : ℕ) → branchCount bs ≡ count → TreesAt rule at end (branchTrees bs ++ rest) depth
-      → (cs : Branches) × (branchCount cs ≡ left) × TreesAt rule place end (branchTrees cs ++ rest) depth × (someWhenValue bs ≡ someWhenValue cs)
-
-pub whens-start : {rule : List ℕ} {at count : ℕ} → WhensLeft rule at count at count
-whens-start = record { stand = λ end bs rest depth n t. (bs, n, t, refl) }
-
-module _ {rule : List ℕ} {at count place left : ℕ} {null : Bool} (inv : WhensLeft rule at count place left) (some : 0 < left) (nulls : NullLiteralGives rule place null) where
-  pub whens-found : null ≡ false → SomeWhenGives rule at count true
-  unfolding someWhenValue branchCount
-  whens-found is = record { is = λ end bs rest depth n t. let (cs, size, trees, same) = inv .stand end bs rest depth n t in go cs rest size trees ∙ sym same }
-    where
-      go : {end depth : ℕ} (cs : Branches) (rest : List Expr) → branchCount cs ≡ left → TreesAt rule place end (branchTrees cs ++ rest) depth → true ≡ someWhenValue cs
-      go noMore rest size t = absurd (omega arith)
-      go {depth = depth} (branch w u cs) rest size t = let (m, first, later) = trees-split t in rw (sym (nulls .is m w depth first) ∙ is)
-
-  pub whens-next : {next : ℕ} → null ≡ true → BehindGives rule place 2 next → WhensLeft rule at count next (left - 1)
-  unfolding someWhenValue branchCount
-  whens-next {next} is behind = record { stand = λ end bs rest depth n t. let (cs, size, trees, same) = inv .stand end bs rest depth n t in go cs rest size trees same }
-    where
-      go : {end depth : ℕ} {b : Bool} (cs : Branches) (rest : List Expr) → branchCount cs ≡ left → TreesAt rule place end (branchTrees cs ++ rest) depth → b ≡ someWhenValue cs
-          → (ds : Branches) × (branchCount ds ≡ left - 1) × TreesAt rule next end (branchTrees ds ++ rest) depth × (b ≡ someWhenValue ds)
-      go noMore rest size t same = absurd (omega arith)
-      go {end} {depth} (branch w u cs) rest size t same =
-          let (m, first, later) = trees-split t in (
-            cs,
-            omega arith,
-            behind .stand end (w ∷ u ∷ []) (branchTrees cs ++ rest) depth refl t,
-            same ∙ ap (λ (x : Bool). not x || someWhenValue cs) (sym (nulls .is m w depth first) ∙ is),
-          )
-
-pub whens-end : {rule : List ℕ} {at count place left : ℕ} → WhensLeft rule at count place left → left ≤ 0 → SomeWhenGives rule at count false
-unfolding someWhenValue branchCount
-whens-end {left = left} inv none = record { is = λ end bs rest depth n t. let (cs, size, trees, same) = inv .stand end bs rest depth n t in go cs size ∙ sym same }
-  where
-    go : (cs : Branches) → branchCount cs ≡ left → false ≡ someWhenValue cs
-    go noMore size = refl
-    go (branch w u cs) size = absurd (omega arith)
-
--- an ELSE that is there is a node; one that isn't is dropped or absent
-else-is : {rule : List ℕ} {at end depth : ℕ} {there : Bool} → ElseThereGives rule at end there → there ≡ true → (els : Optional) → TreesAt rule at end (optionalTrees els) depth
-    → (e : Expr) × NodeAt rule at end e depth × (dropNull els ≡ present e)
-else-is {rule} {at} {end} {depth} theres is els t = go els t (sym (theres .is els depth t) ∙ is)
-  where
-    kept : (e : Expr) (null : Bool) → isPresent (cond null absent (present e)) ≡ true → cond null absent (present e) ≡ present e
-    kept e true p = let z : _≡_ {A = ℕ} 0 1 = cc in absurd (omega arith)
-    kept e false p = refl
-
-    go : (els : Optional) → TreesAt rule at end (optionalTrees els) depth → isPresent (dropNull els) ≡ true → (e : Expr) × NodeAt rule at end e depth × (dropNull els ≡ present e)
-    go absent t p = let z : _≡_ {A = ℕ} 0 1 = cc in absurd (omega arith)
-    go (present e) t p = (e, trees-one t, kept e (isNullLiteral e) p)
-
-else-none : {rule : List ℕ} {at end depth : ℕ} {there : Bool} → ElseThereGives rule at end there → there ≡ false → (els : Optional) → TreesAt rule at end (optionalTrees els) depth
-    → dropNull els ≡ absent
-else-none {depth = depth} theres is els t = go (dropNull els) (sym (theres .is els depth t) ∙ is)
-  where
-    go : (o : Optional) → isPresent o ≡ false → o ≡ absent
-    go absent p = refl
-    go (present e) p = let z : _≡_ {A = ℕ} 0 1 = cc in absurd (omega arith)
-
-module _ {rule : List ℕ} {at end then : ℕ} {there : Bool} (theres : ElseThereGives rule at end there) where
-  pub serves-none : there ≡ false → ElseServesGives rule at end then true
-  serves-none is = record { is = λ els depth m t d trees n. ap (elseServes (typeOf t)) (sym (else-none theres is els trees)) }
-
-  pub serves-other : {tag : ℕ} → there ≡ true → tag ≡ byte rule at → (tag ≡ 17 → ⊥) → ElseServesGives rule at end then false
-  serves-other is read other = record {
-    is = λ els depth m t d trees n.
-        let (e, node, same) = else-is theres is els trees in
-        ap (λ (x : Bool). x && sameType (typeOf e) (typeOf t)) (sym (no-literal node read other)) ∙ ap (elseServes (typeOf t)) (sym same);
-  }
-
-  pub serves-literal : {tag x y : ℕ} {a b : DataType} → there ≡ true → tag ≡ byte rule at → tag ≡ 17 → TypeGives rule at a → x ≡ typeNumber a → TypeGives rule then b → y ≡ typeNumber b
-      → ElseServesGives rule at end then (eqb x y)
-  serves-literal is read same-tag typed x-is typed-then y-is = record {
-    is = λ els depth m t d trees n.
-        let (e, node, same) = else-is theres is els trees in
-        ap₂ eqb (x-is ∙ ap typeNumber (typed end e depth node)) (y-is ∙ ap typeNumber (typed-then m t d n))
-        ∙ ap (λ (x : Bool). x && sameType (typeOf e) (typeOf t)) (sym (is-literal node read same-tag))
-        ∙ ap (elseServes (typeOf t)) (sym same);
-  }
-
--- one branch
-module _ {rule : List ℕ} {at then els end tag : ℕ} {there : Bool} (e : EndGives rule at then) (f : EndGives rule then els) (theres : ElseThereGives rule els end there)
+-- one branch, by the places of its THEN and behind it
+module _ (rule : List ℕ) (at end : ℕ) {then els tag : ℕ} {there : Bool} (e : then ≡ fieldEnd rule at) (f : els ≡ fieldEnd rule then) (theres : there ≡ elseThere rule els end)
     (read : tag ≡ byte rule then) where
-  -- its THEN, and the ELSE behind it
-  parts : {depth : ℕ} (w t : Expr) (o : Optional) → TreesAt rule at end (w ∷ t ∷ optionalTrees o) depth → NodeAt rule then els t depth × TreesAt rule els end (optionalTrees o) depth
-  parts w t o trees = let (first, second, later) = first-two e f trees in (second, later)
+  single-told : {r : Strategy} → r ≡ singleBy rule then els end → r ≡ singleAt rule at end
+  unfolding singleAt
+  single-told told = told ∙ ap₂ (λ (x y : ℕ). singleBy rule x y end) e (f ∙ ap (fieldEnd rule) e)
 
-  pub single-first : there ≡ true → (tag ≡ 17 → ⊥) → SingleGives rule at end ExpressionOrExpression
-  single-first is other = record {
-    is = λ w t o depth trees.
-        let (node, rest) = parts w t o trees in
-        let (x, node-x, same) = else-is theres is o rest in
-        ap (λ (b : Bool). cond (b && isLiteral x) ScalarOrScalar ExpressionOrExpression) (sym (no-literal node read other)) ∙ ap (singleBranch t) (sym same);
-  }
+  pub single-first : there ≡ true → (tag ≡ 17 → ⊥) → ExpressionOrExpression ≡ singleAt rule at end
+  single-first is other = single-told (rw (sym theres ∙ is, ne-eqb (byte rule then) 17 (λ p. other (read ∙ p))))
 
-  pub single-second : {tag₂ : ℕ} → there ≡ true → tag ≡ 17 → tag₂ ≡ byte rule els → (tag₂ ≡ 17 → ⊥) → SingleGives rule at end ExpressionOrExpression
-  single-second is one read₂ other = record {
-    is = λ w t o depth trees.
-        let (node, rest) = parts w t o trees in
-        let (x, node-x, same) = else-is theres is o rest in
-        ap₂ (λ (a b : Bool). cond (a && b) ScalarOrScalar ExpressionOrExpression) (sym (is-literal node read one)) (sym (no-literal node-x read₂ other)) ∙ ap (singleBranch t) (sym same);
-  }
+  pub single-second : {tag₂ : ℕ} → there ≡ true → tag ≡ 17 → tag₂ ≡ byte rule els → (tag₂ ≡ 17 → ⊥) → ExpressionOrExpression ≡ singleAt rule at end
+  single-second is one read₂ other = single-told (rw (sym theres ∙ is, eq-eqb (byte rule then) 17 (sym read ∙ one), ne-eqb (byte rule els) 17 (λ p. other (read₂ ∙ p))))
 
-  pub single-scalar : {tag₂ : ℕ} → there ≡ true → tag ≡ 17 → tag₂ ≡ byte rule els → tag₂ ≡ 17 → SingleGives rule at end ScalarOrScalar
-  single-scalar is one read₂ two = record {
-    is = λ w t o depth trees.
-        let (node, rest) = parts w t o trees in
-        let (x, node-x, same) = else-is theres is o rest in
-        ap₂ (λ (a b : Bool). cond (a && b) ScalarOrScalar ExpressionOrExpression) (sym (is-literal node read one)) (sym (is-literal node-x read₂ two)) ∙ ap (singleBranch t) (sym same);
-  }
+  pub single-scalar : {tag₂ : ℕ} → there ≡ true → tag ≡ 17 → tag₂ ≡ byte rule els → tag₂ ≡ 17 → ScalarOrScalar ≡ singleAt rule at end
+  single-scalar is one read₂ two = single-told (rw (sym theres ∙ is, eq-eqb (byte rule then) 17 (sym read ∙ one), eq-eqb (byte rule els) 17 (sym read₂ ∙ two)))
 
-  pub single-column : there ≡ false → tag ≡ 16 → SingleGives rule at end InfallibleExprOrNull
-  single-column is one = record {
-    is = λ w t o depth trees.
-        let (node, rest) = parts w t o trees in
-        ap (λ (b : Bool). cond b InfallibleExprOrNull ExpressionOrExpression) (sym (column-tag (node-of-tag node (sym read)) ∙ eq-eqb tag 16 one))
-        ∙ ap (singleBranch t) (sym (else-none theres is o rest));
-  }
+  pub single-column : there ≡ false → tag ≡ 16 → InfallibleExprOrNull ≡ singleAt rule at end
+  single-column is one = single-told (rw (sym theres ∙ is, eq-eqb (byte rule then) 16 (sym read ∙ one)))
 
-  pub single-other : there ≡ false → (tag ≡ 16 → ⊥) → SingleGives rule at end ExpressionOrExpression
-  single-other is other = record {
-    is = λ w t o depth trees.
-        let (node, rest) = parts w t o trees in
-        ap (λ (b : Bool). cond b InfallibleExprOrNull ExpressionOrExpression) (sym (column-tag (node-of-tag node (sym read)) ∙ ne-eqb tag 16 other))
-        ∙ ap (singleBranch t) (sym (else-none theres is o rest));
-  }
+  pub single-other : there ≡ false → (tag ≡ 16 → ⊥) → ExpressionOrExpression ≡ singleAt rule at end
+  single-other is other = single-told (rw (sym theres ∙ is, ne-eqb (byte rule then) 16 (λ p. other (read ∙ p))))
+
+single-else : {rule : List ℕ} {then els end depth : ℕ} {t : Expr} (o : Optional) → NodeAt rule then els t depth → TreesAt rule els end (optionalTrees o) depth
+    → singleBy rule then els end ≡ singleBranch t (dropNull o)
+single-else {rule} {then} {els} {end} {depth} {t} o n trees = ap chosen (there-at o trees) ∙ go o trees
+  where
+    chosen : Bool → Strategy
+    chosen b = cond b (cond (literalThere rule then && literalThere rule els) ScalarOrScalar ExpressionOrExpression) (cond (eqb (byte rule then) 16) InfallibleExprOrNull ExpressionOrExpression)
+
+    alone : cond (eqb (byte rule then) 16) InfallibleExprOrNull ExpressionOrExpression ≡ cond (isColumn t) InfallibleExprOrNull ExpressionOrExpression
+    alone = ap (λ (b : Bool). cond b InfallibleExprOrNull ExpressionOrExpression) (column-at n)
+
+    by : (e : Expr) → NodeAt rule els end e depth → (null : Bool) → chosen (isPresent (cond null absent (present e))) ≡ singleBranch t (cond null absent (present e))
+    by e k true = alone
+    by e k false = ap₂ (λ (a b : Bool). cond (a && b) ScalarOrScalar ExpressionOrExpression) (literal-at n) (literal-at k)
+
+    go : (o : Optional) → TreesAt rule els end (optionalTrees o) depth → chosen (isPresent (dropNull o)) ≡ singleBranch t (dropNull o)
+    go absent r = alone
+    go (present e) r = by e (trees-one r) (isNullLiteral e)
+
+single-at : {rule : List ℕ} {at end depth : ℕ} {w t : Expr} (els : Optional) → TreesAt rule at end (w ∷ t ∷ optionalTrees els) depth → singleAt rule at end ≡ singleBranch t (dropNull els)
+unfolding singleAt
+single-at els trees = let (first, second, later) = first-two (end-gives refl) (end-gives refl) trees in single-else els second later
 
 -- all branches are literals if all their trees are
 literals-trees : (bs : Branches) → treesLiteral (branchTrees bs) ≡ allLiterals bs
@@ -274,129 +239,110 @@ literals-trees noMore = refl
 literals-trees (branch w t bs) = rw (literals-trees bs) (sym (and-assoc (isLiteral w) (isLiteral t) (allLiterals bs)))
 
 -- a lookup table
-module _ {rule : List ℕ} {at end count : ℕ} where
-  pub table-few : count < 2 → TableServesGives rule at end count false
-  unfolding tableServes
-  table-few few = record { is = λ bs els depth n t. rw (le-ltb 1 (branchCount bs) (omega arith)) }
+module _ (rule : List ℕ) (at end : ℕ) {count : ℕ} where
+  pub table-few : count < 2 → false ≡ tableServesAt rule at end count
+  unfolding tableServesAt
+  table-few few = let k : count ≤ 1 = omega arith in rw (le-ltb 1 count k)
 
-  module _ {fields : ℕ} {literals : Bool} (size : fields ≡ 2 * count) (given : LiteralsGives rule at fields literals) where
-    -- whether all are literals
-    told : (bs : Branches) (els : Optional) {depth : ℕ} → branchCount bs ≡ count → TreesAt rule at end (branchTrees bs ++ optionalTrees els) depth → allLiterals bs ≡ literals
-    told bs els {depth} n t =
-        let k = branches-length bs in
-        sym (literals-trees bs) ∙ sym (given .is end (branchTrees bs) (optionalTrees els) depth (omega arith) t)
+  module _ {fields : ℕ} {literals : Bool} (size : fields ≡ 2 * count) (all : literals ≡ literalsThere rule at fields) (many : 2 ≤ count) where
+    more : ltb 1 count ≡ true
+    more = lt-ltb 1 count (omega arith)
 
-    pub table-other : literals ≡ false → TableServesGives rule at end count false
-    unfolding tableServes
-    table-other is = record { is = λ bs els depth n t. all-fail (ltb 1 (branchCount bs)) (someWhenValue bs) _ (told bs els n t ∙ is) }
-      where
-        all-fail : (a c d : Bool) {b : Bool} → b ≡ false → false ≡ (a && b && c && d)
-        all-fail true c d p = rw p
-        all-fail false c d p = refl
+    same : literalsThere rule at (2 * count) ≡ literals
+    same = ap (literalsThere rule at) (sym size) ∙ sym all
 
-    module _ {whens : Bool} (given-whens : SomeWhenGives rule at count whens) where
-      pub table-nulls : whens ≡ false → TableServesGives rule at end count false
-      unfolding tableServes
-      table-nulls is = record {
-        is = λ bs els depth n t. some-fail (ltb 1 (branchCount bs)) (allLiterals bs) _ (sym (given-whens .is end bs (optionalTrees els) depth n t) ∙ is);
-      }
-        where
-          some-fail : (a b d : Bool) {c : Bool} → c ≡ false → false ≡ (a && b && c && d)
-          some-fail true true d p = rw p
-          some-fail true false d p = refl
-          some-fail false true d p = refl
-          some-fail false false d p = refl
+    pub table-other : literals ≡ false → false ≡ tableServesAt rule at end count
+    unfolding tableServesAt
+    table-other is = rw (more, same ∙ is)
 
-      pub table-gives : {els then : ℕ} {r : Bool} → 2 ≤ count → literals ≡ true → whens ≡ true → EndGives rule at then → BehindGives rule at fields els → ElseServesGives rule els end then r
-          → TableServesGives rule at end count r
-      unfolding tableServes typeOf branchCount
-      table-gives {els} {then} {r} many all some ends behind serves = record { is = go }
-        where
-          go : (bs : Branches) (o : Optional) (depth : ℕ) → branchCount bs ≡ count → TreesAt rule at end (branchTrees bs ++ optionalTrees o) depth → r ≡ tableServes bs (dropNull o)
-          go noMore o depth n t = absurd (omega arith)
-          go (branch w u bs) o depth n t =
-              let a : ltb 1 (branchCount (branch w u bs)) ≡ true = lt-ltb 1 (branchCount (branch w u bs)) (omega arith) in
-              let b : allLiterals (branch w u bs) ≡ true = told (branch w u bs) o n t ∙ all in
-              let c : someWhenValue (branch w u bs) ≡ true = sym (given-whens .is end (branch w u bs) (optionalTrees o) depth n t) ∙ some in
-              let (k, second, later) = trees-split (first-tree ends t .1) in
-              let length-is = branches-length (branch w u bs) in
-              let behind-is = behind .stand end (branchTrees (branch w u bs)) (optionalTrees o) depth (omega arith) t in
-              rw (a, b, c) (serves .is o depth k u depth behind-is second)
+    module _ {whens : Bool} (some : whens ≡ whenThere rule at count) (alike : literals ≡ true) where
+      pub table-nulls : whens ≡ false → false ≡ tableServesAt rule at end count
+      unfolding tableServesAt
+      table-nulls is = rw (more, same ∙ alike, sym some ∙ is)
 
--- no node stands behind the rule's end
-pub strategy-behind : {rule : List ℕ} {start end : ℕ} → length rule ≤ start → StrategyGives rule start end NoExpression
-strategy-behind h = record { is = λ e depth n. absurd (let k = nothing-behind n in omega arith) }
+      pub table-gives : {els then : ℕ} {r : Bool} → whens ≡ true → then ≡ fieldEnd rule at → els ≡ behindFields rule at fields → r ≡ elseServesAt rule els end then
+          → r ≡ tableServesAt rule at end count
+      unfolding tableServesAt
+      table-gives is ends behind serves =
+          rw (more, same ∙ alike, sym some ∙ is) (serves ∙ ap₂ (λ (x y : ℕ). elseServesAt rule x end y) (behind ∙ ap (behindFields rule at) size) ends)
+
+and-four : (a : Bool) {b b′ c c′ d d′ : Bool} → b ≡ b′ → c ≡ c′ → d ≡ d′ → (a && b && c && d) ≡ (a && b′ && c′ && d′)
+and-four a p q r = cc
+
+table-at : {rule : List ℕ} {at end depth : ℕ} (bs : Branches) (els : Optional) → TreesAt rule at end (branchTrees bs ++ optionalTrees els) depth
+    → tableServesAt rule at end (branchCount bs) ≡ tableServes bs (dropNull els)
+unfolding tableServesAt tableServes typeOf branchCount
+table-at noMore els t = refl
+table-at {rule} {at} {end} {depth} (branch w u bs) els t =
+    let size = branches-length (branch w u bs) in
+    let (m, first, later) = trees-split t in
+    let (k, second, rest) = trees-split (first-tree (end-gives refl) t .1) in
+    and-four (ltb 1 (suc (branchCount bs)))
+    (ap (literalsThere rule at) (sym size) ∙ literals-at (branchTrees (branch w u bs)) (optionalTrees els) t ∙ literals-trees (branch w u bs))
+    (whens-at (branch w u bs) (optionalTrees els) t)
+    (serves-at els (behind-gives refl .stand end (branchTrees (branch w u bs)) (optionalTrees els) depth size t) second)
 
 -- the strategy at a place: none where it is no CASE
-pub strategy-other : {rule : List ℕ} {start end tag : ℕ} → tag ≡ byte rule start → (tag ≡ 25 → ⊥) → StrategyGives rule start end NoExpression
+pub strategy-other : (rule : List ℕ) (start end : ℕ) {tag : ℕ} → tag ≡ byte rule start → (tag ≡ 25 → ⊥) → NoExpression ≡ strategyAt rule start end
+unfolding strategyAt
+strategy-other rule start end read is = rw (ne-eqb (byte rule start) 25 (λ p. is (read ∙ p)))
+
+-- by the base and the number of branches of a CASE
+module _ (rule : List ℕ) (start end : ℕ) {tag flags count at : ℕ} (read : tag ≡ byte rule start) (is : tag ≡ 25) (flag : flags ≡ byte rule (start + 3)) (counted : count ≡ byte rule (start + 4))
+    (behind : at ≡ behindFields rule (start + 5) (flags % 2)) where
+  strategy-by : {r : Strategy} (base : Bool) → eqb (flags % 2) 1 ≡ base → r ≡ branchesAt base rule at end count → r ≡ strategyAt rule start end
+  unfolding strategyAt
+  strategy-by base told gives =
+      gives
+      ∙ sym (ap (λ (b : Bool). cond b (branchesAt (eqb (baseCount rule start) 1) rule (behindFields rule (start + 5) (baseCount rule start)) end (byte rule (start + 4))) NoExpression)
+      (eq-eqb (byte rule start) 25 (sym read ∙ is))
+      ∙ ap (λ (b : Bool). branchesAt b rule (behindFields rule (start + 5) (baseCount rule start)) end (byte rule (start + 4))) (ap (λ (n : ℕ). eqb (n % 2) 1) (sym flag) ∙ told)
+      ∙ ap₂ (λ (x n : ℕ). branchesAt base rule x end n) (ap (λ (n : ℕ). behindFields rule (start + 5) (n % 2)) (sym flag) ∙ sym behind) (sym counted))
+
+  pub strategy-table : {serves : Bool} → flags % 2 ≡ 1 → serves ≡ tableServesAt rule at end count → serves ≡ true → WithExprScalarLookupTable ≡ strategyAt rule start end
+  strategy-table one told some = strategy-by true (eq-eqb (flags % 2) 1 one) (rw (sym told ∙ some))
+
+  pub strategy-base : {serves : Bool} → flags % 2 ≡ 1 → serves ≡ tableServesAt rule at end count → serves ≡ false → WithExpression ≡ strategyAt rule start end
+  strategy-base one told none = strategy-by true (eq-eqb (flags % 2) 1 one) (rw (sym told ∙ none))
+
+  pub strategy-single : {r : Strategy} → (flags % 2 ≡ 1 → ⊥) → count ≡ 1 → r ≡ singleAt rule at end → r ≡ strategyAt rule start end
+  strategy-single no-base one told = strategy-by false (ne-eqb (flags % 2) 1 no-base) (rw (eq-eqb count 1 one) told)
+
+  pub strategy-several : (flags % 2 ≡ 1 → ⊥) → (count ≡ 1 → ⊥) → NoExpression ≡ strategyAt rule start end
+  strategy-several no-base more = strategy-by false (ne-eqb (flags % 2) 1 no-base) (rw (ne-eqb count 1 more))
+
+-- at a CASE
+case-strategy : {rule : List ℕ} {at end depth : ℕ} (b : Optional) (bs : Branches) (els : Optional) → TreesAt rule at end (branchTrees bs ++ optionalTrees els) depth
+    → branchesAt (eqb (length (optionalTrees b)) 1) rule at end (branchCount bs) ≡ strategyOf b bs els
+unfolding strategyOf branchCount
+case-strategy (present b) bs els t = ap (λ (x : Bool). cond x WithExprScalarLookupTable WithExpression) (table-at bs els t)
+case-strategy absent noMore els t = refl
+case-strategy absent (branch w u noMore) els t = single-at els t
+case-strategy {rule} {at} {end} absent (branch w u (branch v x bs)) els t =
+    let k : eqb (suc (suc (branchCount bs))) 1 ≡ false = ne-eqb (suc (suc (branchCount bs))) 1 (λ p. omega arith) in
+    ap (λ (c : Bool). cond c (singleAt rule at end) NoExpression) k
+
+-- at a node that is none
+no-case : {rule : List ℕ} {start end depth : ℕ} {e : Expr} → NodeAt rule start end e depth → (nodeTag e ≡ 25 → ⊥) → strategyAt rule start end ≡ NoExpression
+no-case {rule} {start} {end} n other = sym (strategy-other rule start end (sym (node-tag n)) other)
+
+-- of whatever node stands there
+strategy-at : {rule : List ℕ} {start end depth : ℕ} (e : Expr) → NodeAt rule start end e depth → strategyAt rule start end ≡ strategy e
 unfolding strategy
-strategy-other {rule} read is = record { is = λ e depth n. go (node-of-tag n (sym read)) is }
-  where
-    go : {tag : ℕ} {e : Expr} → Tagged tag e → (tag ≡ 25 → ⊥) → NoExpression ≡ strategy e
-    go (ofColumn c) p = refl
-    go (ofLiteral t v) p = refl
-    go (ofNegation e) p = refl
-    go (ofNegative e) p = refl
-    go (ofIsNotNull e) p = refl
-    go (ofCast t e) p = refl
-    go (ofTryCast t e) p = refl
-    go (ofEqual a b) p = refl
-    go (ofLess a b) p = refl
-    go (ofCase b bs e) p = absurd (p refl)
+strategy-at (column c) n = no-case n (λ p. omega arith)
+strategy-at (literal t v) n = no-case n (λ p. omega arith)
+strategy-at (negation e) n = no-case n (λ p. omega arith)
+strategy-at (negative e) n = no-case n (λ p. omega arith)
+strategy-at (isNotNull e) n = no-case n (λ p. omega arith)
+strategy-at (cast t e) n = no-case n (λ p. omega arith)
+strategy-at (tryCast t e) n = no-case n (λ p. omega arith)
+strategy-at (equal a b) n = no-case n (λ p. omega arith)
+strategy-at (less a b) n = no-case n (λ p. omega arith)
+strategy-at {rule} {start} {end} {depth} (caseWhen b bs els) n =
+    sym (strategy-by rule start end (sym (node-tag n)) refl (sym (node-byte 0 (start + 3) n (omega arith) (omega arith))) (sym (node-byte 1 (start + 4) n (omega arith) (omega arith))) refl
+    (eqb (flagsOf b els % 2) 1) refl refl)
+    ∙ ap (λ (k : ℕ). branchesAt (eqb k 1) rule (behindFields rule (start + 5) k) end (branchCount bs)) (base-flag b els)
+    ∙ case-strategy b bs els (behind-gives refl .stand end (optionalTrees b) (branchTrees bs ++ optionalTrees els) (depth - 1) refl (node-children (start + 5) n (omega arith)))
 
-module _ {rule : List ℕ} {start end tag flags count at : ℕ} (read : tag ≡ byte rule start) (is : tag ≡ 25) (flag : flags ≡ byte rule (start + 3)) (counted : count ≡ byte rule (start + 4))
-    (behind : BehindGives rule (start + 5) (flags % 2) at) where
-  -- by base, branches and ELSE, which stand at the place
-  root : {r : Strategy}
-      → ((b : Optional) (bs : Branches) (els : Optional) (depth : ℕ) → flags % 2 ≡ length (optionalTrees b) → 0 < branchCount bs → branchCount bs ≡ count
-      → TreesAt rule at end (branchTrees bs ++ optionalTrees els) depth → r ≡ strategyOf b bs els) → StrategyGives rule start end r
-  unfolding strategy
-  root {r} told = record { is = λ e depth n. go e depth (node-of-tag n (sym read ∙ is)) n }
-    where
-      go : (e : Expr) (depth : ℕ) → Tagged 25 e → NodeAt rule start end e depth → r ≡ strategy e
-      go e depth (ofCase b bs els) n =
-          let flags-is = node-byte 0 (start + 3) n (omega arith) (omega arith) in
-          let count-is = node-byte 1 (start + 4) n (omega arith) (omega arith) in
-          let base-is = base-flag b els in
-          let trees = node-children (start + 5) n (omega arith) in
-          told b bs els (depth - 1) (omega arith) (case-counted n .0) (omega arith) (behind .stand end (optionalTrees b) (branchTrees bs ++ optionalTrees els) (depth - 1) (omega arith) trees)
-
-  pub strategy-table : {serves : Bool} → flags % 2 ≡ 1 → TableServesGives rule at end count serves → serves ≡ true → StrategyGives rule start end WithExprScalarLookupTable
-  unfolding strategyOf
-  strategy-table one gives some = root go
-    where
-      go : (b : Optional) (bs : Branches) (els : Optional) (depth : ℕ) → flags % 2 ≡ length (optionalTrees b) → 0 < branchCount bs → branchCount bs ≡ count
-          → TreesAt rule at end (branchTrees bs ++ optionalTrees els) depth → WithExprScalarLookupTable ≡ strategyOf b bs els
-      go absent bs els depth p c n t = absurd (omega arith)
-      go (present b) bs els depth p c n t = ap (λ (x : Bool). cond x WithExprScalarLookupTable WithExpression) (sym some ∙ gives .is bs els depth n t)
-
-  pub strategy-base : {serves : Bool} → flags % 2 ≡ 1 → TableServesGives rule at end count serves → serves ≡ false → StrategyGives rule start end WithExpression
-  unfolding strategyOf
-  strategy-base one gives none = root go
-    where
-      go : (b : Optional) (bs : Branches) (els : Optional) (depth : ℕ) → flags % 2 ≡ length (optionalTrees b) → 0 < branchCount bs → branchCount bs ≡ count
-          → TreesAt rule at end (branchTrees bs ++ optionalTrees els) depth → WithExpression ≡ strategyOf b bs els
-      go absent bs els depth p c n t = absurd (omega arith)
-      go (present b) bs els depth p c n t = ap (λ (x : Bool). cond x WithExprScalarLookupTable WithExpression) (sym none ∙ gives .is bs els depth n t)
-
-  pub strategy-single : {r : Strategy} → (flags % 2 ≡ 1 → ⊥) → count ≡ 1 → SingleGives rule at end r → StrategyGives rule start end r
-  unfolding strategyOf branchCount
-  strategy-single {r} no-base one gives = root go
-    where
-      go : (b : Optional) (bs : Branches) (els : Optional) (depth : ℕ) → flags % 2 ≡ length (optionalTrees b) → 0 < branchCount bs → branchCount bs ≡ count
-          → TreesAt rule at end (branchTrees bs ++ optionalTrees els) depth → r ≡ strategyOf b bs els
-      go (present b) bs els depth p c n t = absurd (no-base (omega arith))
-      go absent noMore els depth p c n t = absurd (omega arith)
-      go absent (branch w u noMore) els depth p c n t = gives .is w u els depth t
-      go absent (branch w u (branch v x bs)) els depth p c n t = absurd (omega arith)
-
-  pub strategy-several : (flags % 2 ≡ 1 → ⊥) → (count ≡ 1 → ⊥) → StrategyGives rule start end NoExpression
-  unfolding strategyOf branchCount
-  strategy-several no-base more = root go
-    where
-      go : (b : Optional) (bs : Branches) (els : Optional) (depth : ℕ) → flags % 2 ≡ length (optionalTrees b) → 0 < branchCount bs → branchCount bs ≡ count
-          → TreesAt rule at end (branchTrees bs ++ optionalTrees els) depth → NoExpression ≡ strategyOf b bs els
-      go (present b) bs els depth p c n t = absurd (no-base (omega arith))
-      go absent noMore els depth p c n t = refl
-      go absent (branch w u noMore) els depth p c n t = absurd (more (sym n))
-      go absent (branch w u (branch v x bs)) els depth p c n t = refl
+pub strategy-gives : {rule : List ℕ} {start end : ℕ} {r : Strategy} → r ≡ strategyAt rule start end → StrategyGives rule start end r
+strategy-gives is = record { is = λ e depth n. is ∙ strategy-at e n }

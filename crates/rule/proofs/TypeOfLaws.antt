@@ -1,136 +1,144 @@
 -- The type of a node out of its bytes. Assumes nothing.
-use mathlib.Core.Path.{_≡_, refl, sym, _∙_}
+use mathlib.Core.Path.{_≡_, refl, ap, sym, subst, _∙_}
+use mathlib.Core.Bool.{Bool, true, false, cond, _||_}
 use mathlib.Core.List.{List, [], _∷_, _++_, append-assoc}
-use Prim.Native.Nat.{ℕ, _+_, _-_, _%_, _<_, _≤_}
+use Prim.Native.Nat.{ℕ, zero, suc, _+_, _-_, _%_, _<_, _≤_}
 use native.Mathlib.Omega.{arith}
-use lib.ListN.{length, length-append}
-use borrow.Author.Tests.{eq-eqb}
+use lib.Dec.{eqb, leb}
+use lib.ListN.{length, length-append, List·getD-eq-default}
+use borrow.Author.Tests.{leb-true, leb-false, le-leb, lt-leb, ne-eqb}
 use Rattle.layout.specs.Bytes.{byte}
 use Rattle.scalar.specs.declared.types.DataType.{DataType}
-use Rattle.scalar.specs.declared.types.DataType.the-variants.{Boolean, Int32, Int64, Float64, Utf8}
-use Rattle.scalar.specs.Types.{typeNumber}
-use Rattle.scalar.proofs.TypeLaws.{sameType-eq}
-use Rattle.rule.specs.Tree.{Expr, noMore, branch, branchCount}
-use Rattle.rule.specs.Typing.{typeOf}
+use Rattle.scalar.specs.declared.types.DataType.the-variants.{Boolean}
+use Rattle.rule.specs.Tree.{Expr, column, literal, negation, negative, isNotNull, cast, tryCast, equal, less, caseWhen, Branches, noMore, branch, Optional, branchCount}
+use Rattle.rule.specs.Typing.{typeOf, resultType}
 use Rattle.rule.specs.Node.{NodeAt}
-use Rattle.rule.specs.Walks.{headBytes, branchTrees, optionalTrees, TreesAt, BehindGives, NumberedGives, ThenGives, TypeGives}
-use Rattle.rule.proofs.NodeLaws.{Tagged, ofColumn, ofLiteral, ofNegation, ofNegative, ofIsNotNull, ofCast, ofTryCast, ofEqual, ofLess, ofCase, node-byte, node-children, trees-split, trees-one, case-counted}
-use Rattle.rule.proofs.WalkLaws.{nothing-behind, node-of-tag, base-flag}
+use Rattle.rule.specs.Walks.{branchTrees, optionalTrees, TypeGives}
+use Rattle.rule.specs.Walked.{behindFields, typeFrom, firstThen, TypeSource, itself, another, sourceBy, typeBy, typeWithin, typeAt}
+use Rattle.rule.proofs.NodeLaws.{node-byte, node-tag, node-children, trees-split, trees-one, case-counted}
+use Rattle.rule.proofs.WalkLaws.{nothing-behind, behind-gives, base-flag}
+use Rattle.rule.proofs.LiteralLaws.{type-from}
 
--- a type by its number
-pub numbered : {n : ℕ} (r : DataType) → n ≡ typeNumber r → NumberedGives n r
-numbered r p t q = sameType-eq r t (eq-eqb _ _ (sym p ∙ q))
+-- where the first THEN stands, behind the rule's end
+pub then-behind : (rule : List ℕ) {at : ℕ} → length rule ≤ at → at ≡ firstThen rule at
+unfolding firstThen
+then-behind rule {at} none = rw (le-leb (length rule) at none)
 
-pub numbered-last : {n : ℕ} → (((Unit {0} × (n ≡ 1 → ⊥)) × (n ≡ 2 → ⊥)) × (n ≡ 3 → ⊥)) × (n ≡ 4 → ⊥) → NumberedGives n Utf8
-numbered-last rest Boolean p = absurd (rest .0 .0 .0 .1 p)
-numbered-last rest Int32 p = absurd (rest .0 .0 .1 p)
-numbered-last rest Int64 p = absurd (rest .0 .1 p)
-numbered-last rest Float64 p = absurd (rest .1 p)
-numbered-last rest Utf8 p = refl
+-- and by the flags
+pub then-told : (rule : List ℕ) (at : ℕ) {flags r : ℕ} → at < length rule → flags ≡ byte rule (at + 3) → r ≡ behindFields rule (at + 5) (flags % 2 + 1) → r ≡ firstThen rule at
+unfolding firstThen
+then-told rule at room is told =
+    told
+    ∙ sym (ap (λ (b : Bool). cond b at (behindFields rule (at + 5) (byte rule (at + 3) % 2 + 1))) (lt-leb (length rule) at room)
+    ∙ ap (λ (n : ℕ). behindFields rule (at + 5) (n % 2 + 1)) (sym is))
 
--- the second of two trees, behind others
-behind-one : {rule : List ℕ} {r end depth : ℕ} (t : Expr) (rest : List Expr) → TreesAt rule r end (t ∷ rest) depth → (m : ℕ) × NodeAt rule r m t depth
-behind-one t rest trees = let (m, first, later) = trees-split trees in (m, first)
+-- it is onward
+pub then-onward : (rule : List ℕ) {at r : ℕ} → at < length rule → r ≡ firstThen rule at → at < r
+then-onward rule {at} room is =
+    let told : behindFields rule (at + 5) (byte rule (at + 3) % 2 + 1) ≡ firstThen rule at = then-told rule at room refl refl in
+    omega (arith, behind-gives {rule = rule} {at = at + 5} {count = byte rule (at + 3) % 2 + 1} refl .onward)
 
--- the first THEN stands behind the base and a WHEN
-pub then-gives : {rule : List ℕ} {at flags r : ℕ} → flags ≡ byte rule (at + 3) → BehindGives rule (at + 5) (flags % 2 + 1) r → ThenGives rule at r
-then-gives {rule} {at} {flags} {r} is behind = record {
-  stand = λ end b w t bs els depth n.
-      let flag = node-byte 0 (at + 3) n (omega arith) (omega arith) in
-      let base = base-flag b els in
-      let trees = node-children (at + 5) n (omega arith) in
-      behind-one t (branchTrees bs ++ optionalTrees els)
-      (behind .stand end (optionalTrees b ++ (w ∷ [])) (t ∷ (branchTrees bs ++ optionalTrees els)) (depth - 1) (omega (arith, length-append (optionalTrees b) (w ∷ [])))
-      (rw append-assoc trees));
-  onward = omega (arith, behind .onward);
-  farther = λ k. omega (arith, behind .onward);
-}
+-- at a CASE it is where its first THEN stands
+then-stands : {rule : List ℕ} {at end depth : ℕ} {b : Optional} {w t : Expr} {bs : Branches} {els : Optional} → NodeAt rule at end (caseWhen b (branch w t bs) els) depth
+    → (m : ℕ) × NodeAt rule (firstThen rule at) m t (depth - 1)
+then-stands {rule} {at} {end} {depth} {b} {w} {t} {bs} {els} n =
+    let flag = node-byte 0 (at + 3) n (omega arith) (omega arith) in
+    let base = base-flag b els in
+    let trees = node-children (at + 5) n (omega arith) in
+    let (m, first, later) = trees-split (behind-gives (sym (then-told rule at (nothing-behind n) refl refl)) .stand end (optionalTrees b ++ (w ∷ [])) (t ∷ (branchTrees bs ++ optionalTrees els))
+    (depth - 1) (omega (arith, length-append (optionalTrees b) (w ∷ []))) (rw append-assoc trees)) in
+    (m, first)
 
--- a tree of the same type stands at the place
-abbrev pub TypeLeft : List ℕ → ℕ → ℕ → Type 0
-TypeLeft rule start at = (end : ℕ) (e : Expr) (depth : ℕ) → NodeAt rule start end e depth → (m : ℕ) × (f : Expr) × (d : ℕ) × NodeAt rule at m f d × (typeOf f ≡ typeOf e)
+-- a node has its type from a place that is onward
+abbrev Onward : ℕ → TypeSource → Type 0
+Onward at (itself t) = Unit {0}
+Onward at (another p) = at < p
 
-pub type-starts : (rule : List ℕ) (start : ℕ) → TypeLeft rule start start
-type-starts rule start end e depth n = (end, e, depth, n, refl)
+source-onward : (rule : List ℕ) (at : ℕ) → Onward at (sourceBy (byte rule at) rule at)
+source-onward rule at = go (leb (length rule) at) refl
+  where
+    either : (b : Bool) (s s′ : TypeSource) → Onward at s → Onward at s′ → Onward at (cond b s s′)
+    either true s s′ p q = p
+    either false s s′ p q = q
 
--- a tree's type stands before its children
-abbrev TypeAt : ℕ → Expr → Type 0
-TypeAt i f = (i < length (headBytes f)) × (byte (headBytes f) i ≡ typeNumber (typeOf f))
+    go : (b : Bool) → leb (length rule) at ≡ b → Onward at (sourceBy (byte rule at) rule at)
+    go true p = subst (λ (tag : ℕ). Onward at (sourceBy tag rule at)) (sym (List·getD-eq-default rule 0 (leb-true _ _ p))) tt
+    go false p =
+        let room : at < length rule = leb-false _ _ p in
+        let three : at < at + 3 = omega arith in
+        either (eqb (byte rule at) 16) _ _ tt
+        (either (eqb (byte rule at) 17 || eqb (byte rule at) 21 || eqb (byte rule at) 22) _ _ tt
+        (either (eqb (byte rule at) 19) _ _ three (either (eqb (byte rule at) 25) _ _ (then-onward rule room refl) tt)))
 
-pub column-type : (f : Expr) → Tagged 16 f → TypeAt 1 f
-unfolding typeOf
-column-type f (ofColumn c) = (omega arith, refl)
+-- behind the rule's end it is Boolean
+within-behind : (n : ℕ) (rule : List ℕ) (at : ℕ) → length rule ≤ at → typeWithin n rule at ≡ Boolean
+unfolding typeWithin
+within-behind zero rule at none = refl
+within-behind (suc n) rule at none = ap (λ (tag : ℕ). typeBy (typeWithin n rule) (sourceBy tag rule at)) (List·getD-eq-default rule 0 none)
 
-pub literal-type : (f : Expr) → Tagged 17 f → TypeAt 0 f
-unfolding typeOf
-literal-type f (ofLiteral t v) = (omega arith, refl)
+-- two ways to give types that agree onward give one type
+type-same : {at : ℕ} (f g : ℕ → DataType) (s : TypeSource) → Onward at s → ((next : ℕ) → at < next → f next ≡ g next) → typeBy f s ≡ typeBy g s
+type-same f g (itself t) onward same = refl
+type-same f g (another next) onward same = same next onward
 
-pub cast-type : (f : Expr) → Tagged 21 f → TypeAt 0 f
-unfolding typeOf
-cast-type f (ofCast t e) = (omega arith, refl)
+-- as many steps as there are bytes left give what more give
+within-more : (n m : ℕ) (rule : List ℕ) (at : ℕ) → length rule ≤ at + n → length rule ≤ at + m → typeWithin n rule at ≡ typeWithin m rule at
+unfolding typeWithin
+within-more zero m rule at p q = sym (within-behind m rule at (omega arith))
+within-more (suc n) zero rule at p q = within-behind (suc n) rule at (omega arith)
+within-more (suc n) (suc m) rule at p q =
+    type-same (typeWithin n rule) (typeWithin m rule) (sourceBy (byte rule at) rule at) (source-onward rule at) (λ next k. within-more n m rule next (omega arith) (omega arith))
 
-pub tryCast-type : (f : Expr) → Tagged 22 f → TypeAt 0 f
-unfolding typeOf
-tryCast-type f (ofTryCast t e) = (omega arith, refl)
+-- so a node's type is its source's
+type-steps : (rule : List ℕ) (at : ℕ) → typeAt rule at ≡ typeBy (typeAt rule) (sourceBy (byte rule at) rule at)
+unfolding typeAt typeWithin
+type-steps rule at = within-more (length rule) (suc (length rule)) rule at (omega arith) (omega arith)
 
-module _ {rule : List ℕ} {start at : ℕ} (left : TypeLeft rule start at) where
-  -- the type of the tree that stands there
-  type-told : {r : DataType} → ((m : ℕ) (f : Expr) (d : ℕ) → NodeAt rule at m f d → r ≡ typeOf f) → TypeGives rule start r
-  type-told told end e depth n = let (m, f, d, k, same) = left end e depth n in told m f d k ∙ same
+type-tagged : (rule : List ℕ) (at : ℕ) {tag : ℕ} → byte rule at ≡ tag → typeAt rule at ≡ typeBy (typeAt rule) (sourceBy tag rule at)
+type-tagged rule at is = type-steps rule at ∙ ap (λ (tag : ℕ). typeBy (typeAt rule) (sourceBy tag rule at)) is
 
-  -- or of the one that it takes its type from
-  type-goes : {next : ℕ} → ((m : ℕ) (f : Expr) (d : ℕ) → NodeAt rule at m f d → (m′ : ℕ) × (f′ : Expr) × (d′ : ℕ) × NodeAt rule next m′ f′ d′ × (typeOf f′ ≡ typeOf f))
-      → TypeLeft rule start next
-  type-goes goes end e depth n =
-      let (m, f, d, k, same) = left end e depth n in
-      let (m′, f′, d′, k′, more) = goes m f d k in
-      (m′, f′, d′, k′, more ∙ same)
+-- by its tag: a type byte, another node, and Boolean for the rest
+pub type-byte : (rule : List ℕ) (at tag : ℕ) {t r : DataType} {number read : ℕ} → typeAt rule at ≡ t → byte rule at ≡ tag → sourceBy tag rule at ≡ itself (typeFrom read)
+    → number ≡ read → r ≡ typeFrom number → r ≡ t
+type-byte rule at tag same is source read told = told ∙ ap typeFrom read ∙ sym (ap (typeBy (typeAt rule)) source) ∙ sym (type-tagged rule at is) ∙ same
 
-  -- a type byte at a place of its own
-  pub type-byte : {r : DataType} {number place : ℕ} (tag i : ℕ) → ((f : Expr) → Tagged tag f → TypeAt i f) → byte rule at ≡ tag → place ≡ at + 3 + i → number ≡ byte rule place
-      → NumberedGives number r → TypeGives rule start r
-  type-byte {place = place} tag i typed is place-is number-is numbers =
-      type-told
-      (λ m f d n.
-      let (inside, own) = typed f (node-of-tag n is) in
-      numbers (typeOf f) (number-is ∙ node-byte i place n inside place-is ∙ own))
+pub type-another : (rule : List ℕ) (at tag : ℕ) {t : DataType} {next r : ℕ} → typeAt rule at ≡ t → byte rule at ≡ tag → sourceBy tag rule at ≡ another next → r ≡ next
+    → typeAt rule r ≡ t
+type-another rule at tag same is source told = ap (typeAt rule) told ∙ sym (ap (typeBy (typeAt rule)) source) ∙ sym (type-tagged rule at is) ∙ same
 
-  -- behind the end no tree stands
-  pub type-behind : {r : DataType} → length rule ≤ at → TypeGives rule start r
-  type-behind none = type-told (λ m f d n. absurd (let k = nothing-behind n in omega arith))
+abbrev NoType : ℕ → Type 0
+NoType tag = (((((Unit {0} × (tag ≡ 16 → ⊥)) × (tag ≡ 17 → ⊥)) × (tag ≡ 19 → ⊥)) × (tag ≡ 21 → ⊥)) × (tag ≡ 22 → ⊥)) × (tag ≡ 25 → ⊥)
 
-  -- negative has its child's type
-  pub type-negative : byte rule at ≡ 19 → TypeLeft rule start (at + 3)
-  unfolding typeOf
-  type-negative is = type-goes (λ m f d n. go m f d n (node-of-tag n is))
-    where
-      go : (m : ℕ) (f : Expr) (d : ℕ) → NodeAt rule at m f d → Tagged 19 f → (m′ : ℕ) × (f′ : Expr) × (d′ : ℕ) × NodeAt rule (at + 3) m′ f′ d′ × (typeOf f′ ≡ typeOf f)
-      go m f d n (ofNegative e) = (m, e, d - 1, trees-one (node-children (at + 3) n (omega arith)), refl)
+pub type-boolean : (rule : List ℕ) (at : ℕ) {t : DataType} {tag : ℕ} → typeAt rule at ≡ t → byte rule at ≡ tag → NoType tag → Boolean ≡ t
+type-boolean rule at {tag = tag} same is ((((((u, a), b), c), d), e), f) =
+    let none : sourceBy tag rule at ≡ itself Boolean = rw (ne-eqb tag 16 a, ne-eqb tag 17 b, ne-eqb tag 19 c, ne-eqb tag 21 d, ne-eqb tag 22 e, ne-eqb tag 25 f) in
+    sym (type-tagged rule at is ∙ ap (typeBy (typeAt rule)) none) ∙ same
 
-  -- a CASE has its first THEN's
-  pub type-case : {next : ℕ} → byte rule at ≡ 25 → ThenGives rule at next → TypeLeft rule start next
+-- and behind the rule's end
+pub type-behind : (rule : List ℕ) {at : ℕ} {t : DataType} → typeAt rule at ≡ t → length rule ≤ at → Boolean ≡ t
+unfolding typeAt
+type-behind rule {at} same none = sym (within-behind (length rule) rule at none) ∙ same
+
+-- the type of the node of a tree
+mutual
   unfolding typeOf branchCount
-  type-case {next} is thens = type-goes (λ m f d n. go m f d n (node-of-tag n is))
-    where
-      go : (m : ℕ) (f : Expr) (d : ℕ) → NodeAt rule at m f d → Tagged 25 f → (m′ : ℕ) × (f′ : Expr) × (d′ : ℕ) × NodeAt rule next m′ f′ d′ × (typeOf f′ ≡ typeOf f)
-      go m f d n (ofCase b noMore els) = absurd (omega (arith, case-counted n .0))
-      go m f d n (ofCase b (branch w t bs) els) = let (m′, k) = thens .stand m b w t bs els d n in (m′, t, d - 1, k, refl)
 
-  -- the others are Boolean
-  pub type-boolean : (((((Unit {0} × (byte rule at ≡ 16 → ⊥)) × (byte rule at ≡ 17 → ⊥)) × (byte rule at ≡ 19 → ⊥)) × (byte rule at ≡ 21 → ⊥)) × (byte rule at ≡ 22 → ⊥)) × (byte rule at ≡ 25 → ⊥)
-      → TypeGives rule start Boolean
-  unfolding typeOf
-  type-boolean rest = type-told (λ m f d n. go (node-of-tag n refl) rest)
-    where
-      go : {tag : ℕ} {f : Expr} → Tagged tag f
-          → (((((Unit {0} × (tag ≡ 16 → ⊥)) × (tag ≡ 17 → ⊥)) × (tag ≡ 19 → ⊥)) × (tag ≡ 21 → ⊥)) × (tag ≡ 22 → ⊥)) × (tag ≡ 25 → ⊥) → Boolean ≡ typeOf f
-      go (ofColumn c) p = absurd (p .0 .0 .0 .0 .0 .1 refl)
-      go (ofLiteral t v) p = absurd (p .0 .0 .0 .0 .1 refl)
-      go (ofNegation e) p = refl
-      go (ofNegative e) p = absurd (p .0 .0 .0 .1 refl)
-      go (ofIsNotNull e) p = refl
-      go (ofCast t e) p = absurd (p .0 .0 .1 refl)
-      go (ofTryCast t e) p = absurd (p .0 .1 refl)
-      go (ofEqual a b) p = refl
-      go (ofLess a b) p = refl
-      go (ofCase b bs e) p = absurd (p .1 refl)
+  type-of-node : {rule : List ℕ} {at end depth : ℕ} (e : Expr) → NodeAt rule at end e depth → typeAt rule at ≡ typeOf e
+  type-of-node {rule} {at} (column c) n = type-tagged rule at (node-tag n) ∙ ap typeFrom (node-byte 1 (at + 4) n (omega arith) (omega arith)) ∙ type-from (c .type)
+  type-of-node {rule} {at} (literal t v) n = type-tagged rule at (node-tag n) ∙ ap typeFrom (node-byte 0 (at + 3) n (omega arith) (omega arith)) ∙ type-from t
+  type-of-node {rule} {at} (negation e) n = type-tagged rule at (node-tag n)
+  type-of-node {rule} {at} (negative e) n = type-tagged rule at (node-tag n) ∙ type-of-node e (trees-one (node-children (at + 3) n (omega arith)))
+  type-of-node {rule} {at} (isNotNull e) n = type-tagged rule at (node-tag n)
+  type-of-node {rule} {at} (cast t e) n = type-tagged rule at (node-tag n) ∙ ap typeFrom (node-byte 0 (at + 3) n (omega arith) (omega arith)) ∙ type-from t
+  type-of-node {rule} {at} (tryCast t e) n = type-tagged rule at (node-tag n) ∙ ap typeFrom (node-byte 0 (at + 3) n (omega arith) (omega arith)) ∙ type-from t
+  type-of-node {rule} {at} (equal a b) n = type-tagged rule at (node-tag n)
+  type-of-node {rule} {at} (less a b) n = type-tagged rule at (node-tag n)
+  type-of-node {rule} {at} (caseWhen b bs els) n = type-tagged rule at (node-tag n) ∙ type-of-first bs b els n
+
+  type-of-first : {rule : List ℕ} {at end depth : ℕ} (bs : Branches) (b els : Optional) → NodeAt rule at end (caseWhen b bs els) depth → typeAt rule (firstThen rule at) ≡ resultType bs
+  type-of-first noMore b els n = absurd (omega (arith, case-counted n .0))
+  type-of-first (branch w t bs) b els n = type-of-node t (then-stands n .1)
+
+-- the type of whatever node stands at a place
+pub type-gives : {rule : List ℕ} {start : ℕ} {r : DataType} → r ≡ typeAt rule start → TypeGives rule start r
+type-gives is end e depth n = is ∙ type-of-node e n

@@ -1,20 +1,25 @@
 -- Steps from a node to its end, to its children, and over trees that stand one behind the other. Assumes nothing.
 use mathlib.Core.Path.{_≡_, refl, ap, sym, subst, _∙_}
+use mathlib.Core.Bool.{Bool, true, false, cond}
 use mathlib.Core.List.{List, [], _∷_, _++_}
-use Prim.Native.Nat.{ℕ, _+_, _-_, _*_, _%_, _<_, _≤_}
+use Prim.Native.Nat.{ℕ, zero, suc, _+_, _-_, _*_, _%_, _<_, _≤_}
 use native.Mathlib.Omega.{arith}
-use lib.ListN.{length, drop}
+use lib.Dec.{leb}
+use lib.ListN.{length, drop, List·getD-eq-default}
+use borrow.Author.Tests.{leb-true, leb-false, le-leb, lt-leb, ne-eqb}
 use Rattle.layout.specs.declared.field.FieldPlace.{FieldPlace}
+use Rattle.layout.specs.declared.field.Header.{Header}
 use Rattle.layout.specs.declared.field.Header.the-variants.{Found, Cut}
 use Rattle.layout.specs.Result.{Result, refused, ok}
 use Rattle.layout.specs.Bytes.{byte}
 use Rattle.layout.specs.Field.{Field, header}
 use Rattle.layout.specs.Place.{headerOf, headerAt}
-use Rattle.rule.specs.Tree.{Expr, Branches, noMore, branch, Optional, absent, present, branchCount}
+use Rattle.rule.specs.Tree.{Expr, column, literal, negation, negative, isNotNull, cast, tryCast, equal, less, caseWhen, Branches, noMore, branch, Optional, absent, present, branchCount}
 use Rattle.rule.specs.TreeBytes.{flagsOf}
 use Rattle.rule.specs.Node.{NodeAt}
-use Rattle.rule.specs.Walks.{branchTrees, optionalTrees, childrenOf, headBytes, TreesAt, EndGives, ChildrenGives, BehindGives}
-use Rattle.rule.proofs.NodeLaws.{Tagged, ofColumn, ofLiteral, ofNegation, ofNegative, ofIsNotNull, ofCast, ofTryCast, ofEqual, ofLess, ofCase, tagged-by, node-found, node-not-cut, node-tag, node-children, node-size, node-end, trees-split}
+use Rattle.rule.specs.Walks.{branchTrees, optionalTrees, childrenOf, headBytes, nodeTag, TreesAt, EndGives, ChildrenGives, BehindGives}
+use Rattle.rule.specs.Walked.{headerEnd, fieldEnd, behindFields, leafTag, headSize, childrenAt}
+use Rattle.rule.proofs.NodeLaws.{Tagged, tagged-by, node-found, node-not-cut, node-tag, node-children, node-size, node-end, trees-split}
 
 -- a field that is found takes at least its header
 found-size : (l : List ℕ) (at : ℕ) (p : FieldPlace) → headerAt l at ≡ Found p → at + 3 ≤ p .end
@@ -27,15 +32,6 @@ found-size l at p = go (header 2 (drop at l))
         let k : at + 3 + length (f .content) ≡ p .end = ap (λ (q : FieldPlace). q .end) same in
         omega arith
 
--- the end of a field
-pub end-found : {rule : List ℕ} {at : ℕ} {p : FieldPlace} → headerAt rule at ≡ Found p → EndGives rule at (p .end)
-end-found {rule} {at} {p} h =
-    let size = found-size rule at p h in
-    record { ends = λ end e depth n. node-found n h .2; onward = omega arith; farther = λ k. omega arith }
-
-pub end-cut : {rule : List ℕ} {at : ℕ} → at < length rule → headerAt rule at ≡ Cut → EndGives rule at (length rule)
-end-cut room h = record { ends = λ end e depth n. absurd (node-not-cut n h); onward = omega arith; farther = λ k. k }
-
 -- no node stands behind the end
 pub nothing-behind : {rule : List ℕ} {start end depth : ℕ} {e : Expr} → NodeAt rule start end e depth → start < length rule
 nothing-behind n = omega (arith, node-size n, n .inside)
@@ -44,55 +40,100 @@ nothing-behind n = omega (arith, node-size n, n .inside)
 pub node-of-tag : {rule : List ℕ} {start end depth : ℕ} {e : Expr} {tag : ℕ} → NodeAt rule start end e depth → byte rule start ≡ tag → Tagged tag e
 node-of-tag {e = e} {tag} n is = tagged-by e tag (sym is ∙ node-tag n)
 
--- where a node's children stand, by how many bytes there are before them
-children-given : {rule : List ℕ} {at r : ℕ} → at < r → ((end : ℕ) (e : Expr) (depth : ℕ) → NodeAt rule at end e depth → r ≡ at + 3 + length (headBytes e)) → ChildrenGives rule at r
-children-given {r = r} more is = record { stand = λ end e depth n. node-children r n (is end e depth n); onward = omega arith; farther = λ k. more }
+-- a tag that was read stands before the rule's end
+pub tag-inside : (rule : List ℕ) (at : ℕ) {byte-read n : ℕ} → byte-read ≡ byte rule at → byte-read ≡ suc n → at < length rule
+tag-inside rule at read is = go (leb (length rule) at) refl
+  where
+    go : (b : Bool) → leb (length rule) at ≡ b → at < length rule
+    go true p = let none : byte rule at ≡ 0 = List·getD-eq-default rule 0 (leb-true _ _ p) in absurd (omega arith)
+    go false p = leb-false _ _ p
 
--- by the node's tag
-pub children-head : {rule : List ℕ} {at r : ℕ} (tag k : ℕ) → byte rule at ≡ tag → ((e : Expr) → Tagged tag e → length (headBytes e) ≡ k) → r ≡ at + 3 + k → ChildrenGives rule at r
-children-head tag k is size place = children-given (omega arith) (λ end e depth n. let s = size e (node-of-tag n is) in omega arith)
+-- the end of a field, behind the rule's end
+pub end-behind : (rule : List ℕ) {at : ℕ} → length rule ≤ at → at ≡ fieldEnd rule at
+unfolding fieldEnd
+end-behind rule {at} none = rw (le-leb (length rule) at none)
 
--- a leaf has none, at its end
-pub children-leaf : {rule : List ℕ} {at r : ℕ} (tag : ℕ) → byte rule at ≡ tag → ((e : Expr) → Tagged tag e → childrenOf e ≡ []) → at < length rule → EndGives rule at r
-    → ChildrenGives rule at r
-children-leaf tag is leaf inside end-is =
-    children-given (end-is .farther inside)
-    (λ end e depth n. end-is .ends end e depth n ∙ sym (node-end n (leaf e (node-of-tag n is))))
+-- and by its header
+pub end-told : (rule : List ℕ) {at : ℕ} {h : Header} → at < length rule → headerAt rule at ≡ h → headerEnd (length rule) h ≡ fieldEnd rule at
+unfolding fieldEnd
+end-told rule {at} room is =
+    sym (ap (λ (b : Bool). cond b at (headerEnd (length rule) (headerAt rule at))) (lt-leb (length rule) at room) ∙ ap (headerEnd (length rule)) is)
+
+-- it is that of whatever node stands there, and onward
+pub end-gives : {rule : List ℕ} {at r : ℕ} → r ≡ fieldEnd rule at → EndGives rule at r
+unfolding fieldEnd
+end-gives {rule} {at} is = subst (EndGives rule at) (sym is) (go (leb (length rule) at) refl (headerAt rule at) refl)
+  where
+    go : (b : Bool) → leb (length rule) at ≡ b → (h : Header) → headerAt rule at ≡ h → EndGives rule at (cond b at (headerEnd (length rule) h))
+    go true p h q =
+        let none : length rule ≤ at = leb-true _ _ p in
+        record { ends = λ end e depth n. absurd (let k = nothing-behind n in omega arith); onward = omega arith; farther = λ k. absurd (omega arith) }
+    go false p (Found f) q = let size = found-size rule at f q in record { ends = λ end e depth n. node-found n q .2; onward = omega arith; farther = λ k. omega arith }
+    go false p Cut q =
+        let room : at < length rule = leb-false _ _ p in
+        record { ends = λ end e depth n. absurd (node-not-cut n q); onward = omega arith; farther = λ k. k }
+
+-- where the children stand, behind the rule's end
+pub children-behind : (rule : List ℕ) {at : ℕ} → length rule ≤ at → at ≡ childrenAt rule at
+unfolding childrenAt
+children-behind rule {at} none = rw (le-leb (length rule) at none)
+
+-- and by the tag
+children-by : (rule : List ℕ) {at tag : ℕ} → at < length rule → byte rule at ≡ tag → childrenAt rule at ≡ cond (leafTag tag) (fieldEnd rule at) (at + 3 + headSize tag)
+unfolding childrenAt
+children-by rule {at} room is =
+    ap (λ (b : Bool). cond b at (cond (leafTag (byte rule at)) (fieldEnd rule at) (at + 3 + headSize (byte rule at)))) (lt-leb (length rule) at room)
+    ∙ ap (λ (t : ℕ). cond (leafTag t) (fieldEnd rule at) (at + 3 + headSize t)) is
+
+pub children-told : (rule : List ℕ) {at r : ℕ} (tag : ℕ) → at < length rule → byte rule at ≡ tag → r ≡ cond (leafTag tag) (fieldEnd rule at) (at + 3 + headSize tag)
+    → r ≡ childrenAt rule at
+children-told rule tag room is told = told ∙ sym (children-by rule room is)
 
 -- a tag that is none of those with bytes before the children
 abbrev Plain : ℕ → Type 0
 Plain tag = ((((Unit {0} × (tag ≡ 16 → ⊥)) × (tag ≡ 17 → ⊥)) × (tag ≡ 21 → ⊥)) × (tag ≡ 22 → ⊥)) × (tag ≡ 25 → ⊥)
 
-plain-head : {tag : ℕ} {e : Expr} → Tagged tag e → Plain tag → length (headBytes e) ≡ 0
-plain-head (ofColumn c) p = absurd (p .0 .0 .0 .0 .1 refl)
-plain-head (ofLiteral t v) p = absurd (p .0 .0 .0 .1 refl)
-plain-head (ofNegation e) p = refl
-plain-head (ofNegative e) p = refl
-plain-head (ofIsNotNull e) p = refl
-plain-head (ofCast t e) p = absurd (p .0 .0 .1 refl)
-plain-head (ofTryCast t e) p = absurd (p .0 .1 refl)
-plain-head (ofEqual a b) p = refl
-plain-head (ofLess a b) p = refl
-plain-head (ofCase b bs e) p = absurd (p .1 refl)
+pub children-plain : (rule : List ℕ) {at tag : ℕ} → at < length rule → byte rule at ≡ tag → Plain tag → at + 3 ≡ childrenAt rule at
+children-plain rule {at} {tag} room is (((((u, a), b), c), d), e) =
+    children-told rule tag room is (rw (ne-eqb tag 16 a, ne-eqb tag 17 b, ne-eqb tag 21 c, ne-eqb tag 22 d, ne-eqb tag 25 e) (omega arith))
 
-pub children-plain : {rule : List ℕ} {at r : ℕ} → Plain (byte rule at) → r ≡ at + 3 → ChildrenGives rule at r
-children-plain rest place = children-given (omega arith) (λ end e depth n. let s = plain-head (node-of-tag n refl) rest in omega arith)
+-- behind the bytes before them
+children-placed : {rule : List ℕ} {at end depth : ℕ} (e : Expr) → NodeAt rule at end e depth → childrenAt rule at ≡ at + 3 + length (headBytes e)
+children-placed {rule} {at} {end} {depth} e n = children-by rule (nothing-behind n) (node-tag n) ∙ go e n
+  where
+    leaf : (f : Expr) → NodeAt rule at end f depth → childrenOf f ≡ [] → fieldEnd rule at ≡ at + 3 + length (headBytes f)
+    leaf f m none = end-gives refl .ends end f depth m ∙ sym (node-end m none)
 
--- the bytes of each leaf, and how many there are before a child
-pub column-leaf : (e : Expr) → Tagged 16 e → childrenOf e ≡ []
-column-leaf e (ofColumn c) = refl
+    go : (f : Expr) → NodeAt rule at end f depth → cond (leafTag (nodeTag f)) (fieldEnd rule at) (at + 3 + headSize (nodeTag f)) ≡ at + 3 + length (headBytes f)
+    go (column c) m = leaf (column c) m refl
+    go (literal t v) m = leaf (literal t v) m refl
+    go (negation f) m = refl
+    go (negative f) m = refl
+    go (isNotNull f) m = refl
+    go (cast t f) m = refl
+    go (tryCast t f) m = refl
+    go (equal a b) m = refl
+    go (less a b) m = refl
+    go (caseWhen b bs els) m = refl
 
-pub literal-leaf : (e : Expr) → Tagged 17 e → childrenOf e ≡ []
-literal-leaf e (ofLiteral t v) = refl
+children-farther : (rule : List ℕ) {at : ℕ} → at < length rule → at < childrenAt rule at
+children-farther rule {at} room = subst (λ (x : ℕ). at < x) (sym (children-by rule room refl)) (go (leafTag (byte rule at)))
+  where
+    go : (b : Bool) → at < cond b (fieldEnd rule at) (at + 3 + headSize (byte rule at))
+    go true = end-gives refl .farther room
+    go false = omega arith
 
-pub cast-head : (e : Expr) → Tagged 21 e → length (headBytes e) ≡ 1
-cast-head e (ofCast t f) = refl
-
-pub tryCast-head : (e : Expr) → Tagged 22 e → length (headBytes e) ≡ 1
-tryCast-head e (ofTryCast t f) = refl
-
-pub case-head : (e : Expr) → Tagged 25 e → length (headBytes e) ≡ 2
-case-head e (ofCase b bs els) = refl
+-- the children of whatever node stands there, and onward
+pub children-gives : {rule : List ℕ} {at r : ℕ} → r ≡ childrenAt rule at → ChildrenGives rule at r
+children-gives {rule} {at} is = subst (ChildrenGives rule at) (sym is) (record {
+  stand = λ end e depth n. node-children (childrenAt rule at) n (children-placed e n);
+  onward = go (leb (length rule) at) refl;
+  farther = children-farther rule;
+})
+  where
+    go : (b : Bool) → leb (length rule) at ≡ b → at ≤ childrenAt rule at
+    go true p = let k = children-behind rule {at = at} (leb-true _ _ p) in omega arith
+    go false p = let k = children-farther rule {at = at} (leb-false _ _ p) in omega arith
 
 -- the first of several trees up to its end, and those behind it
 pub first-tree : {rule : List ℕ} {place next end depth : ℕ} {e : Expr} {es : List Expr} → EndGives rule place next → TreesAt rule place end (e ∷ es) depth
@@ -110,38 +151,34 @@ first-two e f trees =
     let (second, later) = first-tree f rest in
     (first, second, later)
 
--- over so many trees: as many as are left stand at the place
-abbrev pub Stepping : List ℕ → ℕ → ℕ → ℕ → ℕ → Type 0
-Stepping rule at count place left =
-    (at ≤ place)
-    × ((end : ℕ) (es rest : List Expr) (depth : ℕ) → length es ≡ count → TreesAt rule at end (es ++ rest) depth
-    → (fs : List Expr) × (length fs ≡ left) × TreesAt rule place end (fs ++ rest) depth)
+-- what stands behind so many fields, one field on
+pub behind-next : (rule : List ℕ) (place : ℕ) {left next : ℕ} → 0 < left → next ≡ fieldEnd rule place → behindFields rule next (left - 1) ≡ behindFields rule place left
+unfolding behindFields
+behind-next rule place {left = zero} some is = absurd (omega arith)
+behind-next rule place {left = suc n} {next} some is = let k : suc n - 1 ≡ n = omega arith in ap (behindFields rule next) k ∙ ap (λ (x : ℕ). behindFields rule x n) is
 
-pub stepping-starts : (rule : List ℕ) (at count : ℕ) → Stepping rule at count at count
-stepping-starts rule at count = (omega arith, λ end es rest depth n t. (es, n, t))
+-- and behind none
+pub behind-none : (rule : List ℕ) {place left : ℕ} → left ≤ 0 → place ≡ behindFields rule place left
+unfolding behindFields
+behind-none rule {left = zero} none = refl
+behind-none rule {left = suc n} none = absurd (omega arith)
 
--- one more, at the end of the first
-one-behind : {rule : List ℕ} {place next end depth left : ℕ} (fs rest : List Expr) → length fs ≡ left → 0 < left → EndGives rule place next → TreesAt rule place end (fs ++ rest) depth
-    → (gs : List Expr) × (length gs ≡ left - 1) × TreesAt rule next end (gs ++ rest) depth
-one-behind [] rest n some ends t = absurd (omega arith)
-one-behind (f ∷ fs) rest n some ends t = (fs, omega arith, first-tree ends t .1)
+behind-onward : (rule : List ℕ) (at count : ℕ) → at ≤ behindFields rule at count
+unfolding behindFields
+behind-onward rule at zero = omega arith
+behind-onward rule at (suc n) = omega (arith, behind-onward rule (fieldEnd rule at) n, end-gives {rule = rule} {at = at} refl .onward)
 
-pub stepping-goes : {rule : List ℕ} {at count place left next : ℕ} → Stepping rule at count place left → 0 < left → EndGives rule place next → Stepping rule at count next (left - 1)
-stepping-goes {left = left} s some ends = (
-  omega (arith, s .0, ends .onward),
-  λ end es rest depth n t. let (fs, size, trees) = s .1 end es rest depth n t in one-behind fs rest size some ends trees,
-)
+behind-stands : {rule : List ℕ} {at end depth : ℕ} (es rest : List Expr) → TreesAt rule at end (es ++ rest) depth → TreesAt rule (behindFields rule at (length es)) end rest depth
+unfolding behindFields
+behind-stands [] rest t = t
+behind-stands (e ∷ es) rest t = behind-stands es rest (first-tree (end-gives refl) t .1)
 
-none-left : {rule : List ℕ} {place end depth : ℕ} (fs rest : List Expr) → length fs ≡ 0 → TreesAt rule place end (fs ++ rest) depth → TreesAt rule place end rest depth
-none-left [] rest n t = t
-none-left (f ∷ fs) rest n t = absurd (omega arith)
-
-pub stepping-ends : {rule : List ℕ} {at count place left : ℕ} → Stepping rule at count place left → left ≤ 0 → BehindGives rule at count place
-stepping-ends {left = left} s none =
-    record {
-      stand = λ end es rest depth n t. let (fs, size, trees) = s .1 end es rest depth n t in none-left fs rest (omega arith) trees;
-      onward = s .0;
-    }
+-- the trees behind so many, whatever they are, and onward
+pub behind-gives : {rule : List ℕ} {at count r : ℕ} → r ≡ behindFields rule at count → BehindGives rule at count r
+behind-gives {rule} {at} {count} is = subst (BehindGives rule at count) (sym is) (record {
+  stand = λ end es rest depth n t. subst (λ (k : ℕ). TreesAt rule (behindFields rule at k) end rest depth) n (behind-stands es rest t);
+  onward = behind-onward rule at count;
+})
 
 -- whether a base is there is the lowest of the flags
 pub base-flag : (b e : Optional) → flagsOf b e % 2 ≡ length (optionalTrees b)

@@ -1,87 +1,59 @@
--- What the walks promise that tell a rule's strategy and nullability (01, Strategies).
+-- What the walks give that tell a rule's strategy and nullability, of whatever tree stands there (01, Strategies).
 use mathlib.Core.Path.{_≡_}
 use mathlib.Core.Bool.{Bool, true, false, _&&_, _||_}
 use mathlib.Core.List.{List, [], _∷_, _++_}
 use Prim.Native.Nat.{ℕ, _+_, _≤_}
 use lib.ListN.{length}
-use Rattle.rule.specs.Tree.{Expr, caseWhen, Branches, Optional, branchCount, isNullLiteral}
-use Rattle.rule.specs.TreeBytes.{isPresent}
-use Rattle.rule.specs.Typing.{typeOf}
+use Rattle.rule.specs.Tree.{Expr, caseWhen, Branches, Optional, branchCount}
 use Rattle.rule.specs.Nullable.{stripped, reachable, nullable, nullableThen, nullableElse}
 use Rattle.rule.specs.declared.strategy.Strategy.{Strategy}
-use Rattle.rule.specs.Strategy.{isLiteral, dropNull, someWhenValue, elseServes, tableServes, singleBranch, strategy}
+use Rattle.rule.specs.Strategy.{isLiteral, strategy}
 use Rattle.rule.specs.Node.{NodeAt}
 use Rattle.rule.specs.Walks.{branchTrees, optionalTrees, TreesAt}
 
--- whether whatever node stands at a place is a null literal,
-pub record NullLiteralGives (rule : List ℕ) (at : ℕ) (r : Bool) : Type 0 where
-  pub is : (end : ℕ) (e : Expr) (depth : ℕ) → NodeAt rule at end e depth → r ≡ isNullLiteral e
-
--- whether an ELSE is there that is not dropped,
-pub record ElseThereGives (rule : List ℕ) (at end : ℕ) (r : Bool) : Type 0 where
-  pub is : (els : Optional) (depth : ℕ) → TreesAt rule at end (optionalTrees els) depth → r ≡ isPresent (dropNull els)
-
--- whether so many trees are all literals,
+-- so many trees are all literals
 abbrev pub treesLiteral : List Expr → Bool
 treesLiteral [] = true
 treesLiteral (e ∷ es) = isLiteral e && treesLiteral es
 
-pub record LiteralsGives (rule : List ℕ) (at count : ℕ) (r : Bool) : Type 0 where
-  pub is : (end : ℕ) (es rest : List Expr) (depth : ℕ) → length es ≡ count → TreesAt rule at end (es ++ rest) depth → r ≡ treesLiteral es
-
--- whether a WHEN of so many branches isn't a null literal,
-pub record SomeWhenGives (rule : List ℕ) (at count : ℕ) (r : Bool) : Type 0 where
-  pub is : (end : ℕ) (bs : Branches) (rest : List Expr) (depth : ℕ) → branchCount bs ≡ count → TreesAt rule at end (branchTrees bs ++ rest) depth → r ≡ someWhenValue bs
-
--- whether an ELSE serves beside a THEN,
-pub record ElseServesGives (rule : List ℕ) (at end then : ℕ) (r : Bool) : Type 0 where
-  pub is : (els : Optional) (depth : ℕ) (m : ℕ) (t : Expr) (d : ℕ) → TreesAt rule at end (optionalTrees els) depth → NodeAt rule then m t d → r ≡ elseServes (typeOf t) (dropNull els)
-
--- whether a lookup table serves so many branches and what is behind them,
-pub record TableServesGives (rule : List ℕ) (at end count : ℕ) (r : Bool) : Type 0 where
-  pub is : (bs : Branches) (els : Optional) (depth : ℕ) → branchCount bs ≡ count → TreesAt rule at end (branchTrees bs ++ optionalTrees els) depth → r ≡ tableServes bs (dropNull els)
-
--- the strategy of one branch and what is behind it,
-pub record SingleGives (rule : List ℕ) (at end : ℕ) (r : Strategy) : Type 0 where
-  pub is : (w t : Expr) (els : Optional) (depth : ℕ) → TreesAt rule at end (w ∷ t ∷ optionalTrees els) depth → r ≡ singleBranch t (dropNull els)
-
--- and of whatever node stands at a place
+-- the strategy of whatever node stands at a place
 pub record StrategyGives (rule : List ℕ) (start end : ℕ) (r : Strategy) : Type 0 where
   pub is : (e : Expr) (depth : ℕ) → NodeAt rule start end e depth → r ≡ strategy e
 
--- where whatever node stands at a place stands, stripped,
+-- where whatever node stands at a place stands, stripped
 pub record StrippedGives (rule : List ℕ) (at r : ℕ) : Type 0 where
   pub stand : (end : ℕ) (e : Expr) (depth : ℕ) → NodeAt rule at end e depth → NodeAt rule r end (stripped e) depth
 
--- whether a WHEN before a THEN is reachable,
+-- whether a WHEN before a THEN is reachable
 pub record ReachableGives (rule : List ℕ) (when then end : ℕ) (r : Bool) : Type 0 where
   pub is : (w t : Expr) → NodeAt rule when then w 8 → NodeAt rule then end t 8 → r ≡ reachable w t
 
--- whether whatever node stands at a place is nullable,
+-- whether whatever node stands at a place is nullable
 pub record NullableGives (rule : List ℕ) (start end depth : ℕ) (r : Bool) : Type 0 where
   pub is : (e : Expr) → depth ≤ 8 → NodeAt rule start end e depth → r ≡ nullable e
 
--- whether one of several is,
+-- one of several trees is nullable
 abbrev pub anyNullable : List Expr → Bool
 anyNullable [] = false
 anyNullable (e ∷ es) = nullable e || anyNullable es
 
+-- whether one of several trees at a place is nullable
 pub record AnyGives (rule : List ℕ) (start end depth : ℕ) (r : Bool) : Type 0 where
   pub is : (es : List Expr) → depth ≤ 8 → TreesAt rule start end es depth → r ≡ anyNullable es
 
--- whether a CASE is,
+-- whether a CASE is nullable
 pub record CaseNullableGives (rule : List ℕ) (start end depth : ℕ) (r : Bool) : Type 0 where
   pub is : (b : Optional) (bs : Branches) (els : Optional) → depth ≤ 8 → NodeAt rule start end (caseWhen b bs els) (depth + 1) → r ≡ nullable (caseWhen b bs els)
 
--- by its branches and what is behind them,
+-- whether it is by its branches and what is behind them
 pub record BranchesNullableGives (rule : List ℕ) (at end count : ℕ) (base : Bool) (depth : ℕ) (r : Bool) : Type 0 where
   pub is : (bs : Branches) (els : Optional) → depth ≤ 8 → branchCount bs ≡ count → TreesAt rule at end (branchTrees bs ++ optionalTrees els) depth
       → r ≡ (nullableThen bs base || nullableElse els)
 
--- by a branch alone,
+-- whether it is by a branch alone
 pub record BranchNullableGives (rule : List ℕ) (when then end : ℕ) (base : Bool) (depth : ℕ) (r : Bool) : Type 0 where
   pub is : (w t : Expr) → depth ≤ 8 → NodeAt rule when then w depth → NodeAt rule then end t depth → r ≡ (nullable t && (base || reachable w t))
 
--- and whether the rule is
+-- whether a rule is nullable
 pub record RuleNullableGives (rule : List ℕ) (r : Bool) : Type 0 where
   pub is : (e : Expr) → NodeAt rule 0 (length rule) e 8 → r ≡ nullable e

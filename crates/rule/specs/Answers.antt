@@ -34,7 +34,7 @@ abbrev pub strategyAnswer : Result Expr → StrategyAnswer
 strategyAnswer (refused n) = OfStrategy.Refused n
 strategyAnswer (ok e) = OfStrategy.By (strategy e)
 
--- the nullability answer is a public answer
+-- the nullability answer (01, Strategies)
 abbrev pub nullableAnswer : Result Expr → NullableAnswer
 nullableAnswer (refused n) = OfNullable.Refused n
 nullableAnswer (ok e) = OfNullable.Nullable (nullable e)

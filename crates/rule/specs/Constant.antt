@@ -6,8 +6,8 @@ use Rattle.scalar.specs.Cast.{castEntry, isUnfit}
 use Rattle.rule.specs.Tree.{Column, Expr, column, literal, negation, negative, isNotNull, cast, tryCast, equal, less, caseWhen, Branches, noMore, branch, Optional, absent, present}
 use Rattle.rule.specs.Row.{Row, eval}
 
--- the column fields of a tree, in the order of its bytes
 unfoldable mutual
+  -- the column fields of a tree, in the order of its bytes
   pub columnsOf : Expr → List Column
   columnsOf (column c) = c ∷ []
   columnsOf (literal t v) = []
@@ -20,14 +20,17 @@ unfoldable mutual
   columnsOf (less a b) = columnsOf a ++ columnsOf b
   columnsOf (caseWhen b bs e) = optionalColumns b ++ (branchesColumns bs ++ optionalColumns e)
 
+  -- of branches, WHEN and THEN in turn
   pub branchesColumns : Branches → List Column
   branchesColumns noMore = []
   branchesColumns (branch w t bs) = columnsOf w ++ (columnsOf t ++ branchesColumns bs)
 
+  -- of a part that may be absent
   pub optionalColumns : Optional → List Column
   optionalColumns absent = []
   optionalColumns (present e) = columnsOf e
 
+-- a list that holds nothing
 abbrev pub isEmpty : {A : Type 0} → List A → Bool
 isEmpty [] = true
 isEmpty (a ∷ l) = false
@@ -40,8 +43,8 @@ unread c = unfit
 abbrev pub failsAlone : Expr → Bool
 failsAlone e = isEmpty (columnsOf e) && isUnfit (eval e unread)
 
--- a cast (tag 21) with no column under it fails, reached or not (01, Where a call stops: 8)
 unfoldable mutual
+  -- a cast (tag 21) with no column under it fails, reached or not (01, Where a call stops: 8)
   pub constantFails : Expr → Bool
   constantFails (column c) = false
   constantFails (literal t v) = false
@@ -54,10 +57,12 @@ unfoldable mutual
   constantFails (less a b) = constantFails a || constantFails b
   constantFails (caseWhen b bs e) = optionalFails b || branchesFail bs || optionalFails e
 
+  -- the same in a WHEN or a THEN of branches
   pub branchesFail : Branches → Bool
   branchesFail noMore = false
   branchesFail (branch w t bs) = constantFails w || constantFails t || branchesFail bs
 
+  -- the same in a part that may be absent
   pub optionalFails : Optional → Bool
   optionalFails absent = false
   optionalFails (present e) = constantFails e

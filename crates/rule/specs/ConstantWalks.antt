@@ -57,43 +57,46 @@ pub record TwoGives (rule : List ℕ) (tag : ℕ) (a b r : Value) : Type 0 where
 abbrev pub PassGives : Value → Bool → Type 0
 PassGives v r = (rule table : List ℕ) → r ≡ mayPass (meaning rule table v)
 
--- on the row of which no column can be read, with the parts that equal the target's bytes as null: whatever node stands at a place,
+-- whatever node stands at a place, on the row of which no column can be read, with the parts that equal the target's bytes as null
 pub record ConstantGives (rule : List ℕ) (start end : ℕ) (target : List ℕ) (depth : ℕ) (r : Value) : Type 0 where
   pub means : (e : Expr) → NodeAt rule start end e depth → Means rule r (eval (replaced e target) unread)
 
--- the same of a node that doesn't equal them, whose children nest at most so deep,
+-- the same of a node that doesn't equal them, whose children nest at most so deep
 pub record WithinGives (rule : List ℕ) (start end : ℕ) (target : List ℕ) (depth : ℕ) (r : Value) : Type 0 where
   pub means : (e : Expr) → NodeAt rule start end e (depth + 1) → Means rule r (eval (within e target) unread)
 
--- of a CASE,
+-- the same of a CASE
 pub record CaseGives (rule : List ℕ) (start end : ℕ) (target : List ℕ) (depth : ℕ) (r : Value) : Type 0 where
   pub means : (b : Optional) (bs : Branches) (els : Optional) → NodeAt rule start end (caseWhen b bs els) (depth + 1)
       → Means rule r (eval (within (caseWhen b bs els) target) unread)
 
--- of a base, which is true where there is none,
+-- what a base gives on that row, and true where there is none
 abbrev pub baseOutcome : Optional → Outcome
 baseOutcome absent = entry (boolean true)
 baseOutcome (present b) = eval b unread
 
+-- the same of a base
 pub record BaseGives (rule : List ℕ) (at end : ℕ) (target : List ℕ) (depth : ℕ) (r : Value) : Type 0 where
   pub means : (b : Optional) → TreesAt rule at end (optionalTrees b) depth → Means rule r (baseOutcome (replacedOptional b target))
 
--- of ELSE,
+-- what ELSE gives on that row, with those parts as null
 abbrev pub elseOutcome : Optional → DataType → List ℕ → Outcome
 elseOutcome els to target = evalElse (replacedOptional els target) unread to
 
+-- the same of ELSE
 pub record ElseGives (rule : List ℕ) (at end : ℕ) (to : DataType) (target : List ℕ) (depth : ℕ) (r : Value) : Type 0 where
   pub means : (els : Optional) → TreesAt rule at end (optionalTrees els) depth → Means rule r (elseOutcome els to target)
 
--- of branches and ELSE behind them, by a base,
+-- what branches and ELSE behind them give on that row, with those parts as null
 abbrev pub branchesOutcome : Branches → Test → Optional → DataType → List ℕ → Outcome
 branchesOutcome bs test els to target = evalBranches (replacedBranches bs target) unread test (elseOutcome els to target)
 
+-- the same of branches and ELSE behind them, by a base
 pub record BranchesGives (rule : List ℕ) (at end count : ℕ) (base : Value) (to : DataType) (target : List ℕ) (depth : ℕ) (r : Value) : Type 0 where
   pub means : (bs : Branches) (els : Optional) (b : Entry) → TreesAt rule at end (branchTrees bs ++ optionalTrees els) depth → branchCount bs ≡ count → Means rule base (entry b)
       → Means rule r (branchesOutcome bs (equalsTest b) els to target)
 
--- by a base that may be null or have failed
+-- the same by a base that may be null or have failed
 pub record WithBaseGives (rule : List ℕ) (at end count : ℕ) (base : Value) (to : DataType) (target : List ℕ) (depth : ℕ) (r : Value) : Type 0 where
   pub means : (bs : Branches) (els : Optional) (o : Outcome) → TreesAt rule at end (branchTrees bs ++ optionalTrees els) depth → branchCount bs ≡ count → Means rule base o
       → Means rule r (withBase o (λ test. branchesOutcome bs test els to target) (elseOutcome els to target))
@@ -111,14 +114,14 @@ failsHere (equal a b) = false
 failsHere (less a b) = false
 failsHere (caseWhen b bs e) = false
 
--- whether whatever node stands at a place names a column,
+-- whether whatever node stands at a place names a column
 pub record ColumnGives (rule : List ℕ) (start end : ℕ) (r : Bool) : Type 0 where
   pub is : (e : Expr) (depth : ℕ) → NodeAt rule start end e depth → r ≡ not (isEmpty (columnsOf e))
 
--- fails here,
+-- whether whatever node stands at a place is a constant cast that fails
 pub record FailsHereGives (rule : List ℕ) (start : ℕ) (r : Bool) : Type 0 where
   pub is : (end : ℕ) (e : Expr) → NodeAt rule start end e 8 → r ≡ failsHere e
 
--- or holds a constant cast that fails
+-- whether a rule holds a constant cast that fails
 pub record FailsGives (rule : List ℕ) (r : Bool) : Type 0 where
   pub is : (e : Expr) → NodeAt rule 0 (length rule) e 8 → r ≡ constantFails e

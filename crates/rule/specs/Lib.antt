@@ -18,3 +18,5 @@ pub mod Allowed
 pub mod Walks
 pub mod ConstantWalks
 pub mod AnswerWalks
+pub mod Walked
+pub mod WalkedStrategy

@@ -9,8 +9,8 @@ use Rattle.rule.specs.Tree.{Column, Expr, column, literal, negation, neg
 use Rattle.rule.specs.TreeBytes.{bytesOf}
 use Rattle.rule.specs.WellFormed.{wellFormed}
 
--- how deep a tree nests; leaves count (01, Bytes of a rule: depth)
 unfoldable mutual
+  -- how deep a tree nests; leaves count (01, Bytes of a rule: depth)
   pub depthOf : Expr → ℕ
   depthOf (column c) = 1
   depthOf (literal t v) = 1
@@ -23,10 +23,12 @@ unfoldable mutual
   depthOf (less a b) = suc (max (depthOf a) (depthOf b))
   depthOf (caseWhen b bs e) = suc (max (optionalDepth b) (max (branchesDepth bs) (optionalDepth e)))
 
+  -- how deep the WHENs and THENs of branches nest
   pub branchesDepth : Branches → ℕ
   branchesDepth noMore = 0
   branchesDepth (branch w t bs) = max (depthOf w) (max (depthOf t) (branchesDepth bs))
 
+  -- how deep a part that may be absent nests
   pub optionalDepth : Optional → ℕ
   optionalDepth absent = 0
   optionalDepth (present e) = depthOf e

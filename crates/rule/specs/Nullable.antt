@@ -27,8 +27,8 @@ stripped (caseWhen b bs e) = caseWhen b bs e
 abbrev pub replacedBy : List ℕ → Expr → Expr → Expr
 replacedBy bytes e within = cond (sameBytes (bytesOf e) bytes) (literal (typeOf e) null) within
 
--- every part that equals the bytes, whole fields, replaced by a null of its type
 unfoldable mutual
+  -- every part that equals the bytes, whole fields, replaced by a null of its type
   pub replaced : Expr → List ℕ → Expr
   replaced (column c) bytes = replacedBy bytes (column c) (column c)
   replaced (literal t v) bytes = replacedBy bytes (literal t v) (literal t v)
@@ -42,10 +42,12 @@ unfoldable mutual
   replaced (caseWhen b bs e) bytes =
       replacedBy bytes (caseWhen b bs e) (caseWhen (replacedOptional b bytes) (replacedBranches bs bytes) (replacedOptional e bytes))
 
+  -- the same in branches
   pub replacedBranches : Branches → List ℕ → Branches
   replacedBranches noMore bytes = noMore
   replacedBranches (branch w t bs) bytes = branch (replaced w bytes) (replaced t bytes) (replacedBranches bs bytes)
 
+  -- the same in a part that may be absent
   pub replacedOptional : Optional → List ℕ → Optional
   replacedOptional absent bytes = absent
   replacedOptional (present e) bytes = present (replaced e bytes)
@@ -59,10 +61,9 @@ mayPass unfit = true
 unfoldable pub reachable : Expr → Expr → Bool
 reachable when then = mayPass (eval (replaced when (bytesOf (stripped then))) unread)
 
--- a column goes by the rule's mark, a literal is nullable if null, a comparison if either side is; NOT, negative and cast go as
--- their child, IS NOT NULL never is, try-cast always; a CASE with a base is if any THEN is, without one if a THEN is that is
--- reachable; otherwise ELSE's answer, true without ELSE (a null literal ELSE, which is dropped, is nullable itself)
 unfoldable mutual
+  -- a column goes by the rule's mark, a literal is nullable if null, a comparison if either side is; NOT, negative and cast go as their child, IS NOT NULL never is,
+  -- try-cast always; a CASE if a THEN is, otherwise ELSE's answer
   pub nullable : Expr → Bool
   nullable (column c) = c .nullable
   nullable (literal t v) = isNull v
@@ -75,10 +76,12 @@ unfoldable mutual
   nullable (less a b) = nullable a || nullable b
   nullable (caseWhen b bs e) = nullableThen bs (isPresent b) || nullableElse e
 
+  -- with a base any nullable THEN; without, a nullable THEN that is reachable
   pub nullableThen : Branches → Bool → Bool
   nullableThen noMore base = false
   nullableThen (branch w t bs) base = (nullable t && (base || reachable w t)) || nullableThen bs base
 
+  -- ELSE's answer, true without ELSE; a null literal ELSE, which is dropped, is nullable itself
   pub nullableElse : Optional → Bool
   nullableElse absent = true
   nullableElse (present e) = nullable e

@@ -13,6 +13,7 @@ pub data Step : Type 0 where
   reads : ℕ → Step
   casts : DataType → Entry → Step
 
+-- a cast of a value that doesn't fit
 abbrev pub isMisfit : Step → Bool
 isMisfit (reads c) = false
 isMisfit (casts t v) = isUnfit (castEntry t v)
@@ -26,6 +27,7 @@ holdsMisfit (s ∷ p) = isMisfit s || holdsMisfit p
 unfoldable pub followedBy : List Step → List Step → List Step
 followedBy p q = cond (holdsMisfit p) p (p ++ q)
 
+-- the step of a cast: none where its child has failed
 abbrev pub castStep : DataType → Outcome → List Step
 castStep t (entry v) = casts t v ∷ []
 castStep t unfit = []
@@ -40,8 +42,8 @@ abbrev pub basePath : Outcome → (Test → List Step) → List Step → List St
 basePath (entry v) branches els = cond (isNull v) els (branches (equalsTest v))
 basePath unfit branches els = []
 
--- base, WHENs up to the first that passes, the result taken, both sides of a comparison, and so on inside nested CASEs
 unfoldable mutual
+  -- base, WHENs up to the first that passes, the result taken, both sides of a comparison, and so on inside nested CASEs
   pub path : Expr → Row → List Step
   path (column c) row = reads (c .index) ∷ []
   path (literal t v) row = []
@@ -54,15 +56,18 @@ unfoldable mutual
   path (less a b) row = followedBy (path a row) (path b row)
   path (caseWhen b bs e) row = pathBase b row (λ test. pathBranches bs row test (pathElse e row)) (pathElse e row)
 
+  -- the base, if there is one, and what is read behind it
   pub pathBase : Optional → Row → (Test → List Step) → List Step → List Step
   pathBase absent row branches els = branches isTrueTest
   pathBase (present b) row branches els = followedBy (path b row) (basePath (eval b row) branches els)
 
+  -- WHENs up to the first that passes, and its THEN
   pub pathBranches : Branches → Row → Test → List Step → List Step
   pathBranches noMore row test els = els
   pathBranches (branch w t bs) row test els =
       followedBy (path w row) (chosenPath test (eval w row) (path t row) (pathBranches bs row test els))
 
+  -- ELSE, if there is one
   pub pathElse : Optional → Row → List Step
   pathElse absent row = []
   pathElse (present e) row = path e row

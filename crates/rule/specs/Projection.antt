@@ -11,9 +11,11 @@ unfoldable pub insertRising : ℕ → List ℕ → List ℕ
 insertRising c [] = c ∷ []
 insertRising c (d ∷ l) = cond (eqb c d) (d ∷ l) (cond (ltb c d) (c ∷ d ∷ l) (d ∷ insertRising c l))
 
+-- the indexes of columns, each once, rising
 unfoldable pub indexes : List Column → List ℕ
 indexes [] = []
 indexes (c ∷ l) = insertRising (c .index) (indexes l)
 
+-- the columns a rule names, each once, rising
 abbrev pub projection : Expr → List ℕ
 projection e = indexes (columnsOf e)

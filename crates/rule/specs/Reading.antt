@@ -44,9 +44,11 @@ tagOf anEqual = 23
 tagOf aLess = 24
 tagOf aCase = 25
 
+-- the fields that a rule may have
 abbrev pub kinds : List Kind
 kinds = aColumn ∷ aLiteral ∷ aNot ∷ aNegative ∷ anIsNotNull ∷ aCast ∷ aTryCast ∷ anEqual ∷ aLess ∷ aCase ∷ []
 
+-- the field of a tag among some, or 3
 unfoldable pub kindAmong : List Kind → ℕ → Result Kind
 kindAmong [] tag = refused 3
 kindAmong (k ∷ ks) tag = cond (eqb tag (tagOf k)) (ok k) (kindAmong ks tag)
@@ -143,16 +145,18 @@ readBranches child (suc n) bytes seen = do
   bs ← readBranches child n (t .rest) (t .seen)
   ok (record { tree = branch (w .tree) (t .tree) (bs .tree); seen = bs .seen; rest = bs .rest })
 
+-- a base or an ELSE, if the flags say that it is present
 unfoldable pub readOptional : Bool → Reader Expr → Reader Optional
 readOptional false child bytes seen = ok (record { tree = absent; seen = seen; rest = bytes })
 readOptional true child bytes seen = do
   e ← child bytes seen
   ok (record { tree = present (e .tree); seen = e .seen; rest = e .rest })
 
--- flags: 1 base present, 2 ELSE present, 3 both, 0 neither
+-- flags 1 and 3: base present
 abbrev pub hasBase : ℕ → Bool
 hasBase flags = eqb (flags % 2) 1
 
+-- flags 2 and 3: ELSE present
 abbrev pub hasElse : ℕ → Bool
 hasElse flags = leb 2 flags
 
@@ -203,10 +207,11 @@ readField (suc depth) cases bytes seen = do
   k ← kindOf (f .tag)
   readKind (readField depth) cases k f seen
 
--- the root has depth 1; depth is at most 8, with at most 3 CASEs on a path
+-- the root has depth 1; depth is at most 8
 abbrev pub depthMost : ℕ
 depthMost = 8
 
+-- at most 3 CASEs stand on a path
 abbrev pub casesMost : ℕ
 casesMost = 3
 

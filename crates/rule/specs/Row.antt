@@ -21,6 +21,7 @@ pub data Test : Type 0 where
   isTrueTest : Test
   equalsTest : Entry → Test
 
+-- a WHEN passes if it is true, or equals the base
 abbrev pub passes : Test → Entry → Bool
 passes isTrueTest v = isTrue v
 passes (equalsTest b) v = isTrue (equalEntry b v)
@@ -35,8 +36,8 @@ abbrev pub withBase : Outcome → (Test → Outcome) → Outcome → Outcome
 withBase (entry v) branches els = cond (isNull v) els (branches (equalsTest v))
 withBase unfit branches els = unfit
 
--- the answer of a CASE is the THEN chosen, else ELSE, try-cast to the result's type, else null
 unfoldable mutual
+  -- the answer of a CASE is its THEN, else ELSE, else null
   pub eval : Expr → Row → Outcome
   eval (column c) row = row (c .index)
   eval (literal t v) row = entry v
@@ -50,14 +51,17 @@ unfoldable mutual
   eval (caseWhen b bs e) row =
       evalBase b row (λ test. evalBranches bs row test (evalElse e row (resultType bs))) (evalElse e row (resultType bs))
 
+  -- with a base a WHEN has to equal it, without one to be true
   pub evalBase : Optional → Row → (Test → Outcome) → Outcome → Outcome
   evalBase absent row branches els = branches isTrueTest
   evalBase (present b) row branches els = withBase (eval b row) branches els
 
+  -- branches are tried in order
   pub evalBranches : Branches → Row → Test → Outcome → Outcome
   evalBranches noMore row test els = els
   evalBranches (branch w t bs) row test els = chosen test (eval w row) (eval t row) (evalBranches bs row test els)
 
+  -- ELSE, try-cast to the result's type, else null
   pub evalElse : Optional → Row → DataType → Outcome
   evalElse absent row result = entry null
   evalElse (present e) row result = onEntry (λ v. entry (tryCastEntry result v)) (eval e row)

@@ -36,10 +36,11 @@ abbrev pub typeOr : TypeAnswer → DataType → DataType
 typeOr (Known t) d = t
 typeOr Unknown d = d
 
--- answers
+-- a refusal returns its number and nothing else
 abbrev pub refusal : ℕ → FieldFound
 refusal n = record { refused = n; result = Boolean; null = false; next = 0 }
 
+-- a field that was read: its type, whether it is a null literal, and where it ends
 abbrev pub accepted : DataType → Bool → ℕ → FieldFound
 accepted t n next = record { refused = 0; result = t; null = n; next = next }
 
@@ -50,10 +51,11 @@ closed last size fits t end =
     (cond (ltb (last .next) size) (refusal 3) (cond fits (accepted t false end) (refusal 7)))
     last
 
--- no branch, and one before later ones
+-- no branch
 abbrev pub unbranched : TypeAnswer → ℕ → BranchesRead
 unbranched earlier next = record { refused = 0; result = typeOr earlier Boolean; fits = true; next = next }
 
+-- a branch before later ones
 abbrev pub branched : DataType → DataType → DataType → BranchesRead → BranchesRead
 branched w when t later = record { refused = later .refused; result = later .result; fits = sameType w when && sameType t (later .result) && later .fits; next = later .next }
 
@@ -73,6 +75,7 @@ pub record FieldRead (bytes : List ℕ) (r : FieldFound) (after : List ℕ) (x :
   pub null-is : r .null ≡ isNullLiteral (x .tree)
   pub behind : Behind bytes (r .next) after x
 
+-- a field, or its refusal
 abbrev pub ReadGives : List ℕ → Result (Read Expr) → FieldFound → List ℕ → Type 0
 ReadGives bytes definition r after = Gives (FieldRead bytes r after) definition (r .refused)
 
@@ -114,26 +117,27 @@ pub record BranchesAre (bytes : List ℕ) (when : DataType) (earlier : TypeAnswe
   pub fits-is : r .fits ≡ branchesTyped when (r .result) (x .tree)
   pub behind : Behind bytes (r .next) after x
 
--- a step promises this whatever columns the marks before it are of, and of the marks after a refusal nothing: one that reads a field, a part
--- that may be absent, branches,
+-- a step that reads a field promises this whatever columns the marks before it are of, and of the marks after a refusal nothing
 abbrev pub FieldGives : List ℕ → List ℕ → (List Column → Result (Read Expr)) → FieldFound → List ℕ → Type 0
 FieldGives bytes before definition r after = (cols : List Column) → Marked cols before → ReadGives bytes (definition cols) r after
 
+-- the same of a part that may be absent
 abbrev pub OptionalGives : List ℕ → List ℕ → (List Column → Result (Read Optional)) → FieldFound → List ℕ → Type 0
 OptionalGives bytes before definition r after = (cols : List Column) → Marked cols before → Gives (OptionalRead bytes r after) (definition cols) (r .refused)
 
+-- the same of branches
 abbrev pub BranchesGive : List ℕ → List ℕ → DataType → TypeAnswer → (List Column → Result (Read Branches)) → BranchesRead → List ℕ → Type 0
 BranchesGive bytes before when earlier definition r after = (cols : List Column) → Marked cols before → Gives (BranchesAre bytes when earlier r after) (definition cols) (r .refused)
 
--- or the content of a field, which ends at a place of whatever its parent's bytes are
+-- the same of a field's content, which ends at a place of whatever its parent's bytes are
 abbrev pub NodeGives : ℕ → List ℕ → (List Column → List ℕ → Result (Read Expr)) → FieldFound → List ℕ → Type 0
 NodeGives end before definition r after = (cols : List Column) (outer : List ℕ) → Marked cols before → ReadGives outer (definition cols (drop end outer)) r after
 
--- a branch behind a WHEN that was read
+-- the same of a branch behind a WHEN that was read
 abbrev pub BranchGives : List ℕ → FieldFound → List ℕ → DataType → TypeAnswer → (Read Expr → Result (Read Branches)) → BranchesRead → List ℕ → Type 0
 BranchGives bytes w before when earlier definition r after = (x : Read Expr) → FieldRead bytes w before x → Gives (BranchesAre bytes when earlier r after) (definition x) (r .refused)
 
--- and the root, where no column was met
+-- the same of the root, where no column was met
 abbrev pub RootGives : List ℕ → List ℕ → Result (Read Expr) → FieldFound → List ℕ → Type 0
 RootGives bytes before definition r after = Marked [] before → ReadGives bytes definition r after
 
@@ -163,13 +167,15 @@ readThen child w n bytes seen = do
   bs ← readBranches child n (t .rest) (t .seen)
   ok (record { tree = branch w (t .tree) (bs .tree); seen = bs .seen; rest = bs .rest })
 
--- nodes by their tags
+-- 18 NOT, 19 negative, 20 IS NOT NULL
 abbrev pub unaryOf : ℕ → Expr → Expr
 unaryOf tag e = cond (eqb tag 18) (negation e) (cond (eqb tag 19) (negative e) (isNotNull e))
 
+-- 21 cast, 22 try-cast
 abbrev pub castOf : ℕ → DataType → Expr → Expr
 castOf tag t e = cond (eqb tag 21) (cast t e) (tryCast t e)
 
+-- 23 equal, 24 less
 abbrev pub binaryOf : ℕ → Expr → Expr → Expr
 binaryOf tag a b = cond (eqb tag 23) (equal a b) (less a b)
 

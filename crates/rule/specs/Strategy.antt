@@ -18,6 +18,7 @@ strategyNumber ScalarOrScalar = 4
 strategyNumber ExpressionOrExpression = 5
 strategyNumber WithExprScalarLookupTable = 6
 
+-- a column (tag 16)
 abbrev pub isColumn : Expr → Bool
 isColumn (column c) = true
 isColumn (literal t v) = false
@@ -30,6 +31,7 @@ isColumn (equal a b) = false
 isColumn (less a b) = false
 isColumn (caseWhen b bs e) = false
 
+-- a literal (tag 17)
 abbrev pub isLiteral : Expr → Bool
 isLiteral (column c) = false
 isLiteral (literal t v) = true

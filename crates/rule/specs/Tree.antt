@@ -11,8 +11,8 @@ pub record Column : Type 0 where
   pub type : DataType
   pub nullable : Bool
 
--- an expression; the branches of a CASE; a part that may be absent
 mutual
+  -- an expression
   pub data Expr : Type 0 where
     column : Column → Expr
     literal : DataType → Entry → Expr
@@ -21,14 +21,17 @@ mutual
     equal less : Expr → Expr → Expr
     caseWhen : Optional → Branches → Optional → Expr
 
+  -- the branches of a CASE, WHEN and THEN in turn
   pub data Branches : Type 0 where
     noMore : Branches
     branch : (when then : Expr) → Branches → Branches
 
+  -- a part that may be absent: a base, an ELSE
   pub data Optional : Type 0 where
     absent : Optional
     present : Expr → Optional
 
+-- the branch count
 unfoldable pub branchCount : Branches → ℕ
 branchCount noMore = 0
 branchCount (branch w t bs) = suc (branchCount bs)

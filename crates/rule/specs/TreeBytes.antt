@@ -17,16 +17,17 @@ valueBytes (int64 n) = numberBytes 8 n
 valueBytes (float64 n) = numberBytes 8 n
 valueBytes (utf8 t) = t
 
--- 1 base present, 2 ELSE present, 3 both, 0 neither
+-- a part that is present
 abbrev pub isPresent : Optional → Bool
 isPresent absent = false
 isPresent (present e) = true
 
+-- flags: 1 base present, 2 ELSE present, 3 both, 0 neither
 abbrev pub flagsOf : Optional → Optional → ℕ
 flagsOf base els = cond (isPresent base) 1 0 + cond (isPresent els) 2 0
 
--- tags 16 to 25
 unfoldable mutual
+  -- a tree's field, tags 16 to 25
   pub bytesOf : Expr → List ℕ
   bytesOf (column c) = fieldBytes 16 (c .index ∷ typeNumber (c .type) ∷ markNumber (c .nullable) ∷ [])
   bytesOf (literal t v) = fieldBytes 17 (typeNumber t ∷ markNumber (isNull v) ∷ valueBytes v)
@@ -39,10 +40,12 @@ unfoldable mutual
   bytesOf (less a b) = fieldBytes 24 (bytesOf a ++ bytesOf b)
   bytesOf (caseWhen b bs e) = fieldBytes 25 (flagsOf b e ∷ branchCount bs ∷ optionalBytes b ++ (branchesBytes bs ++ optionalBytes e))
 
+  -- WHEN and THEN in turn
   pub branchesBytes : Branches → List ℕ
   branchesBytes noMore = []
   branchesBytes (branch w t bs) = bytesOf w ++ (bytesOf t ++ branchesBytes bs)
 
+  -- a base or an ELSE, if it is present
   pub optionalBytes : Optional → List ℕ
   optionalBytes absent = []
   optionalBytes (present e) = bytesOf e

@@ -6,8 +6,8 @@ use Rattle.scalar.specs.Types.{sameType}
 use Rattle.scalar.specs.Cast.{listed}
 use Rattle.rule.specs.Tree.{Column, Expr, column, literal, negation, negative, isNotNull, cast, tryCast, equal, less, caseWhen, Branches, noMore, branch, Optional, absent, present, isNullLiteral}
 
--- THENs share one type, the result's
 unfoldable mutual
+  -- the type of an expression; a CASE has its result's
   pub typeOf : Expr → DataType
   typeOf (column c) = c .type
   typeOf (literal t v) = t
@@ -20,6 +20,7 @@ unfoldable mutual
   typeOf (less a b) = Boolean
   typeOf (caseWhen b bs e) = resultType bs
 
+  -- THENs share one type, the result's
   pub resultType : Branches → DataType
   resultType noMore = Boolean
   resultType (branch w t bs) = typeOf t
@@ -37,6 +38,7 @@ abbrev pub whenType : Optional → DataType
 whenType absent = Boolean
 whenType (present b) = typeOf b
 
+-- each WHEN has the type it is asked to have, each THEN the result's
 unfoldable pub branchesTyped : DataType → DataType → Branches → Bool
 branchesTyped when then noMore = true
 branchesTyped when then (branch w t bs) = sameType (typeOf w) when && sameType (typeOf t) then && branchesTyped when then bs

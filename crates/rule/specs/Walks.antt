@@ -1,5 +1,5 @@
 -- Walks over the bytes of an accepted rule: trees that stand one behind the other at a place, what a node's bytes are before its children,
--- and what the steps from place to place promise.
+-- and what the steps from place to place mean for whatever tree stands there.
 use mathlib.Core.Path.{_≡_}
 use mathlib.Core.Bool.{Bool, true, _&&_}
 use mathlib.Core.List.{List, [], _∷_, _++_}
@@ -23,6 +23,7 @@ abbrev pub branchTrees : Branches → List Expr
 branchTrees noMore = []
 branchTrees (branch w t bs) = w ∷ t ∷ branchTrees bs
 
+-- the tree of a part that may be absent
 abbrev pub optionalTrees : Optional → List Expr
 optionalTrees absent = []
 optionalTrees (present e) = e ∷ []
@@ -66,15 +67,17 @@ headBytes (equal a b) = []
 headBytes (less a b) = []
 headBytes (caseWhen b bs e) = flagsOf b e ∷ branchCount bs ∷ []
 
--- trees one behind the other: their bytes, how deep they nest, and whether all are well-formed
+-- the bytes of trees one behind the other
 unfoldable pub treesBytes : List Expr → List ℕ
 treesBytes [] = []
 treesBytes (e ∷ es) = bytesOf e ++ treesBytes es
 
+-- how deep such trees nest
 unfoldable pub treesDepth : List Expr → ℕ
 treesDepth [] = 0
 treesDepth (e ∷ es) = max (depthOf e) (treesDepth es)
 
+-- such trees are all well-formed
 unfoldable pub treesFormed : List Expr → Bool
 treesFormed [] = true
 treesFormed (e ∷ es) = wellFormed e && treesFormed es
@@ -118,13 +121,6 @@ LiteralGives rule start end r =
 -- the type of a number
 abbrev pub NumberedGives : ℕ → DataType → Type 0
 NumberedGives n r = (t : DataType) → n ≡ typeNumber t → r ≡ t
-
--- where the first THEN of whatever CASE stands at a place stands; always onward
-pub record ThenGives (rule : List ℕ) (at r : ℕ) : Type 0 where
-  pub stand : (end : ℕ) (b : Optional) (w t : Expr) (bs : Branches) (els : Optional) (depth : ℕ) → NodeAt rule at end (caseWhen b (branch w t bs) els) depth
-      → (m : ℕ) × NodeAt rule r m t (depth - 1)
-  pub onward : at ≤ r
-  pub farther : at < length rule → at < r
 
 -- the type of whatever node stands at a place
 abbrev pub TypeGives : List ℕ → ℕ → DataType → Type 0

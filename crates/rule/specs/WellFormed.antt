@@ -9,8 +9,8 @@ use Rattle.rule.specs.Typing.{nodeTyped}
 abbrev pub countFits : Branches → Bool
 countFits bs = ltb 0 (branchCount bs) && leb (branchCount bs) 32
 
--- a column's index is a byte, the types of every node's children fit, every literal is of its type, every CASE has 1 to 32 branches
 unfoldable mutual
+  -- a column's index is a byte, the types of every node's children fit, every literal is of its type, every CASE has 1 to 32 branches
   pub wellFormed : Expr → Bool
   wellFormed (column c) = ltb (c .index) 256
   wellFormed (literal t v) = ofType t v
@@ -23,10 +23,12 @@ unfoldable mutual
   wellFormed (less a b) = nodeTyped (less a b) && (wellFormed a && wellFormed b)
   wellFormed (caseWhen b bs e) = countFits bs && (nodeTyped (caseWhen b bs e) && (wellFormedOptional b && (wellFormedBranches bs && wellFormedOptional e)))
 
+  -- the same of the WHENs and THENs of branches
   pub wellFormedBranches : Branches → Bool
   wellFormedBranches noMore = true
   wellFormedBranches (branch w t bs) = wellFormed w && (wellFormed t && wellFormedBranches bs)
 
+  -- the same of a part that may be absent
   pub wellFormedOptional : Optional → Bool
   wellFormedOptional absent = true
   wellFormedOptional (present e) = wellFormed e

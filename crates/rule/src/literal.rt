@@ -4,11 +4,12 @@ use layout::number::read_u32;
 use layout::number::read_u64;
 use scalar::value::Value;
 use scalar::value::float_value;
-ghost use Rattle.rule.specs.Walks.{LiteralGives};
+ghost use mathlib.Core.Path.{_≡_};
+ghost use Rattle.rule.specs.Walked.{literalAt};
 
 // The value of the literal at a place. A text is its place in the rule.
 pub fn literal_value(rule: &[u8], start: usize, end: usize) -> Value
-    ensures { λ r. ⌜ LiteralGives (now (rule .entry)) start end r ⌝ }
+    ensures { λ r. ⌜ r ≡ literalAt (now (rule .entry)) start end ⌝ }
 {
     if rule.len() <= start {
         return Value::Null;

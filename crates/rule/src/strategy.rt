@@ -4,7 +4,8 @@ use crate::types::type_number;
 use crate::walk::behind_fields;
 use crate::walk::field_end;
 use layout::number::byte_at;
-ghost use Rattle.rule.specs.AnswerWalks.{NullLiteralGives, ElseThereGives, LiteralsGives, SomeWhenGives, ElseServesGives, TableServesGives, SingleGives, StrategyGives};
+ghost use mathlib.Core.Path.{_≡_};
+ghost use Rattle.rule.specs.WalkedStrategy.{nullThere, elseThere, literalsThere, whenThere, elseServesAt, tableServesAt, singleAt, strategyAt};
 
 pub enum Strategy {
     NoExpression,
@@ -17,12 +18,9 @@ pub enum Strategy {
 
 // Whether the node at a place is a null literal.
 fn is_null_literal(rule: &[u8], at: usize) -> bool
-    ensures { λ r. ⌜ NullLiteralGives (now (rule .entry)) at r ⌝ }
+    ensures { λ r. ⌜ r ≡ nullThere (now (rule .entry)) at ⌝ }
 {
-    if rule.len() <= at {
-        return false;
-    }
-    if rule[at] != 17 {
+    if byte_at(rule, at) != 17 {
         return false;
     }
     byte_at(rule, at + 4) == 1
@@ -30,7 +28,7 @@ fn is_null_literal(rule: &[u8], at: usize) -> bool
 
 // Whether an ELSE is there that is no null literal.
 fn else_there(rule: &[u8], at: usize, end: usize) -> bool
-    ensures { λ r. ⌜ ElseThereGives (now (rule .entry)) at end r ⌝ }
+    ensures { λ r. ⌜ r ≡ elseThere (now (rule .entry)) at end ⌝ }
 {
     if at == end {
         return false;
@@ -40,7 +38,7 @@ fn else_there(rule: &[u8], at: usize, end: usize) -> bool
 
 // Whether so many fields are all literals.
 fn all_literals(rule: &[u8], at: usize, count: usize) -> bool
-    ensures { λ r. ⌜ LiteralsGives (now (rule .entry)) at count r ⌝ }
+    ensures { λ r. ⌜ r ≡ literalsThere (now (rule .entry)) at count ⌝ }
 {
     let mut place = at;
     let mut left = count;
@@ -56,7 +54,7 @@ fn all_literals(rule: &[u8], at: usize, count: usize) -> bool
 
 // Whether some WHEN of so many branches is no null literal.
 fn some_when(rule: &[u8], at: usize, count: u8) -> bool
-    ensures { λ r. ⌜ SomeWhenGives (now (rule .entry)) at count r ⌝ }
+    ensures { λ r. ⌜ r ≡ whenThere (now (rule .entry)) at count ⌝ }
 {
     let mut place = at;
     let mut left = count;
@@ -73,7 +71,7 @@ fn some_when(rule: &[u8], at: usize, count: u8) -> bool
 
 // Whether ELSE is absent, or a literal of the type of a THEN.
 fn else_serves(rule: &[u8], at: usize, end: usize, then: usize) -> bool
-    ensures { λ r. ⌜ ElseServesGives (now (rule .entry)) at end then r ⌝ }
+    ensures { λ r. ⌜ r ≡ elseServesAt (now (rule .entry)) at end then ⌝ }
 {
     let there = else_there(rule, at, end);
     if !there {
@@ -87,7 +85,7 @@ fn else_serves(rule: &[u8], at: usize, end: usize, then: usize) -> bool
 
 // Whether a lookup table serves: at least two branches, all literals, some WHEN not null, and an ELSE that serves.
 fn table_serves(rule: &[u8], at: usize, end: usize, count: u8) -> bool
-    ensures { λ r. ⌜ TableServesGives (now (rule .entry)) at end count r ⌝ }
+    ensures { λ r. ⌜ r ≡ tableServesAt (now (rule .entry)) at end count ⌝ }
 {
     if count < 2 {
         return false;
@@ -108,7 +106,7 @@ fn table_serves(rule: &[u8], at: usize, end: usize, count: u8) -> bool
 
 // One branch without a base: THEN a column and no ELSE, THEN and ELSE literals, or any other.
 fn single_branch(rule: &[u8], at: usize, end: usize) -> Strategy
-    ensures { λ r. ⌜ SingleGives (now (rule .entry)) at end r ⌝ }
+    ensures { λ r. ⌜ r ≡ singleAt (now (rule .entry)) at end ⌝ }
 {
     let then = field_end(rule, at);
     let els = field_end(rule, then);
@@ -129,14 +127,11 @@ fn single_branch(rule: &[u8], at: usize, end: usize) -> Strategy
     Strategy::InfallibleExprOrNull
 }
 
-// The strategy of the CASE at a place.
+// The strategy of the CASE at a place; where none stands, that of no expression.
 pub fn strategy_at(rule: &[u8], start: usize, end: usize) -> Strategy
-    ensures { λ r. ⌜ StrategyGives (now (rule .entry)) start end r ⌝ }
+    ensures { λ r. ⌜ r ≡ strategyAt (now (rule .entry)) start end ⌝ }
 {
-    if rule.len() <= start {
-        return Strategy::NoExpression;
-    }
-    if rule[start] != 25 {
+    if byte_at(rule, start) != 25 {
         return Strategy::NoExpression;
     }
     let base = byte_at(rule, start + 3) % 2;

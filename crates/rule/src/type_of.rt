@@ -2,11 +2,12 @@
 use crate::walk::behind_fields;
 use layout::number::byte_at;
 use scalar::types::DataType;
-ghost use Rattle.rule.specs.Walks.{NumberedGives, ThenGives, TypeGives};
+ghost use mathlib.Core.Path.{_≡_};
+ghost use Rattle.rule.specs.Walked.{typeFrom, firstThen, typeAt};
 
-// The type of a number.
+// The type of a number; Utf8 for one that no other type has.
 pub fn type_numbered(n: u8) -> DataType
-    ensures { λ r. ⌜ NumberedGives n r ⌝ }
+    ensures { λ r. ⌜ r ≡ typeFrom n ⌝ }
 {
     match n {
         1 => DataType::Boolean,
@@ -19,7 +20,7 @@ pub fn type_numbered(n: u8) -> DataType
 
 // Where the first THEN of the CASE at a place stands: behind the base, if there is one, and a WHEN.
 fn first_then(rule: &[u8], at: usize) -> usize
-    ensures { λ r. ⌜ ThenGives (now (rule .entry)) at r ⌝ }
+    ensures { λ r. ⌜ r ≡ firstThen (now (rule .entry)) at ⌝ }
 {
     if rule.len() <= at {
         return at;
@@ -30,7 +31,7 @@ fn first_then(rule: &[u8], at: usize) -> usize
 
 // The type of the node at a place: its own byte, its child's, or that of the first THEN.
 pub fn type_of(rule: &[u8], start: usize) -> DataType
-    ensures { λ r. ⌜ TypeGives (now (rule .entry)) start r ⌝ }
+    ensures { λ r. ⌜ r ≡ typeAt (now (rule .entry)) start ⌝ }
 {
     let mut at = start;
     while at < rule.len() {

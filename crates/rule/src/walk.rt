@@ -1,11 +1,12 @@
-// Steps over the fields of a rule. On a place that holds no field each goes on, to anywhere.
+// Steps over the fields of a rule. On a place that holds no field each goes on.
 use layout::field::Header;
 use layout::field::field_at;
-ghost use Rattle.rule.specs.Walks.{EndGives, ChildrenGives, BehindGives};
+ghost use mathlib.Core.Path.{_≡_};
+ghost use Rattle.rule.specs.Walked.{fieldEnd, childrenAt, behindFields};
 
 // Where the field at a place ends.
 pub fn field_end(rule: &[u8], at: usize) -> usize
-    ensures { λ r. ⌜ EndGives (now (rule .entry)) at r ⌝ }
+    ensures { λ r. ⌜ r ≡ fieldEnd (now (rule .entry)) at ⌝ }
 {
     if rule.len() <= at {
         return at;
@@ -18,7 +19,7 @@ pub fn field_end(rule: &[u8], at: usize) -> usize
 
 // Where a node's children stand: behind its header, a type byte of a cast, flags and count of a CASE; a leaf has none.
 pub fn children_at(rule: &[u8], at: usize) -> usize
-    ensures { λ r. ⌜ ChildrenGives (now (rule .entry)) at r ⌝ }
+    ensures { λ r. ⌜ r ≡ childrenAt (now (rule .entry)) at ⌝ }
 {
     if rule.len() <= at {
         return at;
@@ -35,7 +36,7 @@ pub fn children_at(rule: &[u8], at: usize) -> usize
 
 // What stands behind so many fields.
 pub fn behind_fields(rule: &[u8], at: usize, count: usize) -> usize
-    ensures { λ r. ⌜ BehindGives (now (rule .entry)) at count r ⌝ }
+    ensures { λ r. ⌜ r ≡ behindFields (now (rule .entry)) at count ⌝ }
 {
     let mut place = at;
     let mut left = count;

@@ -98,6 +98,10 @@ use Rattle.rule.proofs.walk.field_end.Reads as field-end-reads
 use Rattle.case.proofs.case.+against+binary+branches+by_base+case+case_column_or_null+case_when_no_expr+case_when_with_expr+choose+expr+expr_or_expr+scalar_or_scalar+take+take_else+then+turn+unary+with_lookup_table.{
   statement,
 }
+use Rattle.rule.proofs.StrategyLaws.{strategy-gives}
+use Rattle.rule.proofs.LiteralLaws.{literal-gives}
+use Rattle.rule.proofs.WalkLaws.{children-gives, end-gives}
+use Rattle.rule.proofs.TypeOfLaws.{type-gives}
 use Rattle.case.proofs.case.+against+binary+branches+by_base+case+case_column_or_null+case_when_no_expr+case_when_with_expr+choose+expr+expr_or_expr+scalar_or_scalar+take+take_else+then+turn+unary+with_lookup_table.Tie.{
   close,
 }
@@ -384,7 +388,7 @@ pub +against+binary+branches+by-base+case+case-column-or-null+case-when-no-expr+
     (λ c κs. tt)
     (λ c κs. let r = c .before .before .before .before .before .before .before .before .pre .1 .room in (framed-fillable (c .before .before .before .before .before .before .before .before .pre .1) (omega arith), omega arith))
     (λ c. c .before .before .compare-value .ensures .long)
-    (λ c. against-value (c .before .before .before .before .before .before .before .before .before .before .before .pre .1 .list-ok .few) (sym (c .before .before .before .before .before .before .byte-at .ensures) ∙ c .before .before .before .before .before .if2 .taken) (c .before .before .before .literal-value .ensures) (c .before .before .compare-value .ensures))
+    (λ c. against-value (c .before .before .before .before .before .before .before .before .before .before .before .pre .1 .list-ok .few) (sym (c .before .before .before .before .before .before .byte-at .ensures) ∙ c .before .before .before .before .before .if2 .taken) (literal-gives (c .before .before .before .literal-value .ensures)) (c .before .before .compare-value .ensures))
     (λ c κs. let f = c .before .before .before .before .before .before .before .pre .1 .list-ok .few in let r = c .before .before .before .before .before .before .before .pre .1 .room in (omega arith, omega arith))
     (λ c. let l = c .before .before .copy-list .ensures .long in let r = c .before .before .before .before .before .before .before .before .before .before .pre .1 .room in omega arith)
     (λ c. let l = c .before .before .copy-list .ensures .long in let r = c .before .before .before .before .before .before .before .before .before .before .pre .1 .room in omega arith)
@@ -413,7 +417,7 @@ pub +against+binary+branches+by-base+case+case-column-or-null+case-when-no-expr+
     (λ c κs. let q = c .before .before .before .before .before .before .before .pre .0 in (omega arith, framed-below (c .before .before .before .before .before .before .before .pre .1) (c .before .before .before .before .before .before .before .args .depth) (omega arith)))
     (λ c κs. let q = c .before .before .before .before .before .before .before .before .before .before .before .pre .0 in (omega arith, framed-kept (c .before .before .before .before .before .before .before .before .before .before .before .pre .1) (c .before .before .before .before .before .before .before .before .before .before .before .args .depth + 1) (omega arith) _ (c .before .before .before .expr .ensures .long) (c .before .before .before .expr .ensures .low)))
     (λ c. c .before .before .against .ensures .long ∙ c .before .before .before .before .before .before .expr .ensures .long)
-    (λ c. binary-gives (c .before .before .before .before .before .before .before .before .before .before .before .before .before .before .pre .1 .list-ok .few) (c .before .before .before .before .before .before .before .before .before .before .children-at .ensures) (c .before .before .before .before .before .before .before .before .before .field-end .ensures) (c .before .before .before .before .before .before .before .before .byte-at .ensures) (c .before .before .before .before .before .before .expr .ensures) (c .before .before .against .ensures)))
+    (λ c. binary-gives (c .before .before .before .before .before .before .before .before .before .before .before .before .before .before .pre .1 .list-ok .few) (children-gives (c .before .before .before .before .before .before .before .before .before .before .children-at .ensures)) (end-gives (c .before .before .before .before .before .before .before .before .before .field-end .ensures)) (c .before .before .before .before .before .before .before .before .byte-at .ensures) (c .before .before .before .before .before .before .expr .ensures) (c .before .before .against .ensures)))
     (λ t. branches-lts.spec (
       choose-below t,
       choose.Post,
@@ -483,17 +487,17 @@ pub +against+binary+branches+by-base+case+case-column-or-null+case-when-no-expr+
     (λ c. search needs)
     (λ c κs. let q = c .before .before .before .before .before .before .before .before .pre .0 in (omega arith, c .before .before .before .before .before .before .before .before .pre .1))
     (λ c. c .before .before .case-when-no-expr .ensures .long)
-    (λ c. case-by (c .before .before .before .before .before .before .before .before .before .before .before .pre .1 .list-ok .few) (c .before .before .before .before .before .before .strategy-at .ensures) (c .before .before .before .before .enum-told .given .1) shape-1 (c .before .before .case-when-no-expr .ensures))
+    (λ c. case-by (c .before .before .before .before .before .before .before .before .before .before .before .pre .1 .list-ok .few) (strategy-gives (c .before .before .before .before .before .before .strategy-at .ensures)) (c .before .before .before .before .enum-told .given .1) shape-1 (c .before .before .case-when-no-expr .ensures))
     (λ c. c .before .before .case-when-with-expr .ensures .long)
-    (λ c. case-by (c .before .before .before .before .before .before .before .before .before .before .before .pre .1 .list-ok .few) (c .before .before .before .before .before .before .strategy-at .ensures) (c .before .before .before .before .enum-told2 .given .1) shape-2 (c .before .before .case-when-with-expr .ensures))
+    (λ c. case-by (c .before .before .before .before .before .before .before .before .before .before .before .pre .1 .list-ok .few) (strategy-gives (c .before .before .before .before .before .before .strategy-at .ensures)) (c .before .before .before .before .enum-told2 .given .1) shape-2 (c .before .before .case-when-with-expr .ensures))
     (λ c. c .before .before .case-column-or-null .ensures .long)
-    (λ c. case-by (c .before .before .before .before .before .before .before .before .before .before .before .pre .1 .list-ok .few) (c .before .before .before .before .before .before .strategy-at .ensures) (c .before .before .before .before .enum-told3 .given .1) shape-3 (c .before .before .case-column-or-null .ensures))
+    (λ c. case-by (c .before .before .before .before .before .before .before .before .before .before .before .pre .1 .list-ok .few) (strategy-gives (c .before .before .before .before .before .before .strategy-at .ensures)) (c .before .before .before .before .enum-told3 .given .1) shape-3 (c .before .before .case-column-or-null .ensures))
     (λ c. c .before .before .scalar-or-scalar .ensures .long)
-    (λ c. case-by (c .before .before .before .before .before .before .before .before .before .before .before .pre .1 .list-ok .few) (c .before .before .before .before .before .before .strategy-at .ensures) (c .before .before .before .before .enum-told4 .given .1) shape-4 (c .before .before .scalar-or-scalar .ensures))
+    (λ c. case-by (c .before .before .before .before .before .before .before .before .before .before .before .pre .1 .list-ok .few) (strategy-gives (c .before .before .before .before .before .before .strategy-at .ensures)) (c .before .before .before .before .enum-told4 .given .1) shape-4 (c .before .before .scalar-or-scalar .ensures))
     (λ c. c .before .before .expr-or-expr .ensures .long)
-    (λ c. case-by (c .before .before .before .before .before .before .before .before .before .before .before .pre .1 .list-ok .few) (c .before .before .before .before .before .before .strategy-at .ensures) (c .before .before .before .before .enum-told5 .given .1) shape-5 (c .before .before .expr-or-expr .ensures))
+    (λ c. case-by (c .before .before .before .before .before .before .before .before .before .before .before .pre .1 .list-ok .few) (strategy-gives (c .before .before .before .before .before .before .strategy-at .ensures)) (c .before .before .before .before .enum-told5 .given .1) shape-5 (c .before .before .expr-or-expr .ensures))
     (λ c. c .before .before .with-lookup-table .ensures .long)
-    (λ c. case-by (c .before .before .before .before .before .before .before .before .before .before .before .pre .1 .list-ok .few) (c .before .before .before .before .before .before .strategy-at .ensures) (c .before .before .before .before .enum-told6 .given .1) shape-6 (c .before .before .with-lookup-table .ensures)))
+    (λ c. case-by (c .before .before .before .before .before .before .before .before .before .before .before .pre .1 .list-ok .few) (strategy-gives (c .before .before .before .before .before .before .strategy-at .ensures)) (c .before .before .before .before .enum-told6 .given .1) shape-6 (c .before .before .with-lookup-table .ensures)))
     (λ t. case-column-or-null-lts.spec (
       children-at-reads.Asked,
       children-at-reads.Learnt,
@@ -511,7 +515,7 @@ pub +against+binary+branches+by-base+case+case-column-or-null+case-when-no-expr+
     (λ c κs. let q = c .before .before .before .before .before .before .pre .0 in (omega arith, framed-below (c .before .before .before .before .before .before .pre .1) (c .before .before .before .before .before .before .args .depth) (omega arith)))
     (λ c κs. (framed-fillable (framed-kept (c .before .before .before .before .before .before .before .before .before .before .pre .1) (c .before .before .before .before .before .before .before .before .before .before .args .depth + 1) (omega arith) _ (c .before .before .before .expr .ensures .long) (c .before .before .before .expr .ensures .low)) (omega arith), c .before .before .before .before .before .before .before .before .before .before .pre .1 .short))
     (λ c. c .before .before .cells-or-null .ensures .long ∙ c .before .before .before .before .before .before .expr .ensures .long)
-    (λ c. column-gives (c .before .before .before .before .before .before .before .before .before .before .before .before .before .pre .1 .list-ok .few) (c .before .before .before .before .before .before .before .before .before .children-at .ensures) (c .before .before .before .before .before .before .before .before .field-end .ensures) (c .before .before .before .before .before .before .expr .ensures) (c .before .before .cells-or-null .ensures)))
+    (λ c. column-gives (c .before .before .before .before .before .before .before .before .before .before .before .before .before .pre .1 .list-ok .few) (children-gives (c .before .before .before .before .before .before .before .before .before .children-at .ensures)) (end-gives (c .before .before .before .before .before .before .before .before .field-end .ensures)) (c .before .before .before .before .before .before .expr .ensures) (c .before .before .cells-or-null .ensures)))
     (λ t. case-when-no-expr-lts.spec (
       byte-at-reads.Asked,
       byte-at-reads.Learnt,
@@ -542,12 +546,12 @@ pub +against+binary+branches+by-base+case+case-column-or-null+case-when-no-expr+
     (λ c. search needs)
     (λ c κs. let q = c .before .before .before .before .before .before .before .before .before .before .before .before .before .before .pre .0 in let l = c .before .before .before .before .step-values .ensures .long in (omega arith, (c .before .before .before .before .before .before .before .before .before .before .before .before .before .before .pre .1 .0, (c .before .before .before .before .before .before .before .before .before .before .before .before .before .before .pre .1 .1, omega arith))))
     (λ c. c .before .before .take .ensures .long)
-    (λ c. no-expr-steps _ (c .before .before .before .before .before .before .before .before .before .before .before .before .before .before .before .before .before .pre .1 .0 .list-ok .few) (c .before .before .before .before .before .before .before .before .before .before .before .children-at .ensures) (c .before .before .before .before .before .before .before .before .before .before .type-of .ensures) (c .before .before .before .before .before .before .before .step-values .ensures) (c .before .before .before .before .before .if2 .taken) (c .before .before .take .ensures) (c .before .before .before .before .before .before .before .before .before .before .before .before .byte-at .ensures))
+    (λ c. no-expr-steps _ (c .before .before .before .before .before .before .before .before .before .before .before .before .before .before .before .before .before .pre .1 .0 .list-ok .few) (children-gives (c .before .before .before .before .before .before .before .before .before .before .before .children-at .ensures)) (type-gives (c .before .before .before .before .before .before .before .before .before .before .type-of .ensures)) (c .before .before .before .before .before .before .before .step-values .ensures) (c .before .before .before .before .before .if2 .taken) (c .before .before .take .ensures) (c .before .before .before .before .before .before .before .before .before .before .before .before .byte-at .ensures))
     (λ c κs. let f = c .before .before .before .before .before .before .before .before .before .before .before .before .before .pre .1 .0 .list-ok .few in let r = c .before .before .before .before .before .before .before .before .before .before .before .before .before .pre .1 .0 .room in (omega arith, omega arith))
     (λ c κs. c .before .before .before .before .before .before .before .before .before .before .before .before .before .before .before .before .pre .1 .0 .small)
     (λ c κs. let q = c .before .before .before .before .before .before .before .before .before .before .before .before .before .before .before .before .before .before .pre .0 in (omega arith, (framed-kept (c .before .before .before .before .before .before .before .before .before .before .before .before .before .before .before .before .before .before .pre .1 .0) (c .before .before .before .before .before .before .before .before .before .before .before .before .before .before .before .before .before .before .args .depth + 1) (omega arith) _ (c .before .before .before .before .copy-list .ensures .long) (λ j h. c .before .before .before .before .copy-list .ensures .before j (omega arith)), (c .before .before .before .before .before .before .before .before .before .before .before .before .before .before .before .before .before .before .pre .1 .1, c .before .open-builder .ensures .0 _ _ (rows-to _ _ 0 5632 _ _ (c .before .before .before .before .copy-list .ensures .rows-copied) (c .before .before .before .before .before .before .before .before .before .before .before .before .before .before .before .before .before .before .pre .1 .0 .list-ok))))))
     (λ c. c .before .before .branches .ensures .long ∙ c .before .before .before .before .before .before .before .copy-list .ensures .long)
-    (λ c. no-expr-gives (c .before .before .before .before .before .before .before .before .before .before .before .before .before .before .before .before .before .before .before .before .before .pre .1 .0 .list-ok .few) (c .before .before .before .before .before .before .before .before .before .before .before .before .before .before .before .children-at .ensures) (c .before .before .before .before .before .before .before .before .before .before .before .before .before .before .type-of .ensures) (c .before .before .before .before .before .before .before .copy-list .ensures) (c .before .before .branches .ensures) (c .before .before .before .before .before .before .before .before .before .before .before .before .before .before .before .before .byte-at .ensures)))
+    (λ c. no-expr-gives (c .before .before .before .before .before .before .before .before .before .before .before .before .before .before .before .before .before .before .before .before .before .pre .1 .0 .list-ok .few) (children-gives (c .before .before .before .before .before .before .before .before .before .before .before .before .before .before .before .children-at .ensures)) (type-gives (c .before .before .before .before .before .before .before .before .before .before .before .before .before .before .type-of .ensures)) (c .before .before .before .before .before .before .before .copy-list .ensures) (c .before .before .branches .ensures) (c .before .before .before .before .before .before .before .before .before .before .before .before .before .before .before .before .byte-at .ensures)))
     (λ t. case-when-with-expr-lts.spec (
       byte-at-reads.Asked,
       byte-at-reads.Learnt,
@@ -573,7 +577,7 @@ pub +against+binary+branches+by-base+case+case-column-or-null+case-when-no-expr+
     (λ c κs. let q = c .before .before .before .before .before .before .before .before .before .pre .0 in (omega arith, framed-below (c .before .before .before .before .before .before .before .before .before .pre .1 .0) (c .before .before .before .before .before .before .before .before .before .args .depth) (omega arith)))
     (λ c κs. let q = c .before .before .before .before .before .before .before .before .before .before .before .before .before .pre .0 in (omega arith, (framed-kept (c .before .before .before .before .before .before .before .before .before .before .before .before .before .pre .1 .0) (c .before .before .before .before .before .before .before .before .before .before .before .before .before .args .depth + 1) (omega arith) _ (c .before .before .before .expr .ensures .long) (c .before .before .before .expr .ensures .low), c .before .before .before .before .before .before .before .before .before .before .before .before .before .pre .1 .1)))
     (λ c. c .before .before .by-base .ensures .long ∙ c .before .before .before .before .before .before .expr .ensures .long)
-    (λ c. with-expr-gives (c .before .before .before .before .before .before .before .before .before .before .before .before .before .before .before .before .pre .1 .0 .list-ok .few) (c .before .before .before .before .before .before .before .before .before .before .before .byte-at .ensures) (c .before .before .before .before .before .before .before .before .before .before .children-at .ensures) (c .before .before .before .before .before .before .before .before .before .field-end .ensures) (c .before .before .before .before .before .before .before .before .type-of .ensures) (c .before .before .before .before .before .before .expr .ensures) (c .before .before .by-base .ensures)))
+    (λ c. with-expr-gives (c .before .before .before .before .before .before .before .before .before .before .before .before .before .before .before .before .pre .1 .0 .list-ok .few) (c .before .before .before .before .before .before .before .before .before .before .before .byte-at .ensures) (children-gives (c .before .before .before .before .before .before .before .before .before .before .children-at .ensures)) (end-gives (c .before .before .before .before .before .before .before .before .before .field-end .ensures)) (type-gives (c .before .before .before .before .before .before .before .before .type-of .ensures)) (c .before .before .before .before .before .before .expr .ensures) (c .before .before .by-base .ensures)))
     (λ t. choose-lts.spec
     (field-end-reads.Asked, field-end-reads.Learnt, turn-below t, turn.Post)
     (choose-at t)
@@ -589,7 +593,7 @@ pub +against+binary+branches+by-base+case+case-column-or-null+case-when-no-expr+
     (λ c κs. tt)
     (λ c. omega arith)
     (λ c. omega arith)
-    (λ c. choose-more (c .before .before .before .before .before .before .before .before .before .before .before .before .pre .1) (c .before .before .before .before .before .before .before .before .loop .inv) (c .before .before .before .before .before .before .before .loop-test .taken) (c .before .before .before .before .before .before .field-end .ensures) (c .field-end2 .ensures) (c .before .before .before .before .turn .ensures))
+    (λ c. choose-more (c .before .before .before .before .before .before .before .before .before .before .before .before .pre .1) (c .before .before .before .before .before .before .before .before .loop .inv) (c .before .before .before .before .before .before .before .loop-test .taken) (end-gives (c .before .before .before .before .before .before .field-end .ensures)) (end-gives (c .field-end2 .ensures)) (c .before .before .before .before .turn .ensures))
     (λ c. c .before .loop .inv .sifts .long)
     (λ c. choose-end (c .before .before .before .before .before .pre .1) (c .before .loop .inv) (c .loop-test .left)))
     (λ t. expr-lts.spec (
@@ -656,12 +660,12 @@ pub +against+binary+branches+by-base+case+case-column-or-null+case-when-no-expr+
     (λ c. search needs)
     (λ c κs. let q = c .before .before .before .before .before .before .before .before .before .before .before .before .pre .0 in let l = c .before .before .before .before .step-values .ensures .long in (omega arith, (c .before .before .before .before .before .before .before .before .before .before .before .before .pre .1 .0, (c .before .before .before .before .before .before .before .before .before .before .before .before .pre .1 .1, omega arith))))
     (λ c. c .before .before .take .ensures .long)
-    (λ c. single-steps _ (c .before .before .before .before .before .before .before .before .before .before .before .before .before .before .before .pre .1 .0 .list-ok .few) (c .before .before .before .before .before .before .before .before .before .before .before .children-at .ensures) (c .before .before .before .before .before .before .before .before .before .before .type-of .ensures) (c .before .before .before .before .before .before .before .step-values .ensures) (c .before .before .before .before .before .if1 .taken) (c .before .before .take .ensures) refl)
+    (λ c. single-steps _ (c .before .before .before .before .before .before .before .before .before .before .before .before .before .before .before .pre .1 .0 .list-ok .few) (children-gives (c .before .before .before .before .before .before .before .before .before .before .before .children-at .ensures)) (type-gives (c .before .before .before .before .before .before .before .before .before .before .type-of .ensures)) (c .before .before .before .before .before .before .before .step-values .ensures) (c .before .before .before .before .before .if1 .taken) (c .before .before .take .ensures) refl)
     (λ c κs. let f = c .before .before .before .before .before .before .before .before .before .before .before .pre .1 .0 .list-ok .few in let r = c .before .before .before .before .before .before .before .before .before .before .before .pre .1 .0 .room in (omega arith, omega arith))
     (λ c κs. c .before .before .before .before .before .before .before .before .before .before .before .before .before .before .pre .1 .0 .small)
     (λ c κs. let q = c .before .before .before .before .before .before .before .before .before .before .before .before .before .before .before .before .pre .0 in (omega arith, (framed-kept (c .before .before .before .before .before .before .before .before .before .before .before .before .before .before .before .before .pre .1 .0) (c .before .before .before .before .before .before .before .before .before .before .before .before .before .before .before .before .args .depth + 1) (omega arith) _ (c .before .before .before .before .copy-list .ensures .long) (λ j h. c .before .before .before .before .copy-list .ensures .before j (omega arith)), (c .before .before .before .before .before .before .before .before .before .before .before .before .before .before .before .before .pre .1 .1, c .before .open-builder .ensures .0 _ _ (rows-to _ _ 0 5632 _ _ (c .before .before .before .before .copy-list .ensures .rows-copied) (c .before .before .before .before .before .before .before .before .before .before .before .before .before .before .before .before .pre .1 .0 .list-ok))))))
     (λ c. c .before .before .branches .ensures .long ∙ c .before .before .before .before .before .before .before .copy-list .ensures .long)
-    (λ c. single-gives (c .before .before .before .before .before .before .before .before .before .before .before .before .before .before .before .before .before .before .before .pre .1 .0 .list-ok .few) (c .before .before .before .before .before .before .before .before .before .before .before .before .before .before .before .children-at .ensures) (c .before .before .before .before .before .before .before .before .before .before .before .before .before .before .type-of .ensures) (c .before .before .before .before .before .before .before .copy-list .ensures) (c .before .before .branches .ensures) refl))
+    (λ c. single-gives (c .before .before .before .before .before .before .before .before .before .before .before .before .before .before .before .before .before .before .before .pre .1 .0 .list-ok .few) (children-gives (c .before .before .before .before .before .before .before .before .before .before .before .before .before .before .before .children-at .ensures)) (type-gives (c .before .before .before .before .before .before .before .before .before .before .before .before .before .before .type-of .ensures)) (c .before .before .before .before .before .before .before .copy-list .ensures) (c .before .before .branches .ensures) refl))
     (λ t. scalar-or-scalar-lts.spec (
       children-at-reads.Asked,
       children-at-reads.Learnt,
@@ -687,12 +691,12 @@ pub +against+binary+branches+by-base+case+case-column-or-null+case-when-no-expr+
     (λ c. search needs)
     (λ c κs. let q = c .before .before .before .before .before .before .before .before .before .before .before .before .pre .0 in let l = c .before .before .before .before .step-values .ensures .long in (omega arith, (c .before .before .before .before .before .before .before .before .before .before .before .before .pre .1 .0, (c .before .before .before .before .before .before .before .before .before .before .before .before .pre .1 .1, omega arith))))
     (λ c. c .before .before .take .ensures .long)
-    (λ c. scalar-steps _ (c .before .before .before .before .before .before .before .before .before .before .before .before .before .before .before .pre .1 .0 .list-ok .few) (c .before .before .before .before .before .before .before .before .before .before .before .children-at .ensures) (c .before .before .before .before .before .before .before .before .before .before .type-of .ensures) (c .before .before .before .before .before .before .before .step-values .ensures) (c .before .before .before .before .before .if1 .taken) (c .before .before .take .ensures) refl)
+    (λ c. scalar-steps _ (c .before .before .before .before .before .before .before .before .before .before .before .before .before .before .before .pre .1 .0 .list-ok .few) (children-gives (c .before .before .before .before .before .before .before .before .before .before .before .children-at .ensures)) (type-gives (c .before .before .before .before .before .before .before .before .before .before .type-of .ensures)) (c .before .before .before .before .before .before .before .step-values .ensures) (c .before .before .before .before .before .if1 .taken) (c .before .before .take .ensures) refl)
     (λ c κs. tt)
     (λ c κs. let q = c .before .before .before .before .before .before .before .before .before .before .before .before .pre .0 in (omega arith, framed-below (c .before .before .before .before .before .before .before .before .before .before .before .before .pre .1 .0) (c .before .before .before .before .before .before .before .before .before .before .before .before .args .depth) (omega arith)))
     (λ c κs. framed-fillable (framed-kept (c .before .before .before .before .before .before .before .before .before .before .before .before .before .before .before .before .pre .1 .0) (c .before .before .before .before .before .before .before .before .before .before .before .before .before .before .before .before .args .depth + 1) (omega arith) _ (c .before .before .before .expr .ensures .long) (c .before .before .before .expr .ensures .low)) (omega arith))
     (λ c. c .before .before .scalar-rows .ensures .long ∙ c .before .before .before .before .before .before .expr .ensures .long)
-    (λ c. scalar-gives (c .before .before .before .before .before .before .before .before .before .before .before .before .before .before .before .before .before .before .before .pre .1 .0 .list-ok .few) (c .before .before .before .before .before .before .before .before .before .before .before .before .before .before .before .children-at .ensures) (c .before .before .before .before .before .before .before .before .field-end .ensures) (c .before .before .before .before .before .before .expr .ensures) (c .before .before .scalar-rows .ensures)))
+    (λ c. scalar-gives (c .before .before .before .before .before .before .before .before .before .before .before .before .before .before .before .before .before .before .before .pre .1 .0 .list-ok .few) (children-gives (c .before .before .before .before .before .before .before .before .before .before .before .before .before .before .before .children-at .ensures)) (end-gives (c .before .before .before .before .before .before .before .before .field-end .ensures)) (c .before .before .before .before .before .before .expr .ensures) (c .before .before .scalar-rows .ensures)))
     (λ t. take-lts.spec (
       start-results-reads.Asked,
       start-results-reads.Learnt,
@@ -715,7 +719,7 @@ pub +against+binary+branches+by-base+case+case-column-or-null+case-when-no-expr+
     (λ c κs. let q = c .before .before .before .before .before .before .before .before .before .before .before .before .before .pre .0 in (omega arith, (take-framed (start-framed (c .before .before .before .before .before .before .before .before .before .before .before .before .before .pre .1 .0) (c .before .before .before .before .before .before .before .start-results .ensures)) (c .before .before .before .before .loop .inv), c .before .before .before .before .before .before .before .before .before .before .before .before .before .pre .1 .1)))
     (λ c. omega arith)
     (λ c. omega arith)
-    (λ c. take-more (start-framed (c .before .before .before .before .before .before .before .before .before .before .before .before .before .before .before .before .pre .1 .0) (c .before .before .before .before .before .before .before .before .before .before .start-results .ensures)) (c .before .before .before .before .before .before .before .loop .inv) (c .before .before .before .before .before .before .loop-test .taken) (c .before .before .before .before .before .field-end .ensures) (c .before .before .before .before .field-end2 .ensures) (c .before .before .then .ensures))
+    (λ c. take-more (start-framed (c .before .before .before .before .before .before .before .before .before .before .before .before .before .before .before .before .pre .1 .0) (c .before .before .before .before .before .before .before .before .before .before .start-results .ensures)) (c .before .before .before .before .before .before .before .loop .inv) (c .before .before .before .before .before .before .loop-test .taken) (end-gives (c .before .before .before .before .before .field-end .ensures)) (end-gives (c .before .before .before .before .field-end2 .ensures)) (c .before .before .then .ensures))
     (λ c κs. let q = c .before .before .before .before .before .before .before .before .before .before .before .pre .0 in (omega arith, (take-framed (start-framed (c .before .before .before .before .before .before .before .before .before .before .before .pre .1 .0) (c .before .before .before .before .before .start-results .ensures)) (c .before .before .loop .inv), c .before .before .before .before .before .before .before .before .before .before .before .pre .1 .1)))
     (λ c. c .before .before .take-else .ensures .long ∙ c .before .before .before .before .before .loop .inv .long ∙ c .before .before .before .before .before .before .before .before .start-results .ensures .long)
     (λ c. start-done (c .before .before .before .before .before .before .before .before .before .before .before .before .before .before .pre .1 .0) (c .before .before .before .before .before .before .before .before .start-results .ensures) (take-end (start-framed (c .before .before .before .before .before .before .before .before .before .before .before .before .before .before .pre .1 .0) (c .before .before .before .before .before .before .before .before .start-results .ensures)) (c .before .before .before .before .before .loop .inv) (c .before .before .before .before .loop-test .left) (c .before .before .take-else .ensures))))
@@ -818,7 +822,7 @@ pub +against+binary+branches+by-base+case+case-column-or-null+case-when-no-expr+
     (λ c κs. tt)
     (λ c κs. framed-fillable (framed-kept (c .before .before .before .before .before .before .before .before .before .before .pre .1) (c .before .before .before .before .before .before .before .before .before .before .args .depth + 1) (omega arith) _ (c .before .before .before .before .expr .ensures .long) (c .before .before .before .before .expr .ensures .low)) (omega arith))
     (λ c. c .before .before .apply .ensures .long ∙ c .before .before .before .before .before .before .before .expr .ensures .long)
-    (λ c. unary-gives (c .before .before .before .before .before .before .before .before .before .before .before .before .before .pre .1 .list-ok .few) (c .before .before .before .before .before .before .before .before .before .children-at .ensures) (c .before .before .before .before .before .before .before .expr .ensures) (c .before .before .before .operator-at .ensures) (c .before .before .apply .ensures)))
+    (λ c. unary-gives (c .before .before .before .before .before .before .before .before .before .before .before .before .before .pre .1 .list-ok .few) (children-gives (c .before .before .before .before .before .before .before .before .before .children-at .ensures)) (c .before .before .before .before .before .before .before .expr .ensures) (c .before .before .before .operator-at .ensures) (c .before .before .apply .ensures)))
     λ t. with-lookup-table-lts.spec (
       byte-at-reads.Asked,
       byte-at-reads.Learnt,
@@ -850,8 +854,8 @@ pub +against+binary+branches+by-base+case+case-column-or-null+case-when-no-expr+
     (λ c. search needs)
     (λ c κs. let l = c .before .before .before .before .lookup-values .ensures .long in (framed-fillable (c .before .before .before .before .before .before .before .before .before .before .before .before .before .before .before .pre .1) (omega arith), omega arith))
     (λ c. c .before .before .start-results .ensures .long)
-    (λ c. keyed-case _ (c .before .before .before .before .before .before .before .before .before .before .before .before .before .before .before .before .before .before .pre .1 .list-ok .few) (c .before .before .before .before .before .before .before .before .before .before .before .before .children-at .ensures) (c .before .before .before .before .before .before .before .before .before .before .before .field-end .ensures) (c .before .before .before .before .before .before .before .before .before .before .before .before .before .byte-at .ensures) (c .before .before .before .before .before .before .before .before .before .before .type-of .ensures) (c .before .before .before .before .before .before .before .lookup-values .ensures) (c .before .before .before .before .before .if2 .taken) (c .before .before .start-results .ensures))
+    (λ c. keyed-case _ (c .before .before .before .before .before .before .before .before .before .before .before .before .before .before .before .before .before .before .pre .1 .list-ok .few) (children-gives (c .before .before .before .before .before .before .before .before .before .before .before .before .children-at .ensures)) (end-gives (c .before .before .before .before .before .before .before .before .before .before .before .field-end .ensures)) (c .before .before .before .before .before .before .before .before .before .before .before .before .before .byte-at .ensures) (type-gives (c .before .before .before .before .before .before .before .before .before .before .type-of .ensures)) (c .before .before .before .before .before .before .before .lookup-values .ensures) (c .before .before .before .before .before .if2 .taken) (c .before .before .start-results .ensures))
     (λ c κs. let q = c .before .before .before .before .before .before .before .before .before .before .before .before .before .before .pre .0 in (omega arith, framed-below (c .before .before .before .before .before .before .before .before .before .before .before .before .before .before .pre .1) (c .before .before .before .before .before .before .before .before .before .before .before .before .before .before .args .depth) (omega arith)))
     (λ c κs. framed-fillable (framed-kept (c .before .before .before .before .before .before .before .before .before .before .before .before .before .before .before .before .before .before .pre .1) (c .before .before .before .before .before .before .before .before .before .before .before .before .before .before .before .before .before .before .args .depth + 1) (omega arith) _ (c .before .before .before .expr .ensures .long) (c .before .before .before .expr .ensures .low)) (omega arith))
     (λ c. c .before .before .look-up .ensures .long ∙ c .before .before .before .before .before .before .expr .ensures .long)
-    (λ c. lookup-gives (c .before .before .before .before .before .before .before .before .before .before .before .before .before .before .before .before .before .before .before .before .before .pre .1 .list-ok .few) (c .before .before .before .before .before .before .before .before .before .before .before .before .before .before .before .children-at .ensures) (c .before .before .before .before .before .before .before .before .before .before .before .before .before .before .field-end .ensures) (c .before .before .before .before .before .before .expr .ensures) (c .before .before .before .before .before .before .before .before .before .before .before .before .before .before .before .before .byte-at .ensures) (c .before .before .before .before .before .before .before .before .before .before .before .before .before .type-of .ensures) (c .before .before .look-up .ensures))
+    (λ c. lookup-gives (c .before .before .before .before .before .before .before .before .before .before .before .before .before .before .before .before .before .before .before .before .before .pre .1 .list-ok .few) (children-gives (c .before .before .before .before .before .before .before .before .before .before .before .before .before .before .before .children-at .ensures)) (end-gives (c .before .before .before .before .before .before .before .before .before .before .before .before .before .before .field-end .ensures)) (c .before .before .before .before .before .before .expr .ensures) (c .before .before .before .before .before .before .before .before .before .before .before .before .before .before .before .before .byte-at .ensures) (type-gives (c .before .before .before .before .before .before .before .before .before .before .before .before .before .type-of .ensures)) (c .before .before .look-up .ensures))

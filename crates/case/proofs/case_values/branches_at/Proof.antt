@@ -5,6 +5,7 @@ use native.Mathlib.Omega.{arith}
 use denote.Ref.{now}
 use lib.ListN.{List·getD-eq-default}
 use borrow.Author.Needs.{needs}
+use Rattle.rule.proofs.WalkLaws.{end-gives}
 use Rattle.case.proofs.case_values.branches_at.Statement.{statement}
 use Rattle.case.proofs.case_values.branches_at.Tie as tie
 
@@ -16,5 +17,5 @@ branches-at-spec =
     (λ c. search needs)
     (λ c κs. search needs)
     (λ c κs. search needs)
-    (λ c. (λ h. c .field-end .ensures, λ d. absurd (d (ap (λ (b : ℕ). b % 2) (sym (c .before .before .byte-at .ensures)) ∙ c .before .if2 .taken))))
+    (λ c. (λ h. end-gives (c .field-end .ensures), λ d. absurd (d (ap (λ (b : ℕ). b % 2) (sym (c .before .before .byte-at .ensures)) ∙ c .before .if2 .taken))))
     (λ c. (λ h. absurd (c .if2 .left (ap (λ (b : ℕ). b % 2) (c .before .byte-at .ensures) ∙ h)), λ d. refl)))

@@ -5,6 +5,8 @@ use native.Mathlib.Omega.{arith}
 use denote.Ref.{now}
 use borrow.Author.Needs.{needs}
 use Rattle.case.proofs.LookUpTrees.{LiteralsSoFar, literals-none, literals-more, literals-ended, literals-all}
+use Rattle.rule.proofs.WalkLaws.{end-gives}
+use Rattle.rule.proofs.LiteralLaws.{literal-gives}
 use Rattle.case.proofs.literal_lookup_table.read_literals.Statement.{statement}
 use Rattle.case.proofs.literal_lookup_table.read_literals.Tie as tie
 
@@ -34,7 +36,7 @@ read-literals-spec =
     (λ c. omega (arith, c .before .before .before .before .before .before .loop .inv .payloads-long, c .before .before .before .before .before .before .loop .inv .small))
     (λ c. omega (arith, c .before .before .before .before .before .before .loop .inv .small))
     (λ c. omega arith)
-    (λ c. literals-more (c .before .before .before .before .before .before .loop .inv) (c .before .before .literal-value .result) (c .before .before .before .before .before .loop-test .taken) (omega arith) (c .before .before .before .field-end .ensures) (c .before .before .literal-value .ensures) (c .before .kind .ensures) (c .payload .ensures))
+    (λ c. literals-more (c .before .before .before .before .before .before .loop .inv) (c .before .before .literal-value .result) (c .before .before .before .before .before .loop-test .taken) (omega arith) (end-gives (c .before .before .before .field-end .ensures)) (literal-gives (c .before .before .literal-value .ensures)) (c .before .kind .ensures) (c .payload .ensures))
     (λ c. c .before .loop .inv .kinds-long ∙ sym (c .before .before .before .before .before .pre .0))
     (λ c. c .before .loop .inv .payloads-long ∙ sym (c .before .before .before .before .before .pre .1))
     (λ c. literals-all (c .before .loop .inv) (omega arith)))

@@ -4,6 +4,7 @@ use Prim.Native.Nat.{_+_, _-_}
 use native.Mathlib.Omega.{arith}
 use Rattle.case.proofs.NestedLaws.{ClassedSoFar, classed-none, classed-framed, classed-all, then-longs, classed-not, classed-next}
 use borrow.Author.Needs.{needs}
+use Rattle.rule.proofs.WalkLaws.{end-gives}
 use Rattle.case.proofs.nested.nested_thens.Statement.{statement}
 use Rattle.case.proofs.nested.nested_thens.Tie as tie
 
@@ -32,7 +33,7 @@ nested-thens-spec =
     (λ c. classed-not (c .before .before .before .before .before .before .before .before .before .before .before .before .before .before .before .before .before .before .before .before .before .before .before .before .pre .1) (c .before .before .before .before .before .before .before .before .before .before .before .before .before .before .before .before .before .before .before .before .before .before .before .before .pre .0 .list-ok .few) (c .before .before .before .before .before .before .before .before .before .before .before .before .before .before .before .before .before .loop .inv) (c .before .before .before .before .before .before .before .before .before .nested-then .ensures))
     (λ c. omega (arith, c .before .before .before .before .before .before .before .before .before .before .before .before .before .before .before .before .before .before .before .before .before .before .before .before .pre .1 .few, c .before .before .before .before .before .before .before .before .before .before .before .before .before .before .before .before .loop-test .taken))
     (λ c. omega (arith, c .before .before .before .before .before .before .before .before .before .before .before .before .before .before .before .before .loop-test .taken))
-    (λ c. classed-next (c .before .before .before .before .before .before .before .before .before .before .before .before .before .before .before .before .before .before .before .before .before .before .before .before .pre .1) (c .before .before .before .before .before .before .before .before .before .before .before .before .before .before .before .before .before .before .before .before .before .before .before .before .pre .0 .list-ok .few) (c .before .before .before .before .before .before .before .before .before .before .before .before .before .before .before .before .before .loop .inv) (c .before .before .before .before .before .before .before .before .before .nested-then .ensures) (c .before .before .before .before .before .before .before .before .before .before .before .before .before .before .before .before .loop-test .taken) (c .before .before .before .before .before .before .before .before .before .before .before .before .before .before .before .field-end .ensures) (c .before .before .before .before .before .before .before .before .before .before .before .before .before .before .field-end2 .ensures) (c .if1 .left))
+    (λ c. classed-next (c .before .before .before .before .before .before .before .before .before .before .before .before .before .before .before .before .before .before .before .before .before .before .before .before .pre .1) (c .before .before .before .before .before .before .before .before .before .before .before .before .before .before .before .before .before .before .before .before .before .before .before .before .pre .0 .list-ok .few) (c .before .before .before .before .before .before .before .before .before .before .before .before .before .before .before .before .before .loop .inv) (c .before .before .before .before .before .before .before .before .before .nested-then .ensures) (c .before .before .before .before .before .before .before .before .before .before .before .before .before .before .before .before .loop-test .taken) (end-gives (c .before .before .before .before .before .before .before .before .before .before .before .before .before .before .before .field-end .ensures)) (end-gives (c .before .before .before .before .before .before .before .before .before .before .before .before .before .before .field-end2 .ensures)) (c .if1 .left))
     (λ c. c .before .loop .inv .long)
     (λ c. c .before .loop .inv .classes-long ∙ sym (c .before .before .before .before .before .before .before .before .pre .1 .classes-long))
     (λ c. c .before .loop .inv .grown .arrays .0 ∙ sym (c .before .before .before .before .before .before .before .before .pre .1 .arrays .0))

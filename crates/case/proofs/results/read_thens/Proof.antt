@@ -5,6 +5,8 @@ use Prim.Native.Nat.{_+_, _-_}
 use native.Mathlib.Omega.{arith}
 use borrow.Author.Needs.{needs}
 use Rattle.case.proofs.ResultLaws.{ThensSoFar, thens-none, thens-all, then-in, then-literal, then-other}
+use Rattle.rule.proofs.LiteralLaws.{literal-gives}
+use Rattle.rule.proofs.WalkLaws.{end-gives}
 use Rattle.case.proofs.results.read_thens.Statement.{statement}
 use Rattle.case.proofs.results.read_thens.Tie as tie
 
@@ -32,7 +34,7 @@ read-thens-spec =
     (λ c. omega (arith, then-in (c .before .before .before .before .before .before .before .before .loop .inv) (c .before .before .before .before .before .before .before .loop-test .taken), c .before .before .before .before .before .before .before .before .loop .inv .read .payloads-long))
     (λ c. omega (arith, then-in (c .before .before .before .before .before .loop .inv) (c .before .before .before .before .loop-test .taken)))
     (λ c. omega (arith, c .before .before .before .before .loop-test .taken))
-    (λ c. ⊎-elim (λ t. then-literal (c .before .before .before .before .before .loop .inv) (c .before .before .before .before .loop-test .taken) (c .before .before .before .field-end .ensures) (c .before .before .field-end2 .ensures) (t .1 .result) (sym (c .before .byte-at .ensures) ∙ t .0 .taken) (t .1 .ensures) (t .2 .ensures) (t .3 .ensures) (t .4) (t .5)) (λ t. then-other (c .before .before .before .before .before .loop .inv) (c .before .before .before .before .loop-test .taken) (c .before .before .before .field-end .ensures) (c .before .before .field-end2 .ensures) (λ e. t .0 .left (c .before .byte-at .ensures ∙ e)) (t .1) (t .2)) (c .if1 .came))
+    (λ c. ⊎-elim (λ t. then-literal (c .before .before .before .before .before .loop .inv) (c .before .before .before .before .loop-test .taken) (end-gives (c .before .before .before .field-end .ensures)) (end-gives (c .before .before .field-end2 .ensures)) (t .1 .result) (sym (c .before .byte-at .ensures) ∙ t .0 .taken) (literal-gives (t .1 .ensures)) (t .2 .ensures) (t .3 .ensures) (t .4) (t .5)) (λ t. then-other (c .before .before .before .before .before .loop .inv) (c .before .before .before .before .loop-test .taken) (end-gives (c .before .before .before .field-end .ensures)) (end-gives (c .before .before .field-end2 .ensures)) (λ e. t .0 .left (c .before .byte-at .ensures ∙ e)) (t .1) (t .2)) (c .if1 .came))
     (λ c. c .before .loop .inv .read .kinds-long ∙ sym (c .before .before .before .before .before .pre .kinds-long))
     (λ c. c .before .loop .inv .read .payloads-long ∙ sym (c .before .before .before .before .before .pre .payloads-long))
     (λ c. thens-all (c .before .loop .inv) (omega arith)))

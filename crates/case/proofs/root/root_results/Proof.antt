@@ -3,6 +3,7 @@ use mathlib.Core.Path.{sym, _∙_}
 use native.Mathlib.Omega.{arith}
 use Rattle.case.proofs.RootLaws.{results-none, results-give}
 use borrow.Author.Needs.{needs}
+use Rattle.rule.proofs.TypeOfLaws.{type-gives}
 use Rattle.case.proofs.root.root_results.Statement.{statement}
 use Rattle.case.proofs.root.root_results.Tie as tie
 
@@ -20,11 +21,11 @@ root-results-spec =
     (λ c. omega (arith, c .before .before .before .before .before .before .before .before .before .byte-at .ok, c .before .before .before .before .before .read-results .ensures .kinds-long))
     (λ c. c .before .before .before .before .before .before .read-results .ensures .kinds-long ∙ sym (c .before .before .before .before .before .before .before .before .before .before .before .before .before .before .before .before .pre .0))
     (λ c. c .before .before .before .before .before .before .read-results .ensures .payloads-long ∙ sym (c .before .before .before .before .before .before .before .before .before .before .before .before .before .before .before .before .pre .1))
-    (λ c. results-none (c .before .before .before .before .before .before .before .before .before .before .byte-at .ensures) (c .before .before .before .before .before .before .before .before .before .type-of .ensures) (c .before .before .before .before .before .before .read-results .ensures))
+    (λ c. results-none (c .before .before .before .before .before .before .before .before .before .before .byte-at .ensures) (type-gives (c .before .before .before .before .before .before .before .before .before .type-of .ensures)) (c .before .before .before .before .before .before .read-results .ensures))
     (λ c κs. (c .before .before .before .before .before .before .before .read-results .ensures .kinds-long, omega (arith, c .before .before .before .before .before .before .before .before .before .before .before .byte-at .ok)))
     (λ c. c .before .before .before .before .before .before .before .before .before .read-results .ensures .kinds-long ∙ sym (c .before .before .before .before .before .before .before .before .before .before .before .before .before .before .before .before .before .before .before .pre .0))
     (λ c. c .before .before .before .before .before .before .before .before .before .read-results .ensures .payloads-long ∙ sym (c .before .before .before .before .before .before .before .before .before .before .before .before .before .before .before .before .before .before .before .pre .1))
-    (λ c. results-give (c .before .before .before .before .before .before .before .before .before .before .before .before .before .byte-at .ensures) (c .before .before .before .before .before .before .before .before .before .before .before .before .type-of .ensures) (c .before .before .before .before .before .before .before .before .before .read-results .ensures) (c .before .before .before .if1 .left))
+    (λ c. results-give (c .before .before .before .before .before .before .before .before .before .before .before .before .before .byte-at .ensures) (type-gives (c .before .before .before .before .before .before .before .before .before .before .before .before .type-of .ensures)) (c .before .before .before .before .before .before .before .before .before .read-results .ensures) (c .before .before .before .if1 .left))
     (λ c. c .before .before .before .before .before .before .before .before .before .read-results .ensures .kinds-long ∙ sym (c .before .before .before .before .before .before .before .before .before .before .before .before .before .before .before .before .before .before .before .pre .0))
     (λ c. c .before .before .before .before .before .before .before .before .before .read-results .ensures .payloads-long ∙ sym (c .before .before .before .before .before .before .before .before .before .before .before .before .before .before .before .before .before .before .before .pre .1))
-    (λ c. results-none (c .before .before .before .before .before .before .before .before .before .before .before .before .before .byte-at .ensures) (c .before .before .before .before .before .before .before .before .before .before .before .before .type-of .ensures) (c .before .before .before .before .before .before .before .before .before .read-results .ensures)))
+    (λ c. results-none (c .before .before .before .before .before .before .before .before .before .before .before .before .before .byte-at .ensures) (type-gives (c .before .before .before .before .before .before .before .before .before .before .before .before .type-of .ensures)) (c .before .before .before .before .before .before .before .before .before .read-results .ensures)))

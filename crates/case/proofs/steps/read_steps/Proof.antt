@@ -4,6 +4,7 @@ use Prim.Native.Nat.{_-_}
 use native.Mathlib.Omega.{arith}
 use borrow.Author.Needs.{needs}
 use Rattle.case.proofs.StepLaws.{StepsSoFar, steps-none, steps-more, steps-refused, steps-all}
+use Rattle.rule.proofs.WalkLaws.{end-gives}
 use Rattle.case.proofs.steps.read_steps.Statement.{statement}
 use Rattle.case.proofs.steps.read_steps.Tie as tie
 
@@ -37,7 +38,7 @@ read-steps-spec =
     (λ c κs. search needs)
     (λ c. omega (arith, c .before .before .before .before .before .before .before .before .before .before .loop .inv .small, c .before .before .before .before .before .before .before .before .before .loop-test .taken))
     (λ c. omega (arith, c .before .before .before .before .before .before .before .before .before .loop-test .taken))
-    (λ c. steps-more (c .before .before .before .before .before .before .before .before .before .before .loop .inv) (c .before .before .before .before .before .before .before .before .before .loop-test .taken) (c .before .before .before .before .before .before .before .before .field-end .ensures) (c .before .before .before .before .before .before .before .step-at .ensures) (c .before .before .before .before .before .if1 .left) (c .before .before .before .if2 .left) (c .before .if3 .left) (c .field-end2 .ensures))
+    (λ c. steps-more (c .before .before .before .before .before .before .before .before .before .before .loop .inv) (c .before .before .before .before .before .before .before .before .before .loop-test .taken) (end-gives (c .before .before .before .before .before .before .before .before .field-end .ensures)) (c .before .before .before .before .before .before .before .step-at .ensures) (c .before .before .before .before .before .if1 .left) (c .before .before .before .if2 .left) (c .before .if3 .left) (end-gives (c .field-end2 .ensures)))
     (λ c. c .before .loop .inv .tags-long ∙ sym (c .before .before .before .before .before .pre .0))
     (λ c. c .before .loop .inv .keys-long ∙ sym (c .before .before .before .before .before .pre .1))
     (λ c. steps-all (c .before .loop .inv) (omega arith)))

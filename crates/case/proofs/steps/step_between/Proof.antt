@@ -4,6 +4,7 @@ use native.Mathlib.Omega.{arith}
 use denote.Ref.{now}
 use borrow.Author.Needs.{needs}
 use Rattle.case.proofs.StepLaws.{sides-none, sides-some, tag-inside}
+use Rattle.rule.proofs.LiteralLaws.{literal-gives}
 use Rattle.case.proofs.steps.step_between.Statement.{statement}
 use Rattle.case.proofs.steps.step_between.Tie as tie
 
@@ -22,4 +23,4 @@ step-between-spec =
     (λ c κs. search needs)
     (λ c κs. search needs)
     (λ c κs. search needs)
-    (λ c. sides-some (c .before .before .literal-value .result) (sym (c .before .before .before .before .before .before .before .byte-at .ensures) ∙ c .before .before .before .before .before .before .if1 .left) (sym (c .before .before .before .before .before .byte-at2 .ensures) ∙ c .before .before .before .before .if2 .left) (c .before .before .before .byte-at3 .ensures) (c .before .before .literal-value .ensures) (c .before .key-of .ensures) (c .step-of .ensures)))
+    (λ c. sides-some (c .before .before .literal-value .result) (sym (c .before .before .before .before .before .before .before .byte-at .ensures) ∙ c .before .before .before .before .before .before .if1 .left) (sym (c .before .before .before .before .before .byte-at2 .ensures) ∙ c .before .before .before .before .if2 .left) (c .before .before .before .byte-at3 .ensures) (literal-gives (c .before .before .literal-value .ensures)) (c .before .key-of .ensures) (c .step-of .ensures)))

@@ -45,6 +45,9 @@ use Rattle.scalar.proofs.value.kind.Reads as kind-reads
 use Rattle.rule.proofs.constant.+constant+constant_base+constant_branches+constant_case+constant_else+constant_node+constant_with.{
   statement,
 }
+use Rattle.rule.proofs.LiteralLaws.{literal-gives}
+use Rattle.rule.proofs.WalkLaws.{behind-gives, children-gives, end-gives}
+use Rattle.rule.proofs.TypeOfLaws.{type-gives}
 use Rattle.rule.proofs.constant.+constant+constant_base+constant_branches+constant_case+constant_else+constant_node+constant_with.Tie.{
   close,
 }
@@ -177,12 +180,12 @@ pub +constant+constant-base+constant-branches+constant-case+constant-else+consta
     (λ c κs. tt)
     (λ c κs. tt)
     (λ c κs. tt)
-    (λ c. branches-failed (c .before .before .before .before .before .before .before .before .before .loop .inv) (c .before .before .before .before .before .before .before .before .loop-test .taken) (c .before .before .before .before .before .before .before .field-end .ensures) (c .before .before .before .before .before .before .field-end2 .ensures) (c .before .before .before .before .before .constant .ensures) (c .before .before .before .before .equal .ensures) (sym (c .before .kind .ensures) ∙ c .if2 .taken))
+    (λ c. branches-failed (c .before .before .before .before .before .before .before .before .before .loop .inv) (c .before .before .before .before .before .before .before .before .loop-test .taken) (end-gives (c .before .before .before .before .before .before .before .field-end .ensures)) (end-gives (c .before .before .before .before .before .before .field-end2 .ensures)) (c .before .before .before .before .before .constant .ensures) (c .before .before .before .before .equal .ensures) (sym (c .before .kind .ensures) ∙ c .if2 .taken))
     (λ c κs. let q = c .before .before .before .before .before .before .before .before .before .before .before .before .pre .0 in (omega arith, tt))
-    (λ c. branches-then (c .before .before .before .before .before .before .before .before .before .before .loop .inv) (c .before .before .before .before .before .before .before .before .before .loop-test .taken) (c .before .before .before .before .before .before .before .before .field-end .ensures) (c .before .before .before .before .before .before .before .field-end2 .ensures) (c .before .before .before .before .before .before .constant .ensures) (c .before .before .before .before .before .equal .ensures) (c .before .before .before .before .may-pass .ensures) (c .before .before .before .if1 .taken) (λ p. c .before .if2 .left (c .before .before .kind .ensures ∙ p)) (c .constant2 .ensures))
+    (λ c. branches-then (c .before .before .before .before .before .before .before .before .before .before .loop .inv) (c .before .before .before .before .before .before .before .before .before .loop-test .taken) (end-gives (c .before .before .before .before .before .before .before .before .field-end .ensures)) (end-gives (c .before .before .before .before .before .before .before .field-end2 .ensures)) (c .before .before .before .before .before .before .constant .ensures) (c .before .before .before .before .before .equal .ensures) (c .before .before .before .before .may-pass .ensures) (c .before .before .before .if1 .taken) (λ p. c .before .if2 .left (c .before .before .kind .ensures ∙ p)) (c .constant2 .ensures))
     (λ c. omega arith)
     (λ c. omega arith)
-    (λ c. branches-next (c .before .before .before .before .before .before .before .loop .inv) (c .before .before .before .before .before .before .loop-test .taken) (c .before .before .before .before .before .field-end .ensures) (c .before .before .before .before .field-end2 .ensures) (c .before .before .before .constant .ensures) (c .before .before .equal .ensures) (c .before .may-pass .ensures) (c .if1 .left))
+    (λ c. branches-next (c .before .before .before .before .before .before .before .loop .inv) (c .before .before .before .before .before .before .loop-test .taken) (end-gives (c .before .before .before .before .before .field-end .ensures)) (end-gives (c .before .before .before .before .field-end2 .ensures)) (c .before .before .before .constant .ensures) (c .before .before .equal .ensures) (c .before .may-pass .ensures) (c .if1 .left))
     (λ c κs. let q = c .before .before .before .before .pre .0 in (omega arith, tt))
     (λ c. branches-end (c .before .before .loop .inv) (c .before .loop-test .left) (c .constant-else .ensures)))
     (λ t. constant-case-lts.spec (constant-case-calls t) (constant-case-at t) constant-case.Post
@@ -197,7 +200,7 @@ pub +constant+constant-base+constant-branches+constant-case+constant-else+consta
     (λ c κs. let q = c .before .before .before .before .before .before .before .pre .0 in (omega arith, tt))
     (λ c κs. tt)
     (λ c κs. let q = c .before .before .before .before .before .before .before .before .before .pre .0 in (omega arith, tt))
-    (λ c. case-gives (c .before .before .before .before .before .before .byte-at .ensures) (c .before .before .before .before .before .byte-at2 .ensures) (c .before .before .before .before .children-at .ensures) (c .before .before .before .behind-fields .ensures) (c .before .before .constant-base .ensures) (c .before .type-of .ensures) (c .constant-with .ensures)))
+    (λ c. case-gives (c .before .before .before .before .before .before .byte-at .ensures) (c .before .before .before .before .before .byte-at2 .ensures) (children-gives (c .before .before .before .before .children-at .ensures)) (behind-gives (c .before .before .before .behind-fields .ensures)) (c .before .before .constant-base .ensures) (type-gives (c .before .type-of .ensures)) (c .constant-with .ensures)))
     (λ t. constant-else-lts.spec (constant-else-calls t) (constant-else-at t) constant-else.Post
     (λ c. else-none (c .if1 .taken))
     (λ c κs. let q = c .before .before .before .pre .0 in (omega arith, tt))
@@ -208,7 +211,7 @@ pub +constant+constant-base+constant-branches+constant-case+constant-else+consta
     (λ c. omega arith)
     (λ c. within-column (c .if2 .taken))
     (λ c κs. tt)
-    (λ c. within-literal (c .before .if3 .taken) (c .literal-value .ensures))
+    (λ c. within-literal (c .before .if3 .taken) (literal-gives (c .literal-value .ensures)))
     (λ c κs. let q = c .before .before .before .before .before .before .before .pre .0 in (omega arith, tt))
     (λ c. within-case (c .before .if4 .taken) (c .constant-case .ensures))
     (λ c κs. tt)
@@ -216,18 +219,18 @@ pub +constant+constant-base+constant-branches+constant-case+constant-else+consta
     (λ c κs. tt)
     (λ c κs. let q = c .before .before .before .before .before .before .before .before .before .before .pre .0 in (omega arith, tt))
     (λ c κs. tt)
-    (λ c. within-one refl (c .before .before .before .before .before .before .before .if2 .left) (c .before .before .before .before .before .before .if3 .left) (c .before .before .before .if5 .taken) (c .before .before .byte-at .ensures) (c .before .before .before .before .children-at .ensures) (c .before .constant .ensures) (c .one .ensures))
+    (λ c. within-one refl (c .before .before .before .before .before .before .before .if2 .left) (c .before .before .before .before .before .before .if3 .left) (c .before .before .before .if5 .taken) (c .before .before .byte-at .ensures) (children-gives (c .before .before .before .before .children-at .ensures)) (c .before .constant .ensures) (c .one .ensures))
     (λ c κs. tt)
     (λ c κs. let q = c .before .before .before .before .before .before .before .before .before .before .pre .0 in (omega arith, tt))
     (λ c κs. let q = c .before .before .before .before .before .before .before .before .before .before .before .pre .0 in (omega arith, tt))
     (λ c κs. tt)
-    (λ c. within-two refl (c .before .before .before .before .if5 .left) (c .before .before .before .before .before .before .if4 .left) (c .before .before .before .before .before .children-at .ensures) (c .before .before .before .field-end .ensures) (c .before .before .constant2 .ensures) (c .before .constant3 .ensures) (c .two .ensures)))
+    (λ c. within-two refl (c .before .before .before .before .if5 .left) (c .before .before .before .before .before .before .if4 .left) (children-gives (c .before .before .before .before .before .children-at .ensures)) (end-gives (c .before .before .before .field-end .ensures)) (c .before .before .constant2 .ensures) (c .before .constant3 .ensures) (c .two .ensures)))
     (λ t. constant-with-lts.spec (constant-with-calls t) (constant-with-at t) constant-with.Post
     (λ c κs. tt)
     (λ c. with-failed (sym (c .before .kind .ensures) ∙ c .if1 .taken))
     (λ c. omega arith)
     (λ c κs. tt)
     (λ c κs. let q = c .before .before .before .before .before .before .pre .0 in (omega arith, tt))
-    (λ c. with-null (sym (c .before .before .before .before .kind .ensures) ∙ c .before .before .if2 .taken) (c .before .behind-fields .ensures) (c .constant-else .ensures))
+    (λ c. with-null (sym (c .before .before .before .before .kind .ensures) ∙ c .before .before .if2 .taken) (behind-gives (c .before .behind-fields .ensures)) (c .constant-else .ensures))
     (λ c κs. let q = c .before .before .before .before .before .pre .0 in (omega arith, tt))
     (λ c. with-value (λ p. c .before .if2 .left (c .before .before .before .kind .ensures ∙ p)) (λ p. c .before .before .if1 .left (c .before .before .before .kind .ensures ∙ p)) (c .constant-branches .ensures)))

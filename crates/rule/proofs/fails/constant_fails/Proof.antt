@@ -4,6 +4,7 @@ use Rattle.rule.proofs.FailsLaws.{FailsLeft, fails-start, fails-found, 
 use Prim.Native.Nat.{_-_}
 use lib.ListN.{length}
 use native.Mathlib.Omega.{arith}
+use Rattle.rule.proofs.WalkLaws.{children-gives}
 use Rattle.rule.proofs.fails.constant_fails.Statement.{statement}
 use Rattle.rule.proofs.fails.constant_fails.Tie as tie
 
@@ -23,6 +24,6 @@ constant-fails-spec =
     (λ c κs. tt)
     (λ c. fails-found (c .before .before .before .loop .inv) (c .before .before .loop-test .taken) (c .before .fails-here .ensures) (c .if1 .taken))
     (λ c κs. tt)
-    (λ c. omega (arith, c .children-at .ensures .farther (c .before .before .before .loop-test .taken)))
-    (λ c. fails-next (c .before .before .before .before .loop .inv) (c .before .before .before .loop-test .taken) (c .before .before .fails-here .ensures) (c .before .if1 .left) (c .children-at .ensures))
+    (λ c. omega (arith, children-gives (c .children-at .ensures) .farther (c .before .before .before .loop-test .taken)))
+    (λ c. fails-next (c .before .before .before .before .loop .inv) (c .before .before .before .loop-test .taken) (c .before .before .fails-here .ensures) (c .before .if1 .left) (children-gives (c .children-at .ensures)))
     (λ c. fails-end (c .before .loop .inv) (c .loop-test .left)))

@@ -2,6 +2,7 @@
 use native.Mathlib.Omega.{arith}
 use Prim.Native.Nat.{_-_}
 use Rattle.rule.proofs.FailsLaws.{ColumnsLeft, columns-start, columns-found, columns-next, columns-end}
+use Rattle.rule.proofs.WalkLaws.{children-gives}
 use Rattle.rule.proofs.fails.names_column.Statement.{statement}
 use Rattle.rule.proofs.fails.names_column.Tie as tie
 
@@ -22,6 +23,6 @@ names-column-spec =
     (λ c. omega arith)
     (λ c. columns-found (c .before .before .before .loop .inv) (c .before .before .loop-test .taken) (c .if2 .taken))
     (λ c κs. tt)
-    (λ c. omega (arith, c .children-at .ensures .farther (omega arith)))
-    (λ c. columns-next (c .before .before .before .before .loop .inv) (c .before .before .before .loop-test .taken) (c .before .if2 .left) (c .children-at .ensures))
+    (λ c. omega (arith, children-gives (c .children-at .ensures) .farther (omega arith)))
+    (λ c. columns-next (c .before .before .before .before .loop .inv) (c .before .before .before .loop-test .taken) (c .before .if2 .left) (children-gives (c .children-at .ensures)))
     (λ c. columns-end (c .before .loop .inv) (c .loop-test .left)))

@@ -30,6 +30,7 @@ use Rattle.rule.proofs.walk.field_end.Reads as field-end-reads
 use Rattle.rule.proofs.nullable.+nullable_any+nullable_branch+nullable_branches+nullable_case+nullable_node.{
   statement,
 }
+use Rattle.rule.proofs.WalkLaws.{behind-gives, children-gives, end-gives}
 use Rattle.rule.proofs.nullable.+nullable_any+nullable_branch+nullable_branches+nullable_case+nullable_node.Tie.{
   close,
 }
@@ -125,9 +126,9 @@ pub +nullable-any+nullable-branch+nullable-branches+nullable-case+nullable-node-
     (λ c. any-start)
     (λ c κs. tt)
     (λ c κs. let q = c .before .before .before .before .before .pre .0 in (omega arith, tt))
-    (λ c. any-found (c .before .before .before .before .loop .inv) (c .before .before .before .loop-test .taken) (c .before .before .field-end .ensures) (c .before .nullable-node .ensures) (c .if2 .taken))
-    (λ c. omega (arith, c .before .before .field-end .ensures .farther (omega arith)))
-    (λ c. any-next (c .before .before .before .before .loop .inv) (c .before .before .before .loop-test .taken) (c .before .before .field-end .ensures) (c .before .nullable-node .ensures) (c .if2 .left))
+    (λ c. any-found (c .before .before .before .before .loop .inv) (c .before .before .before .loop-test .taken) (end-gives (c .before .before .field-end .ensures)) (c .before .nullable-node .ensures) (c .if2 .taken))
+    (λ c. omega (arith, end-gives (c .before .before .field-end .ensures) .farther (omega arith)))
+    (λ c. any-next (c .before .before .before .before .loop .inv) (c .before .before .before .loop-test .taken) (end-gives (c .before .before .field-end .ensures)) (c .before .nullable-node .ensures) (c .if2 .left))
     (λ c. any-end (c .before .loop .inv) (c .loop-test .left)))
     (λ t. nullable-branch-lts.spec (nullable-branch-calls t) (nullable-branch-at t) nullable-branch.Post
     (λ c κs. let q = c .before .pre .0 in (omega arith, tt))
@@ -140,10 +141,10 @@ pub +nullable-any+nullable-branch+nullable-branches+nullable-case+nullable-node-
     (λ c κs. tt)
     (λ c κs. tt)
     (λ c κs. let q = c .before .before .before .before .before .pre .0 in (omega arith, tt))
-    (λ c. thens-found (c .before .before .before .before .before .loop .inv) (c .before .before .before .before .loop-test .taken) (c .before .before .before .field-end .ensures) (c .before .before .field-end2 .ensures) (c .before .nullable-branch .ensures) (c .if1 .taken))
+    (λ c. thens-found (c .before .before .before .before .before .loop .inv) (c .before .before .before .before .loop-test .taken) (end-gives (c .before .before .before .field-end .ensures)) (end-gives (c .before .before .field-end2 .ensures)) (c .before .nullable-branch .ensures) (c .if1 .taken))
     (λ c. omega arith)
     (λ c. omega arith)
-    (λ c. thens-next (c .before .before .before .before .before .loop .inv) (c .before .before .before .before .loop-test .taken) (c .before .before .before .field-end .ensures) (c .before .before .field-end2 .ensures) (c .before .nullable-branch .ensures) (c .if1 .left))
+    (λ c. thens-next (c .before .before .before .before .before .loop .inv) (c .before .before .before .before .loop-test .taken) (end-gives (c .before .before .before .field-end .ensures)) (end-gives (c .before .before .field-end2 .ensures)) (c .before .nullable-branch .ensures) (c .if1 .left))
     (λ c. thens-absent (c .before .before .loop .inv) (c .before .loop-test .left) (c .if2 .taken))
     (λ c κs. let q = c .before .before .before .before .pre .0 in (omega arith, tt))
     (λ c. thens-else (c .before .before .before .loop .inv) (c .before .before .loop-test .left) (c .before .if2 .left) (c .nullable-node .ensures)))
@@ -157,7 +158,7 @@ pub +nullable-any+nullable-branch+nullable-branches+nullable-case+nullable-node-
     (λ c. omega arith)
     (λ c κs. tt)
     (λ c κs. let q = c .before .before .before .before .before .pre .0 in (omega arith, tt))
-    (λ c. case-nullable (c .before .before .before .byte-at .ensures) (c .before .before .byte-at2 .ensures) (c .before .behind-fields .ensures) (c .nullable-branches .ensures)))
+    (λ c. case-nullable (c .before .before .before .byte-at .ensures) (c .before .before .byte-at2 .ensures) (behind-gives (c .before .behind-fields .ensures)) (c .nullable-branches .ensures)))
     (λ t. nullable-node-lts.spec (nullable-node-calls t) (nullable-node-at t) nullable-node.Post
     (λ c. nullable-none (omega arith))
     (λ c. nullable-behind (c .if2 .taken))
@@ -176,4 +177,4 @@ pub +nullable-any+nullable-branch+nullable-branches+nullable-case+nullable-node-
     (λ c. nullable-isNotNull (c .match .keys3))
     (λ c. nullable-tryCast (c .match .keys4))
     (λ c. laws.nullable-case (omega arith) (c .before .match .keys5) (c .nullable-case .ensures))
-    (λ c. nullable-children (c .before .before .match .rest) (c .before .children-at .ensures) (c .nullable-any .ensures)))
+    (λ c. nullable-children (c .before .before .match .rest) (children-gives (c .before .children-at .ensures)) (c .nullable-any .ensures)))

@@ -7,6 +7,6 @@ pub else-there-spec : {M : Type 1} → statement M
 else-there-spec =
     tie.close
     (tie.spec
-    (λ c. there-none (c .if1 .taken))
+    (λ c. there-none _ (c .if1 .taken))
     (λ c κs. tt)
-    (λ c. there-some (c .before .if1 .left) (c .is-null-literal .ensures)))
+    (λ c. there-some _ (c .before .if1 .left) (c .is-null-literal .ensures)))

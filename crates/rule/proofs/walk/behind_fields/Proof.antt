@@ -1,11 +1,13 @@
--- `behind_fields` goes on field by field. The loop's invariant: as many trees as are left stand at the place, and behind them the rest; the measure is how many are left.
+-- `behind_fields` goes on field by field. The loop's invariant: what stands behind the fields that are left is the result; the measure is how many are left.
+use mathlib.Core.Path.{_≡_, refl, _∙_}
 use native.Mathlib.Omega.{arith}
-use Rattle.rule.proofs.WalkLaws.{Stepping, stepping-starts, stepping-goes, stepping-ends}
+use Rattle.rule.specs.Walked.{behindFields}
+use Rattle.rule.proofs.WalkLaws.{behind-next, behind-none}
 use Rattle.rule.proofs.walk.behind_fields.Statement.{statement}
 use Rattle.rule.proofs.walk.behind_fields.Tie as tie
 
 abbrev Inv-loop : tie.InvT-loop
-Inv-loop rule at count place₀ left₀ place left = Stepping rule at count place left
+Inv-loop rule at count place₀ left₀ place left = behindFields rule place left ≡ behindFields rule at count
 
 abbrev μ-loop : tie.MeasureT-loop
 μ-loop rule at count place₀ left₀ place left = left
@@ -16,9 +18,9 @@ behind-fields-spec =
     (tie.spec
     Inv-loop
     μ-loop
-    (λ c. stepping-starts (c .before .args .rule .now) (c .before .args .at) (c .before .args .count))
+    (λ c. refl)
     (λ c κs. tt)
     (λ c. omega arith)
     (λ c. omega arith)
-    (λ c. stepping-goes (c .before .before .loop .inv) (c .before .loop-test .taken) (c .field-end .ensures))
-    (λ c. stepping-ends (c .before .loop .inv) (c .loop-test .left)))
+    (λ c. behind-next _ _ (c .before .loop-test .taken) (c .field-end .ensures) ∙ c .before .before .loop .inv)
+    (λ c. behind-none _ (c .loop-test .left) ∙ c .before .loop .inv))

@@ -1,7 +1,7 @@
 -- `children_at` tells by the tag how many bytes a node has before its children.
 use native.Mathlib.Omega.{arith}
 use mathlib.Core.Path.{refl}
-use Rattle.rule.proofs.WalkLaws.{nothing-behind, children-leaf, children-head, children-plain, column-leaf, literal-leaf, cast-head, tryCast-head, case-head}
+use Rattle.rule.proofs.WalkLaws.{children-behind, children-told, children-plain}
 use borrow.Author.Needs.{needs}
 use Rattle.rule.proofs.walk.children_at.Statement.{statement}
 use Rattle.rule.proofs.walk.children_at.Tie as tie
@@ -10,7 +10,7 @@ pub children-at-spec : {M : Type 1} → statement M
 children-at-spec =
     tie.close
     (tie.spec
-    (λ c. record { stand = λ end e depth n. absurd (let k = nothing-behind n in omega arith); onward = omega arith; farther = λ k. absurd (omega arith) })
+    (λ c. children-behind _ (c .if1 .taken))
     (λ c. search needs)
     (λ c κs. search needs)
     (λ c κs. search needs)
@@ -18,9 +18,9 @@ children-at-spec =
     (λ c. search needs)
     (λ c. search needs)
     (λ c. search needs)
-    (λ c. children-leaf 16 (c .before .match .keys1) column-leaf (omega arith) (c .field-end .ensures))
-    (λ c. children-leaf 17 (c .before .match .keys2) literal-leaf (omega arith) (c .field-end2 .ensures))
-    (λ c. children-head 21 1 (c .match .keys3) cast-head (omega arith))
-    (λ c. children-head 22 1 (c .match .keys4) tryCast-head (omega arith))
-    (λ c. children-head 25 2 (c .match .keys5) case-head (omega arith))
-    (λ c. children-plain (c .match .rest) refl))
+    (λ c. children-told _ 16 (omega arith) (c .before .match .keys1) (c .field-end .ensures))
+    (λ c. children-told _ 17 (omega arith) (c .before .match .keys2) (c .field-end2 .ensures))
+    (λ c. children-told _ 21 (omega arith) (c .match .keys3) (omega arith))
+    (λ c. children-told _ 22 (omega arith) (c .match .keys4) (omega arith))
+    (λ c. children-told _ 25 (omega arith) (c .match .keys5) (omega arith))
+    (λ c. children-plain _ (omega arith) refl (c .match .rest)))
