@@ -5,6 +5,7 @@ use Prim.Native.Nat.{ℕ}
 use Rattle.layout.specs.Result.{Result, refused, ok}
 use Rattle.case.specs.Run.{run}
 
+-- a case: rule bytes, table bytes, and what a run gives (01, A listing: proved cases)
 pub record Case : Type 0 where
   pub rule : List ℕ
   pub table : List ℕ
@@ -149,6 +150,7 @@ p10 =
       expected = ok (0x02 ∷ 0x02 ∷ 0x00 ∷ 0x02 ∷ 0x00 ∷ 0x03 ∷ 0x00 ∷ 0x00 ∷ 0x04 ∷ 0x04 ∷ 0x00 ∷ 0x05 ∷ 0x00 ∷ 0x00 ∷ 0x00 ∷ []);
     }
 
+-- P1 to P10 in turn (01, A listing: proved cases)
 abbrev pub provedCases : List Case
 provedCases = p1 ∷ p2 ∷ p3 ∷ p4 ∷ p5-fits ∷ p5-fails ∷ p6 ∷ p7 ∷ p8 ∷ p9 ∷ p10 ∷ []
 

@@ -25,10 +25,12 @@ abbrev pub leaving : (Outcome → Bool) → ℕ → ℕ → Outcome → ℕ
 leaving passes index failed unfit = failed
 leaving passes index failed (entry v) = cond (passes (entry v)) index 0
 
+-- an outcome that is null
 abbrev pub nullOutcome : Outcome → Bool
 nullOutcome (entry v) = isNull v
 nullOutcome unfit = false
 
+-- an outcome that is true
 abbrev pub trueOutcome : Outcome → Bool
 trueOutcome (entry v) = isTrue v
 trueOutcome unfit = false

@@ -93,6 +93,7 @@ compares (equal a b) = true
 compares (less a b) = true
 compares (caseWhen b bs e) = false
 
+-- of a comparison,
 pub record BinaryRight (rule : List ℕ) (start : ℕ) (end : ℕ) (table : List ℕ) (t : Table) (depth : ℕ) (r : ℕ) (v : Value) : Type 0 where
   pub is : (e : Expr) → NodeAt rule start end e (depth + 1) → compares e ≡ true → meaning rule table v ≡ eval e (rowIn table t r)
 
@@ -109,21 +110,27 @@ pub record CaseRight (served : Optional → Branches → Optional → Type 0) (r
 abbrev pub anyCase : Optional → Branches → Optional → Type 0
 anyCase b bs els = Unit {0}
 
+-- one without a base
 abbrev pub withoutBaseCase : Optional → Branches → Optional → Type 0
 withoutBaseCase b bs els = b ≡ absent
 
+-- one with a base
 abbrev pub withBaseCase : Optional → Branches → Optional → Type 0
 withBaseCase b bs els = (x : Expr) × (b ≡ present x)
 
+-- one branch, THEN a column, no ELSE
 abbrev pub columnCase : Optional → Branches → Optional → Type 0
 columnCase b bs els = (w : Expr) × (t : Expr) × (b ≡ absent) × (bs ≡ branch w t noMore) × (isColumn t ≡ true) × (dropNull els ≡ absent)
 
+-- one branch, THEN and ELSE literals
 abbrev pub scalarCase : Optional → Branches → Optional → Type 0
 scalarCase b bs els = (w : Expr) × (t : Expr) × (e : Expr) × (b ≡ absent) × (bs ≡ branch w t noMore) × (isLiteral t ≡ true) × (els ≡ present e) × (isLiteral e ≡ true)
 
+-- one branch without a base
 abbrev pub singleCase : Optional → Branches → Optional → Type 0
 singleCase b bs els = (w : Expr) × (t : Expr) × (b ≡ absent) × (bs ≡ branch w t noMore)
 
+-- a base, and branches and an ELSE that a lookup table serves
 abbrev pub tableCase : Optional → Branches → Optional → Type 0
 tableCase b bs els = (x : Expr) × (b ≡ present x) × (tableServes bs (dropNull els) ≡ true)
 
@@ -148,6 +155,7 @@ TestFor TrueWhen base test = test ≡ isTrueTest
 TestFor EqualWhen base test = (b : Entry) × (base ≡ entry b) × (test ≡ equalsTest b)
 TestFor Rest base test = ⊥
 
+-- an outcome passes the test of a WHEN
 abbrev pub passesTest : Test → Outcome → Bool
 passesTest test (entry v) = passes test v
 passesTest test unfit = false

@@ -17,6 +17,7 @@ abbrev pub columnFits : Column → Option TableColumn → Bool
 columnFits c none = false
 columnFits c (some d) = sameType (c .type) (d .type) && (c .nullable || not (d .nullable))
 
+-- every column named fits (01, Where a call stops: 13)
 unfoldable pub columnsFit : List Column → List TableColumn → Bool
 columnsFit [] columns = true
 columnsFit (c ∷ cs) columns = columnFits c (getElem? columns (c .index)) && columnsFit cs columns

@@ -47,6 +47,7 @@ entryHint (int64 n) = 0
 entryHint (float64 n) = 0
 entryHint (utf8 t) = textHint t
 
+-- of an outcome that is a text; 0 of any other
 abbrev pub outcomeHint : Outcome → ℕ
 outcomeHint (entry e) = entryHint e
 outcomeHint unfit = 0

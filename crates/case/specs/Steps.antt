@@ -125,10 +125,11 @@ pub record KeysAt (kind : DataType) (values : List ℕ) (rows : ℕ) (keys : Lis
 abbrev pub numberMost : ℕ
 numberMost = 18446744073709551615
 
--- the least and the greatest number that pass a step; where none does, the least is above the greatest
+-- the least number that passes a step; where none does, it is above the greatest
 abbrev pub stepLow : ℕ → ℕ → ℕ
 stepLow tag key = cond (eqb tag 24) (cond (eqb key 0) 1 0) (cond (eqb tag 26) (cond (ltb key numberMost) (key + 1) 1) key)
 
+-- the greatest number that passes a step
 abbrev pub stepHigh : ℕ → ℕ → ℕ
 stepHigh tag key = cond (eqb tag 24) (cond (eqb key 0) 0 (key - 1)) (cond (eqb tag 26) (cond (ltb key numberMost) numberMost 0) key)
 

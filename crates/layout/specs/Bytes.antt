@@ -29,10 +29,11 @@ unfoldable pub numberBytes : ℕ → ℕ → List ℕ
 numberBytes zero n = []
 numberBytes (suc k) n = n % 256 ∷ numberBytes k (n / 256)
 
--- byte and bit position of a row in a bitmap, lowest bit first (01, Bytes of a table)
+-- byte position of a row in a bitmap, lowest bit first (01, Bytes of a table)
 abbrev pub byteOfRow : ℕ → ℕ
 byteOfRow i = i / 8
 
+-- bit position of a row in its byte (01, Bytes of a table)
 abbrev pub bitOfRow : ℕ → ℕ
 bitOfRow i = i % 8
 

@@ -7,6 +7,7 @@ use lib.ListN.{length, take, drop}
 use Rattle.layout.specs.Bytes.{byte, number, numberAt, numberBytes}
 use Rattle.layout.specs.Result.{Result, refused, ok}
 
+-- a field: its tag, its content, and the bytes behind it (01, Bytes of a rule)
 pub record Field : Type 0 where
   pub tag : ℕ
   pub content : List ℕ

@@ -12,6 +12,7 @@ use Rattle.layout.specs.Field.{Field, header}
 abbrev pub placed : ℕ → Field → FieldPlace
 placed at f = record { tag = f .tag; start = at + 3; end = at + 3 + length (f .content) }
 
+-- the answer of a header that was read, or that the field is cut
 abbrev pub headerOf : ℕ → Result Field → Header
 headerOf at (refused n) = Cut
 headerOf at (ok f) = Found (placed at f)

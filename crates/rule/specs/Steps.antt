@@ -84,6 +84,7 @@ pub record TreeRead (r : RuleFound) (x : Read Expr) : Type 0 where
   pub type-is : r .result ≡ typeOf (x .tree)
   pub seen-are : SeenIs (x .seen) (r .seen)
 
+-- the number of a refusal, or 0 and the tree
 abbrev pub TreeGives : Result (Read Expr) → RuleFound → Type 0
 TreeGives definition r = Gives (TreeRead r) definition (r .refused)
 
@@ -96,6 +97,7 @@ pub record RuleRead (r : RuleFound) (e : Expr) : Type 0 where
   pub type-is : r .result ≡ typeOf e
   pub seen-are : ColumnsMet (r .seen) e
 
+-- the number of a refusal, or 0 and the rule
 abbrev pub RuleGives : Result Expr → RuleFound → Type 0
 RuleGives definition r = Gives (RuleRead r) definition (r .refused)
 

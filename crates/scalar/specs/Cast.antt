@@ -49,6 +49,7 @@ toInt32 (int64 n) = narrowed n
 toInt32 (float64 n) = unfit
 toInt32 (utf8 t) = unfit
 
+-- Boolean to integer is 1 or 0, Int32 to Int64 the same number
 abbrev pub toInt64 : Entry → Outcome
 toInt64 null = entry null
 toInt64 (boolean b) = entry (int64 (cond b 1 0))
@@ -57,6 +58,7 @@ toInt64 (int64 n) = entry (int64 n)
 toInt64 (float64 n) = unfit
 toInt64 (utf8 t) = unfit
 
+-- Int32 to Float64 is the same number
 abbrev pub toFloat64 : Entry → Outcome
 toFloat64 null = entry null
 toFloat64 (boolean b) = unfit
@@ -65,6 +67,7 @@ toFloat64 (int64 n) = unfit
 toFloat64 (float64 n) = entry (float64 n)
 toFloat64 (utf8 t) = unfit
 
+-- text is cast to text alone
 abbrev pub toUtf8 : Entry → Outcome
 toUtf8 null = entry null
 toUtf8 (boolean b) = unfit

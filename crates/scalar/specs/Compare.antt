@@ -18,9 +18,11 @@ equalPair (int64s x y) = boolean (eqb x y)
 equalPair (float64s x y) = boolean (eqb x y)
 equalPair (texts x y) = boolean (sameBytes x y)
 
+-- equal: null if either side is null (01, One row)
 abbrev pub equalEntry : Entry → Entry → Entry
 equalEntry a b = equalPair (pairOf a b)
 
+-- less of two of one type; it is null at anything else
 abbrev pub lessPair : Pair → Entry
 lessPair bothNull = null
 lessPair oneNull = null
@@ -31,5 +33,6 @@ lessPair (int64s x y) = boolean (signedLess 63 x y)
 lessPair (float64s x y) = boolean (totalLess 63 x y)
 lessPair (texts x y) = boolean (textLess x y)
 
+-- less: null if either side is null (01, One row)
 abbrev pub lessEntry : Entry → Entry → Entry
 lessEntry a b = lessPair (pairOf a b)

@@ -20,6 +20,7 @@ pub data Outcome : Type 0 where
   entry : Entry → Outcome
   unfit : Outcome
 
+-- an entry that is null
 abbrev pub isNull : Entry → Bool
 isNull null = true
 isNull (boolean b) = false
@@ -42,6 +43,7 @@ abbrev pub onEntry : (Entry → Outcome) → Outcome → Outcome
 onEntry f (entry e) = f e
 onEntry f unfit = unfit
 
+-- an operation on two entries, on outcomes: a path that has ended stays so
 abbrev pub onEntries : (Entry → Entry → Entry) → Outcome → Outcome → Outcome
 onEntries f (entry a) (entry b) = entry (f a b)
 onEntries f (entry a) unfit = unfit

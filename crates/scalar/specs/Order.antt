@@ -24,6 +24,7 @@ use Rattle.scalar.specs.Compare.{equalPair, lessPair}
 abbrev pub orderBy : Entry → Entry → Order
 orderBy equals lessThan = cond (isTrue equals) Equal (cond (isTrue lessThan) Less Greater)
 
+-- the order of two entries: null where either is null, none between two types
 abbrev pub orderOfPair : Pair → Order
 orderOfPair bothNull = SomeNull
 orderOfPair oneNull = SomeNull
@@ -95,9 +96,11 @@ textIn rule table (RuleText start size) = placeText rule start size
 textIn rule table (TableText start size) = placeText table start size
 textIn rule table Failed = []
 
+-- the order of two texts
 abbrev pub textOrder : List ℕ → List ℕ → Order
 textOrder s t = cond (sameBytes s t) Equal (cond (textLess s t) Less Greater)
 
+-- the order of two numbers
 abbrev pub numberOrder : ℕ → ℕ → Order
 numberOrder x y = cond (eqb x y) Equal (cond (ltb x y) Less Greater)
 

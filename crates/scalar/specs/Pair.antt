@@ -6,12 +6,14 @@ use lib.Dec.{eqb}
 use Rattle.scalar.specs.Entry.{Entry, null, boolean, int32, int64, float64, utf8}
 use Rattle.scalar.specs.Text.{sameBytes}
 
+-- two entries: of which both or one is null, of two types, or both of one type
 pub data Pair : Type 0 where
   bothNull oneNull unlike : Pair
   booleans : Bool → Bool → Pair
   int32s int64s float64s : ℕ → ℕ → Pair
   texts : List ℕ → List ℕ → Pair
 
+-- two entries side by side
 unfoldable pub pairOf : Entry → Entry → Pair
 pairOf null null = bothNull
 pairOf null (boolean y) = oneNull
@@ -61,5 +63,6 @@ agreePair (int64s x y) = eqb x y
 agreePair (float64s x y) = eqb x y
 agreePair (texts x y) = sameBytes x y
 
+-- two entries agree (01, One row)
 abbrev pub agree : Entry → Entry → Bool
 agree a b = agreePair (pairOf a b)

@@ -17,6 +17,7 @@ typeNumber Int64 = 3
 typeNumber Float64 = 4
 typeNumber Utf8 = 5
 
+-- two types are the same
 abbrev pub sameType : DataType → DataType → Bool
 sameType a b = eqb (typeNumber a) (typeNumber b)
 
@@ -45,5 +46,6 @@ markNumbered n zero = ok false
 markNumbered n (suc zero) = ok true
 markNumbered n (suc (suc k)) = refused n
 
+-- the number of a mark
 abbrev pub markNumber : Bool → ℕ
 markNumber b = cond b 1 0

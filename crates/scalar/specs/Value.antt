@@ -47,6 +47,7 @@ kindOf Failed = 7
 abbrev pub placePayload : ℕ → ℕ → ℕ
 placePayload start size = start % 2 ^ 32 + size % 2 ^ 32 * 2 ^ 32
 
+-- the payload of a value, 64 bits
 abbrev pub payloadOf : Value → ℕ
 payloadOf Null = 0
 payloadOf (Boolean b) = markNumber b

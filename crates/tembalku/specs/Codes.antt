@@ -47,10 +47,12 @@ projectionCode (ok e) = 256 + length (projection e)
 abbrev pub atFront : List ℕ → List ℕ → List ℕ
 atFront l buffer = cond (leb (length l) (length buffer)) (l ++ drop (length l) buffer) buffer
 
+-- the columns at the front of the buffer, which a refusal leaves untouched
 abbrev pub columnsAfter : Result Expr → List ℕ → List ℕ
 columnsAfter (refused n) columns = columns
 columnsAfter (ok e) columns = atFront (projection e) columns
 
+-- the number and the final state of the buffer
 pub record Projected (rule columns : List ℕ) (r : ℕ) (columns′ : List ℕ) : Type 0 where
   pub says : r ≡ projectionCode (readRule rule)
   pub columns-are : columns′ ≡ columnsAfter (readRule rule) columns
