@@ -1,5 +1,6 @@
 -- The laws of `table`.
 pub mod TableInversions
+pub mod StandLaws
 pub mod TableTyped
 pub mod OffsetLaws
 pub mod PartsLaws
