@@ -23,7 +23,7 @@ use Rattle.table.specs.Reading.{Part, taggedPair, readValidity, readOffs
 use Rattle.table.specs.Places.{columnIn, Inside, noPlace, offsetsStart}
 use Rattle.table.specs.Parts.{partMeans, fieldMeans, FieldGives, PartGives, PartInside, refusedColumn, columnAnswer, valuesOfLength, valuesStep, offsetsStep, validityStep, headStep}
 use Rattle.table.proofs.PartsLaws.{behind-refused, behind-field, inside-length, field-inside}
-use Rattle.table.proofs.StandLaws.{Stands, stands-at, pair-stands, validity-stands, offsets-stand, values-stand, column-stands}
+use Rattle.table.proofs.StandLaws.{stands-at, pair-stands, validity-stands, offsets-stand, values-stand, column-stands}
 use Rattle.table.proofs.RefusalLaws.{Refusals, parts-numbered}
 
 -- ---- a refusal

@@ -7,6 +7,8 @@ pub mod PartsLaws
 pub mod ColumnLaws
 pub mod AloneLaws
 pub mod ReadLaws
+pub mod ReadBack
+pub mod WholeBytes
 pub mod PlaceLaws
 pub mod EntryLaws
 pub mod RefusalLaws

@@ -4,10 +4,10 @@ use mathlib.Core.Bool.{Bool, true, false, _&&_}
 use mathlib.Core.List.{List, [], _∷_, _++_, append-nil, append-assoc}
 use Prim.Native.Nat.{ℕ, zero, suc, _+_, _-_, _<_, _≤_}
 use native.Mathlib.Omega.{arith}
-use lib.Dec.{eqb, leb, ltb}
+use lib.Dec.{leb, ltb}
 use lib.ListN.{length, drop, set, replicate, length-append, length-drop}
 use lib.Seq.{take-all, set-at}
-use borrow.Author.Tests.{eqb-true, le-leb, lt-leb, lt-ltb, le-ltb}
+use borrow.Author.Tests.{le-leb, lt-leb, lt-ltb, le-ltb}
 use Rattle.layout.specs.Result.{Result, refused, ok, _>>=_, require}
 use Rattle.layout.specs.Bytes.{number, numberAt, part}
 use Rattle.layout.specs.Field.{Field}
@@ -64,7 +64,7 @@ columns-over rows [] h = absurd (omega arith)
 columns-over rows (b ∷ l) h = refl
 
 -- a column and the columns behind it
-columns-next : (rows left : ℕ) (l : List ℕ) → 0 < length l
+pub columns-next : (rows left : ℕ) (l : List ℕ) → 0 < length l
     → readColumns rows (suc left) l ≡ (readColumn rows l >>= λ c. readColumns rows left (c .rest) >>= λ cs. ok (c .part ∷ cs))
 unfolding readColumns
 columns-next rows left [] h = absurd (omega arith)

@@ -13,8 +13,8 @@ use Rattle.layout.proofs.ResultLaws.{refused-not-ok}
 use Rattle.scalar.specs.declared.types.DataType.{DataType}
 use Rattle.scalar.specs.declared.types.DataType.the-variants.{Boolean, Int32, Int64, Float64, Utf8}
 use Rattle.scalar.specs.Types.{typeNumbered, markNumbered}
-use Rattle.table.specs.Column.{TableColumn, offsetAt}
-use Rattle.table.specs.Reading.{Part, tagged, taggedPair, readValidity, neverFalls, readTextOffsets, readOffsets, valuesLength, readValues, readBody, readParts, noNull, readColumn, readColumns, bytesMost, rowsMost, columnsMost, readTable, readAlone}
+use Rattle.table.specs.Column.{offsetAt}
+use Rattle.table.specs.Reading.{tagged, taggedPair, readValidity, neverFalls, readTextOffsets, readOffsets, valuesLength, readValues, readBody, readParts, noNull, readColumn, readColumns, bytesMost, rowsMost, columnsMost, readTable, readAlone}
 
 -- the number of every refusal of a reading is such
 pub record Refusals {A : Type 0} (P : ℕ → Type 0) (m : Result A) : Type 0 where

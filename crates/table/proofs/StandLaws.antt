@@ -21,12 +21,11 @@ use Rattle.layout.proofs.PartLaws.{length-part}
 use Rattle.scalar.specs.declared.types.DataType.{DataType}
 use Rattle.scalar.specs.declared.types.DataType.the-variants.{Boolean, Int32, Int64, Float64, Utf8}
 use Rattle.scalar.specs.Types.{typeNumbered, markNumbered}
-use Rattle.table.specs.declared.places.ColumnPlace.{ColumnPlace}
 use Rattle.table.specs.declared.places.TableAnswer.{TableAnswer}
 use Rattle.table.specs.declared.places.PlaceAnswer.{PlaceAnswer}
 use Rattle.table.specs.Column.{TableColumn, offsetAt}
 use Rattle.table.specs.Reading.{Part, tagged, taggedPair, readValidity, neverFalls, readTextOffsets, readOffsets, valuesLength, readValues, readBody, readParts, noNull, readColumn, readColumns, rowsMost, columnsMost, Table, readTable, readAlone}
-use Rattle.table.specs.Places.{columnIn, readingIn, placeIn, Inside, ColumnInside, noPlace, offsetsStart, offsetsEnd, valuesEnd, placeBehind, placeFrom, columnEnd, placesFrom, placesIn16, tableAnswerFrom, tableAnswer, aloneAnswer, TableRead, AloneRead}
+use Rattle.table.specs.Places.{columnIn, Inside, ColumnInside, noPlace, offsetsStart, valuesEnd, placeBehind, placeFrom, columnEnd, placesFrom, tableAnswerFrom, tableAnswer, aloneAnswer, TableRead, AloneRead}
 use Rattle.table.proofs.TableInversions.{table-inv}
 use Rattle.table.proofs.RefusalLaws.{table-numbered, alone-numbered}
 
@@ -210,7 +209,7 @@ length-places at (c ∷ cs) = ap suc (length-places (columnEnd at c) cs)
 -- ---- a table
 
 -- an accepted table stands behind its tag 1
-table-stands : (bytes : List ℕ) (t : Table) → readTable bytes ≡ ok t → FewStand bytes 5 16 (t .columns)
+pub table-stands : (bytes : List ℕ) (t : Table) → readTable bytes ≡ ok t → FewStand bytes 5 16 (t .columns)
 table-stands bytes t p =
     let i = table-inv bytes t p in
     columns-stand _ columnsMost bytes 5 (i .first .rest) (t .columns) (sym (pair-rest bytes 0 1 (i .first) (i .first-reads))) (i .columns-read)

@@ -4,3 +4,4 @@ pub mod Reading
 pub mod Places
 pub mod Answers
 pub mod Parts
+pub mod TableBytes

@@ -1,8 +1,10 @@
 -- `put_row` writes the line where it fits.
+use native.Mathlib.Omega.{arith}
 use borrow.Author.Needs.{needs}
 use denote.Ref.{now}
 use Rattle.table.specs.Column.{entryAt}
 use Rattle.table.specs.Places.{columnIn}
+use Rattle.table.proofs.EntryLaws.{entry-in-gives}
 use Rattle.listing.specs.Putting.{shownBytes}
 use Rattle.listing.proofs.LineLaws.{row-cut, number-room, row-room, row-full, row-put}
 use Rattle.listing.proofs.line.put_row.Statement.{statement}
@@ -22,7 +24,7 @@ put-row-spec =
     (λ c. search needs)
     (λ c. number-room (c .before .before .before .before .before .before .before .args .at) (c .before .before .before .before .decimal-places .result) _ (c .before .before .before .room .ensures) (c .before .before .if1 .left) .1)
     (λ c κs. search needs)
-    (λ c. row-full (c .before .before .before .entry-in .ensures) (c .before .before .show .ensures) (c .before .before .before .before .before .before .before .before .before .args .row) (c .before .before .before .before .before .before .decimal-places .ensures .0) (c .before .before .before .before .before .room .ensures) (c .before .before .before .before .if1 .left) (c .before .shown-fits .ensures) (c .if2 .taken))
+    (λ c. row-full (entry-in-gives (now (c .before .before .before .before .before .before .before .before .before .args .bytes)) (λ i. omega (arith, c .before .before .before .before .before .before .before .before .shared-slice-known .given i)) (c .before .before .before .before .before .before .before .before .before .args .place) (c .before .before .before .before .before .before .before .before .before .args .row) (c .before .before .before .entry-in .ensures)) (c .before .before .show .ensures) (c .before .before .before .before .before .before .before .before .before .args .row) (c .before .before .before .before .before .before .decimal-places .ensures .0) (c .before .before .before .before .before .room .ensures) (c .before .before .before .before .if1 .left) (c .before .shown-fits .ensures) (c .if2 .taken))
     (λ c κs. row-room (c .before .before .before .before .before .before .before .before .before .before .args .row) (shownBytes (now (c .before .before .before .before .before .before .before .before .before .before .args .bytes)) (c .before .before .before .show .result)) (c .before .before .before .before .before .before .before .before .before .before .args .at) (c .before .before .before .before .before .before .before .decimal-places .result) _ (c .before .before .before .before .before .before .before .decimal-places .ensures .0) (c .before .before .before .before .before .before .room .ensures) (c .before .before .before .before .before .if1 .left) (c .before .before .shown-fits .ensures) (c .before .if2 .left))
     (λ c. search needs)
-    (λ c. row-put (c .before .before .before .before .before .before .before .entry-in .ensures) (c .before .before .before .before .before .before .show .ensures) (c .before .before .before .before .before .before .before .before .before .before .before .before .before .args .row) (c .before .before .write-row .ensures)))
+    (λ c. row-put (entry-in-gives (now (c .before .before .before .before .before .before .before .before .before .before .before .before .before .args .bytes)) (λ i. omega (arith, c .before .before .before .before .before .before .before .before .before .before .before .before .shared-slice-known .given i)) (c .before .before .before .before .before .before .before .before .before .before .before .before .before .args .place) (c .before .before .before .before .before .before .before .before .before .before .before .before .before .args .row) (c .before .before .before .before .before .before .before .entry-in .ensures)) (c .before .before .before .before .before .before .show .ensures) (c .before .before .before .before .before .before .before .before .before .before .before .before .before .args .row) (c .before .before .write-row .ensures)))
