@@ -29,7 +29,8 @@ use Rattle.table.proofs.TableInversions.{table-inv, table-few}
 use Rattle.table.proofs.RefusalLaws.{table-refusals}
 use Rattle.writer.specs.declared.RunAnswer.{RunAnswer}
 use Rattle.writer.specs.declared.RunAnswer.the-variants.{Refused}
-use Rattle.writer.specs.Answer.{columnOf, columnBytes, textLength}
+use Rattle.table.specs.TableBytes.{columnBytes}
+use Rattle.writer.specs.Answer.{columnOf, textLength}
 use Rattle.writer.specs.Written.{rowsFrom, entriesOf, textMost, writtenAs, runAnswer, zeros, outputAfter}
 use Rattle.writer.specs.Write.{rowOutcomes, rowsRun, RunGives, WriteGives, WriteAsks, slotsRun, classValue, classesRun}
 use Rattle.writer.proofs.FitLaws.{gives-rows, typed-fits, asks-write, asks-classed}
