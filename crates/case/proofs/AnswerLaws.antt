@@ -1,12 +1,13 @@
 -- The answer's column has the entries that it was made of, and its bytes are read as that column. Assumes nothing.
 use mathlib.Core.Path.{_≡_, refl, ap, sym, _∙_}
-use mathlib.Core.Bool.{Bool, true, false, cond, not, _&&_, _||_, or-true, false≢true}
-use mathlib.Core.List.{List, [], _∷_, _++_, map, append-nil, append-assoc}
+use mathlib.Core.Bool.{Bool, true, false, cond, not, _&&_, _||_, false≢true}
+use mathlib.Core.List.{List, [], _∷_, _++_, map, append-nil}
+use mathlib.Core.Logic.{_⊎_, inl, inr}
 use Prim.Native.Nat.{ℕ, zero, suc, _+_, _-_, _*_, _^_, _<_, _≤_}
 use native.Mathlib.Nat.{mul-zero, one-le-pow}
 use native.Mathlib.Omega.{arith}
-use borrow.Author.Tests.{ltb-true, le-leb, eq-eqb}
-use lib.Dec.{eqb, ltb, leb}
+use borrow.Author.Tests.{ltb-true, le-leb}
+use lib.Dec.{ltb, leb}
 use lib.ListN.{length, getD, take, drop, length-append, length-map, List·getD-map}
 use lib.Seq.{take-length, take-at, drop-at, drop-drop, drop-append-add}
 use Rattle.layout.specs.Result.{Result, ok, _>>=_, require}
@@ -15,14 +16,15 @@ use Rattle.layout.specs.Field.{fieldBytes}
 use Rattle.layout.proofs.ResultLaws.{refused-not-ok, ok-injective}
 use Rattle.layout.proofs.BytesLaws.{length-numberBytes, number-numberBytes}
 use Rattle.layout.proofs.BitLaws.{bit-of-bitmap, length-bitmap}
-use Rattle.layout.proofs.FieldLaws.{header-field}
 use Rattle.scalar.specs.declared.types.DataType.{DataType}
 use Rattle.scalar.specs.declared.types.DataType.the-variants.{Boolean, Int32, Int64, Float64, Utf8}
-use Rattle.scalar.specs.Types.{typeNumber, typeNumbered, markNumber, markNumbered}
 use Rattle.scalar.specs.Entry.{Entry, null, boolean, int32, int64, float64, utf8, isNull, isTrue, ofType}
 use Rattle.table.specs.Column.{TableColumn, validIn, offsetAt, textBetween, valueAt, entryAt}
-use Rattle.table.specs.Reading.{tagged, taggedPair, readValidity, neverFalls, readTextOffsets, readOffsets, valuesLength, readValues, readBody, readParts, noNull, readColumn, readColumns, Table, bytesMost, rowsMost, readTable}
-use Rattle.writer.specs.Answer.{someNull, validityOf, numberIn, textIn, numbersOf, textsOf, offsetsFrom, offsetsOf, valuesOf, columnOf, offsetsField, columnBytes, textLength}
+use Rattle.table.specs.Reading.{neverFalls, valuesLength, readParts, noNull, readColumn, readColumns, Table, bytesMost, rowsMost, readTable}
+use Rattle.table.specs.TableBytes.{columnBytes, OffsetsWithin}
+use Rattle.table.proofs.ReadLaws.{columns-next}
+use Rattle.table.proofs.ReadBack.{pair-back, parts-back}
+use Rattle.writer.specs.Answer.{someNull, validityOf, numberIn, textIn, numbersOf, textsOf, offsetsFrom, offsetsOf, valuesOf, columnOf, textLength}
 
 -- numbers of k bytes, one behind the other
 abbrev packed : ℕ → List ℕ → List ℕ
@@ -227,32 +229,13 @@ entry-back t n es a k i h =
     let w = kept-whole t (getD es i null) (a i) in
     rw (valid-at es i h, value-at t es i h k (w .1)) (w .0)
 
--- a field's bytes are read as that field
-tagged-back : (tag : ℕ) (content rest : List ℕ) → length content < 65536
-    → tagged tag (fieldBytes tag content ++ rest) ≡ ok (record { tag = tag; content = content; rest = rest })
-unfolding tagged
-tagged-back tag content rest h = rw (header-field 9 tag content rest h, eq-eqb tag tag refl)
-
--- a field of two bytes
-pair-back : (tag : ℕ) (content rest : List ℕ) → length content ≡ 2
-    → taggedPair tag (fieldBytes tag content ++ rest) ≡ ok (record { tag = tag; content = content; rest = rest })
-unfolding taggedPair
-pair-back tag content rest h = rw (tagged-back tag content rest (omega arith), h)
-
--- tag 3 is read back
-validity-back : (es : List Entry) (rest : List ℕ) → length es ≤ 512
-    → readValidity (length es) (fieldBytes 3 (validityOf es) ++ rest) ≡ ok (record { part = validityOf es; rest = rest })
-unfolding readValidity
-validity-back es rest h = go (someNull es)
+-- tag 3 is empty or has a bit for each row
+length-validity : (es : List Entry) → (length (validityOf es) ≡ 0) ⊎ (length (validityOf es) ≡ bitmapLength (length es))
+length-validity es = go (someNull es)
   where
-    bits : List ℕ
-    bits = bitmap (map isValid es)
-
-    go : (b : Bool) → readValidity (length es) (fieldBytes 3 (cond b bits []) ++ rest) ≡ ok (record { part = cond b bits []; rest = rest })
-    go false = rw (tagged-back 3 [] rest (omega arith))
-    go true =
-        let l = length-bits isValid es in
-        rw (tagged-back 3 bits rest (omega arith), eq-eqb _ _ l, or-true (eqb (length bits) 0))
+    go : (b : Bool) → (length (cond b (bitmap (map isValid es)) []) ≡ 0) ⊎ (length (cond b (bitmap (map isValid es)) []) ≡ bitmapLength (length es))
+    go false = inl refl
+    go true = inr (length-bits isValid es)
 
 -- behind the first offset
 offsets-drop : (from : ℕ) (e : Entry) (es : List Entry) → drop 4 (offsetsFrom from (e ∷ es)) ≡ offsetsFrom (from + length (textIn e)) es
@@ -273,18 +256,14 @@ never-falls from (e ∷ es) h =
 length-offsets : (from : ℕ) (es : List Entry) → length (offsetsFrom from es) ≡ 4 * suc (length es)
 length-offsets from es = rw (offsets-packed from es, length-packed 4 (ends from es), length-ends from es)
 
--- tag 5 is read back
-offsets-back : (t : DataType) (es : List Entry) (rest : List ℕ) → length es ≤ 512 → textLength es ≤ 65535
-    → readOffsets t (length es) (offsetsField t (offsetsOf t es) ++ rest) ≡ ok (record { part = offsetsOf t es; rest = rest })
-unfolding readTextOffsets textsOf
-offsets-back Boolean es rest h k = refl
-offsets-back Int32 es rest h k = refl
-offsets-back Int64 es rest h k = refl
-offsets-back Float64 es rest h k = refl
-offsets-back Utf8 es rest h k =
-    let l = length-offsets 0 es in
-    let z = offset-from-start es 0 (omega arith) (omega arith) in
-    rw (tagged-back 5 (offsetsFrom 0 es) rest (omega arith), eq-eqb _ _ l, eq-eqb (offsetAt (offsetsFrom 0 es) 0) 0 z, never-falls 0 es (omega arith))
+-- tag 5 is within its limits
+offsets-within : (t : DataType) (es : List Entry) → textLength es ≤ 65535 → OffsetsWithin t (length es) (offsetsOf t es)
+unfolding textsOf
+offsets-within Boolean es k = refl
+offsets-within Int32 es k = refl
+offsets-within Int64 es k = refl
+offsets-within Float64 es k = refl
+offsets-within Utf8 es k = record { size = length-offsets 0 es; first = offset-from-start es 0 (omega arith) (omega arith); rising = never-falls 0 es (omega arith) }
 
 -- k bytes a row
 length-numbers : (k : ℕ) (es : List Entry) → length (numbersOf k es) ≡ k * length es
@@ -306,47 +285,12 @@ values-short Int64 es h k = let l = length-values Int64 es k in omega arith
 values-short Float64 es h k = let l = length-values Float64 es k in omega arith
 values-short Utf8 es h k = omega arith
 
--- tag 4 is read back
-values-back : (t : DataType) (es : List Entry) (rest : List ℕ) → length es ≤ 512 → textLength es ≤ 65535
-    → readValues t (length es) (offsetsOf t es) (fieldBytes 4 (valuesOf t es) ++ rest) ≡ ok (record { part = valuesOf t es; rest = rest })
-unfolding readValues
-values-back t es rest h k = rw (tagged-back 4 (valuesOf t es) rest (values-short t es h k), eq-eqb _ _ (length-values t es k))
-
--- a type by its number
-type-back : (t : DataType) → typeNumbered 11 (typeNumber t) ≡ ok t
-unfolding typeNumbered
-type-back Boolean = refl
-type-back Int32 = refl
-type-back Int64 = refl
-type-back Float64 = refl
-type-back Utf8 = refl
-
--- a mark by its number
-mark-back : (n : Bool) → markNumbered 11 (markNumber n) ≡ ok n
-unfolding markNumbered
-mark-back true = refl
-mark-back false = refl
-
 -- the answer's bytes are read as its column
 pub column-back : (t : DataType) (n : Bool) (es : List Entry) (rest : List ℕ) → length es ≤ 512 → textLength es ≤ 65535
     → readParts (length es) (columnBytes (columnOf t n es) ++ rest) ≡ ok (record { part = columnOf t n es; rest = rest })
-unfolding readParts readBody columnBytes
-column-back t n es rest h k = simp append-assoc
-    (rw (
-      pair-back 2 (typeNumber t ∷ markNumber n ∷ []) (fieldBytes 3 (validityOf es) ++ (offsetsField t (offsetsOf t es) ++ (fieldBytes 4 (valuesOf t es) ++ rest))) refl,
-      type-back t,
-      mark-back n,
-      validity-back es (offsetsField t (offsetsOf t es) ++ (fieldBytes 4 (valuesOf t es) ++ rest)) h,
-      offsets-back t es (fieldBytes 4 (valuesOf t es) ++ rest) h k,
-      values-back t es rest h k,
-    ))
-
--- a column that is there
-more-columns : (rows left : ℕ) (bytes : List ℕ) → 0 < length bytes
-    → readColumns rows (suc left) bytes ≡ (readColumn rows bytes >>= λ c. readColumns rows left (c .rest) >>= λ cs. ok (c .part ∷ cs))
-unfolding readColumns
-more-columns rows left [] h = absurd (omega arith)
-more-columns rows left (b ∷ bytes) h = refl
+column-back t n es rest h k =
+    parts-back (length es) (columnOf t n es) rest h (values-short t es h k)
+    (record { validity = length-validity es; offsets = offsets-within t es k; values = length-values t es k })
 
 -- a column has bytes
 some-bytes : (c : TableColumn) → 0 < length (columnBytes c)
@@ -373,7 +317,7 @@ module _ (t : DataType) (n : Bool) (es : List Entry) (h : length es ≤ 512) (k 
   one-column : readColumns (length es) 16 (columnBytes (columnOf t n es)) ≡ (require nullsAllowed 12 >>= λ _. ok (columnOf t n es ∷ []))
   unfolding readColumn readColumns
   one-column =
-      more-columns (length es) 15 (columnBytes (columnOf t n es)) (some-bytes (columnOf t n es))
+      columns-next (length es) 15 (columnBytes (columnOf t n es)) (some-bytes (columnOf t n es))
       ∙ rw (rw append-nil at (column-back t n es [] h k)) (required-then nullsAllowed 12 (record { part = columnOf t n es; rest = [] }) _)
 
   -- the answer's bytes behind a row count

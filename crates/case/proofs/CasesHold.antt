@@ -17,7 +17,8 @@ use Rattle.rule.specs.Reading.{kindAmong, unlikeEarlier, readColumn, literalVal
 use Rattle.rule.specs.Nullable.{stripped, replaced, reachable, nullable}
 use Rattle.table.specs.Column.{valueAt, entryAt}
 use Rattle.table.specs.Reading.{tagged, taggedPair, readValidity, readValues, readBody, readParts as readTableParts, noNull, readColumn as readTableColumn, readColumns, readTable}
-use Rattle.writer.specs.Answer.{someNull, numbersOf, textsOf, columnBytes}
+use Rattle.table.specs.TableBytes.{columnBytes}
+use Rattle.writer.specs.Answer.{someNull, numbersOf, textsOf}
 use Rattle.writer.specs.Written.{rowsFrom, entriesOf, writtenAs}
 use Rattle.case.specs.Fits.{columnsFit}
 use Rattle.case.specs.Run.{runRead, run}

@@ -82,7 +82,7 @@ module _ (table validity offsets values : List ℕ) (r : ℕ) {b : Bool} (is : b
       → ValueGives table (utf8 (textBetween from to values)) v → ValueGives table (textEntry validity offsets values r) v
   text-valid from to v q p s g =
       subst (λ (x : Bool). ValueGives table (cond x (valueAt Utf8 offsets values r) null) v) (sym q ∙ is)
-      (text-row table offsets values r offsets refl from to p s v g)
+      (text-row table offsets values r from to p s v g)
 
   pub text-null : b ≡ false → ValueGives table (textEntry validity offsets values r) Null
   text-null q =

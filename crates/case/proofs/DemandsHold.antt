@@ -22,7 +22,8 @@ use Rattle.rule.proofs.ReadBytes.{rule-bytes}
 use Rattle.table.specs.Column.{TableColumn, entryAt}
 use Rattle.table.specs.Reading.{readParts, Table, readTable}
 use Rattle.table.proofs.TableInversions.{table-few}
-use Rattle.writer.specs.Answer.{columnOf, columnBytes}
+use Rattle.table.specs.TableBytes.{columnBytes}
+use Rattle.writer.specs.Answer.{columnOf}
 use Rattle.case.specs.Fits.{entryIn, rowOf}
 use Rattle.case.specs.Run.{answerBytes}
 use Rattle.case.specs.Demands.{Holds, BothRead, RuleIsItsTree, OutcomeOfResultType, EntryIsOneRow, EntryFollowsPath, FailsExactly, AnswerReadsBack, behindCount, entryOf, WorkedOutExactly}

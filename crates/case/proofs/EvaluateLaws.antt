@@ -30,7 +30,8 @@ use Rattle.writer.specs.declared.RunAnswer.{RunAnswer}
 use Rattle.writer.specs.declared.WriteAnswer.{WriteAnswer}
 use Rattle.writer.specs.declared.WriteAnswer.the-variants.{Run, NoColumn}
 use Rattle.writer.specs.declared.RunAnswer.the-variants.{Refused}
-use Rattle.writer.specs.Answer.{columnOf, columnBytes, textLength}
+use Rattle.table.specs.TableBytes.{columnBytes}
+use Rattle.writer.specs.Answer.{columnOf, textLength}
 use Rattle.writer.specs.Written.{rowsFrom, entriesOf, textMost, writtenAs, runAnswer, zeros, outputAfter}
 use Rattle.writer.specs.Write.{rowOutcomes, rowsRun, RunGives, ColumnGives, WriteGives, WriteAsks, writable, classValue, classed}
 use Rattle.writer.proofs.FitLaws.{column-said, gives-rows, typed-fits, asks-write, asks-classed}

@@ -11,7 +11,8 @@ use Rattle.rule.specs.Row.{eval}
 use Rattle.rule.specs.Reading.{readRule}
 use Rattle.rule.specs.Nullable.{nullable}
 use Rattle.table.specs.Reading.{Table, readTable}
-use Rattle.writer.specs.Answer.{columnOf, columnBytes}
+use Rattle.table.specs.TableBytes.{columnBytes}
+use Rattle.writer.specs.Answer.{columnOf}
 use Rattle.writer.specs.Written.{rowsFrom, entriesOf, writtenAs, zeros}
 use Rattle.case.specs.Fits.{fits, rowOf}
 

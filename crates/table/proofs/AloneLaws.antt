@@ -1,8 +1,8 @@
 -- One column that is the whole of the bytes, and how long its values are. Assumes nothing.
-use mathlib.Core.Path.{_≡_, refl, sym, ap, subst, _∙_}
+use mathlib.Core.Path.{_≡_, sym, ap, subst, _∙_}
 use mathlib.Core.Bool.{Bool, true, false}
 use mathlib.Core.List.{List}
-use Prim.Native.Nat.{ℕ, zero, suc, _<_, _≤_}
+use Prim.Native.Nat.{ℕ, _-_, _<_, _≤_}
 use native.Mathlib.Omega.{arith}
 use lib.Dec.{eqb, leb}
 use lib.ListN.{length, drop, length-take, length-drop}
@@ -15,64 +15,67 @@ use Rattle.layout.proofs.ResultLaws.{ok-injective, bind-ok, require-then}
 use Rattle.scalar.specs.declared.types.DataType.{DataType}
 use Rattle.scalar.specs.Types.{typeNumbered, markNumbered}
 use Rattle.table.specs.declared.column.ColumnAnswer.{ColumnAnswer}
+use Rattle.table.specs.declared.places.ColumnPlace.{ColumnPlace}
 use Rattle.table.specs.declared.places.PlaceAnswer.{PlaceAnswer}
 use Rattle.table.specs.Column.{TableColumn}
 use Rattle.table.specs.Reading.{Part, tagged, taggedPair, readValidity, readOffsets, valuesLength, readValues, readBody, readParts, readAlone}
-use Rattle.table.specs.Places.{columnIn, placeIn, AloneRead}
-use Rattle.table.specs.Parts.{columnMeans, ColumnGives, PlaceRefuses}
+use Rattle.table.specs.Places.{noPlace, valuesEnd, aloneAnswer}
+use Rattle.table.specs.Parts.{columnAnswer}
+use Rattle.table.proofs.StandLaws.{column-stands}
+use Rattle.table.proofs.RefusalLaws.{parts-numbered}
+use Rattle.table.proofs.ColumnLaws.{answer-found, answer-refused}
 use Rattle.table.proofs.TableTyped.{numberAt-below, pair-bytes, validity-rest, offsets-rest}
 
 -- a refusal
-alone-refused : (l : List ℕ) (rows n : ℕ) (r : PlaceAnswer) → PlaceRefuses n r → 0 < n → readAlone rows l ≡ refused n → AloneRead l rows r
-alone-refused l rows n r u h e = record { says = refusal n (u .number) h ∙ sym e; inside = λ z. absurd (omega (arith, u .number)) }
-  where
-    refusal : (k : ℕ) → r .refused ≡ k → 0 < k → placeIn l (r .refused) (r .place) ≡ refused k
-    refusal zero q p = absurd (omega arith)
-    refusal (suc k) q p = ap (λ (m : ℕ). placeIn l m (r .place)) q
+pub alone-refused : (n : ℕ) {p : ColumnPlace} → p ≡ noPlace → record { refused = n; place = p } ≡ aloneAnswer (refused n)
+unfolding aloneAnswer
+alone-refused n e = λ i. record { refused = n; place = e i }
 
 -- too many rows
-pub alone-rows : (l : List ℕ) (rows : ℕ) (r : PlaceAnswer) → 512 < rows → PlaceRefuses 10 r → AloneRead l rows r
+pub alone-rows : (l : List ℕ) (rows : ℕ) (r : PlaceAnswer) → 512 < rows → r ≡ aloneAnswer (refused 10) → r ≡ aloneAnswer (readAlone rows l)
 unfolding readAlone
-alone-rows l rows r h u = alone-refused l rows 10 r u (omega arith) (simp (lt-leb rows 512 h))
+alone-rows l rows r h u = u ∙ ap aloneAnswer (sym (simp (lt-leb rows 512 h)))
 
 -- what is done with the column
 abbrev wholeOf : Part TableColumn → Result TableColumn
 wholeOf c = require (eqb (length (c .rest)) 0) 9 >>= λ _. ok (c .part)
 
-module _ (l : List ℕ) (rows : ℕ) (few : rows ≤ 512) (c : ColumnAnswer) (g : ColumnGives l (readParts rows l) c) where
-  -- what the answer says goes on to the bytes behind it
-  alone-step : readAlone rows l ≡ (columnMeans l (c .refused) c >>= wholeOf)
+module _ (l : List ℕ) (rows : ℕ) (few : rows ≤ 512) (c : ColumnAnswer) (g : c ≡ columnAnswer 8 (readParts rows l)) where
+  -- what is read goes on to the bytes behind it
+  alone-step : readAlone rows l ≡ (readParts rows l >>= wholeOf)
   unfolding readAlone
-  alone-step =
-      ap (λ (t : Bool). require t 10 >>= λ _. readParts rows l >>= wholeOf) (le-leb rows 512 few)
-      ∙ ap (λ (d : Result (Part TableColumn)). d >>= wholeOf) (sym (g .says))
+  alone-step = ap (λ (t : Bool). require t 10 >>= λ _. readParts rows l >>= wholeOf) (le-leb rows 512 few)
 
   -- the column is refused
-  pub alone-cut : (r : PlaceAnswer) → (c .refused ≡ 0 → ⊥) → PlaceRefuses (c .refused) r → AloneRead l rows r
-  alone-cut r h u = go (c .refused) refl h
-    where
-      go : (n : ℕ) → c .refused ≡ n → (c .refused ≡ 0 → ⊥) → AloneRead l rows r
-      go zero e p = absurd (p e)
-      go (suc n) e p =
-          alone-refused l rows (suc n) r (record { number = u .number ∙ e }) (omega arith)
-          (alone-step ∙ ap (λ (k : ℕ). columnMeans l k c >>= wholeOf) e)
+  pub alone-cut : (r : PlaceAnswer) → (c .refused ≡ 0 → ⊥) → r ≡ aloneAnswer (refused (c .refused)) → r ≡ aloneAnswer (readAlone rows l)
+  alone-cut r h u =
+      u ∙ sym (ap aloneAnswer (alone-step ∙ ap (λ (d : Result (Part TableColumn)). d >>= wholeOf) (answer-refused 8 (readParts rows l) c g h .0)))
 
   module _ (z : c .refused ≡ 0) where
-    -- the column is found, and the bytes behind it decide
-    found-whole : readAlone rows l ≡ wholeOf (record { part = columnIn l (c .place); rest = drop (c .next) l })
-    found-whole = alone-step ∙ ap (λ (k : ℕ). columnMeans l k c >>= wholeOf) z
+    abbrev found : (x : Part TableColumn) × (readParts rows l ≡ ok x) × (c ≡ columnAnswer 8 (ok x))
+    found = answer-found 8 (readParts rows l) c (parts-numbered rows l) g z
+
+    -- the bytes behind it decide
+    found-whole : (b : Bool) → eqb (length (found .0 .rest)) 0 ≡ b → readAlone rows l ≡ (require b 9 >>= λ _. ok (found .0 .part))
+    found-whole b e =
+        alone-step ∙ ap (λ (d : Result (Part TableColumn)). d >>= wholeOf) (found .1) ∙ ap (λ (x : Bool). require x 9 >>= λ _. ok (found .0 .part)) e
+
+    -- which are those behind its values
+    rest-is : length (found .0 .rest) ≡ length l - c .next
+    rest-is =
+        sym (ap length (column-stands rows l 0 (found .0) (found .1) .behind)) ∙ length-drop (valuesEnd 8 (found .0 .part)) l
+        ∙ ap (λ (k : ℕ). length l - k) (sym (ap (λ (x : ColumnAnswer). x .next) (found .2)))
 
     -- bytes are left behind it
-    pub alone-over : (r : PlaceAnswer) → c .next < length l → PlaceRefuses 9 r → AloneRead l rows r
-    alone-over r h u =
-        let e : eqb (length (drop (c .next) l)) 0 ≡ false = ne-eqb (length (drop (c .next) l)) 0 (λ (q : length (drop (c .next) l) ≡ 0). omega (arith, q, length-drop (c .next) l)) in
-        alone-refused l rows 9 r u (omega arith) (found-whole ∙ simp e)
+    pub alone-over : (r : PlaceAnswer) → c .next < length l → r ≡ aloneAnswer (refused 9) → r ≡ aloneAnswer (readAlone rows l)
+    alone-over r h u = u ∙ sym (ap aloneAnswer (found-whole false (ne-eqb _ 0 (λ (q : length (found .0 .rest) ≡ 0). omega (arith, q, rest-is)))))
 
     -- it is the whole
-    pub alone-whole : length l ≤ c .next → AloneRead l rows (record { refused = 0; place = c .place })
+    pub alone-whole : length l ≤ c .next → record { refused = 0; place = c .place } ≡ aloneAnswer (readAlone rows l)
+    unfolding aloneAnswer
     alone-whole h =
-        let e : eqb (length (drop (c .next) l)) 0 ≡ true = eq-eqb (length (drop (c .next) l)) 0 (omega (arith, length-drop (c .next) l)) in
-        record { says = sym (found-whole ∙ simp e); inside = λ _. g .inside z }
+        let none : length (found .0 .rest) ≡ 0 = omega (arith, rest-is) in
+        ap (λ (x : ColumnAnswer). record { refused = 0; place = x .place }) (found .2) ∙ sym (ap aloneAnswer (found-whole true (eq-eqb _ 0 none)))
 
 -- ---- how long the values are
 

@@ -2,7 +2,7 @@
 use mathlib.Core.Path.{_≡_, refl, sym, ap, subst, _∙_}
 use mathlib.Core.Bool.{Bool, true, false, not, _&&_, _||_}
 use mathlib.Core.List.{List, [], _∷_}
-use Prim.Native.Nat.{ℕ, zero, suc, _<_, _≤_}
+use Prim.Native.Nat.{ℕ, zero, suc, _+_, _<_, _≤_}
 use native.Mathlib.Omega.{arith}
 use lib.Dec.{eqb}
 use lib.ListN.{length, drop}
@@ -16,41 +16,45 @@ use Rattle.scalar.specs.declared.types.TypeAnswer.the-variants.{Known, Unknown}
 use Rattle.scalar.specs.Types.{typeMeans, TypeGives, markNumbered}
 use Rattle.table.specs.declared.part.PartAnswer.{PartAnswer}
 use Rattle.table.specs.declared.part.PartAnswer.the-variants.{At, Refused}
+use Rattle.table.specs.declared.places.ColumnPlace.{ColumnPlace}
 use Rattle.table.specs.declared.column.ColumnAnswer.{ColumnAnswer}
 use Rattle.table.specs.Column.{TableColumn, validIn}
 use Rattle.table.specs.Reading.{Part, taggedPair, readValidity, readOffsets, readBody, readValues, valuesLength, readParts, noNull, readColumn}
-use Rattle.table.specs.Places.{columnIn, Inside}
-use Rattle.table.specs.Parts.{partMeans, FieldGives, PartGives, PartInside, columnMeans, ColumnGives, Refuses, valuesOfLength, valuesStep, offsetsStep, validityStep, headStep}
-use Rattle.table.proofs.PartsLaws.{behind-refused, behind-field, field-some}
+use Rattle.table.specs.Places.{columnIn, Inside, noPlace, offsetsStart}
+use Rattle.table.specs.Parts.{partMeans, fieldMeans, FieldGives, PartGives, PartInside, refusedColumn, columnAnswer, valuesOfLength, valuesStep, offsetsStep, validityStep, headStep}
+use Rattle.table.proofs.PartsLaws.{behind-refused, behind-field, inside-length, field-inside}
+use Rattle.table.proofs.StandLaws.{stands-at, pair-stands, validity-stands, offsets-stand, values-stand, column-stands}
+use Rattle.table.proofs.RefusalLaws.{Numbered, parts-numbered}
 
--- ---- a refusal, and a step behind a part
+-- ---- a refusal
 
-pub column-refused : (l : List ℕ) (d : Result (Part TableColumn)) (n : ℕ) (r : ColumnAnswer) → Refuses n r → 0 < n → d ≡ refused n → ColumnGives l d r
-column-refused l d n r u h e = record { says = number n (u .number) h ∙ sym e; inside = λ z. absurd (omega (arith, u .number)); ends = λ z. absurd (omega (arith, u .number)) }
-  where
-    number : (k : ℕ) → r .refused ≡ k → 0 < k → columnMeans l (r .refused) r ≡ refused k
-    number zero q p = absurd (omega arith)
-    number (suc k) q p = ap (λ (m : ℕ). columnMeans l m r) q
+pub column-refused : (n : ℕ) {p : ColumnPlace} → p ≡ noPlace → record { refused = n; place = p; next = 0 } ≡ refusedColumn n
+column-refused n e = λ i. record { refused = n; place = e i; next = 0 }
 
--- another name of the definition
-pub column-same : (l : List ℕ) (d e : Result (Part TableColumn)) (r : ColumnAnswer) → d ≡ e → ColumnGives l d r → ColumnGives l e r
-column-same l d e r = subst (λ (x : Result (Part TableColumn)). ColumnGives l x r)
+-- ---- a step behind a part
 
 module _ (l : List ℕ) (definition : Result (Part (List ℕ))) (r : PartAnswer) (g : PartGives l definition r) where
   pub part-inside : (start end : ℕ) → r ≡ At start end → Inside (length l) start end
   part-inside start end e = subst (PartInside (length l)) e (g .inside)
 
-  step-refused : (step : Part (List ℕ) → Result (Part TableColumn)) (n : ℕ) (a : ColumnAnswer) → r ≡ Refused n → Refuses n a → ColumnGives l (definition >>= step) a
-  step-refused step n a e u =
-      column-refused l (definition >>= step) n a u (subst (PartInside (length l)) e (g .inside))
-      (ap (λ (d : Result (Part (List ℕ))). d >>= step) (sym (g .says) ∙ ap (partMeans l) e))
+  -- what the definition reads at a place
+  part-read : (start end : ℕ) → r ≡ At start end → definition ≡ ok (record { part = part l start end; rest = drop end l })
+  part-read start end e = sym (g .says) ∙ ap (partMeans l) e
 
-  step-on : (step : Part (List ℕ) → Result (Part TableColumn)) (start end : ℕ) (a : ColumnAnswer) → r ≡ At start end
-      → ColumnGives l (step (record { part = part l start end; rest = drop end l })) a → ColumnGives l (definition >>= step) a
-  step-on step start end a e =
-      column-same l _ (definition >>= step) a (sym (ap (λ (d : Result (Part (List ℕ))). d >>= step) (sym (g .says) ∙ ap (partMeans l) e)))
+  step-refused : (vs : ℕ) (step : Part (List ℕ) → Result (Part TableColumn)) (n : ℕ) (a : ColumnAnswer) → r ≡ Refused n → a ≡ refusedColumn n
+      → a ≡ columnAnswer vs (definition >>= step)
+  step-refused vs step n a e u = u ∙ sym (ap (λ (d : Result (Part (List ℕ))). columnAnswer vs (d >>= step)) (sym (g .says) ∙ ap (partMeans l) e))
+
+  step-on : (vs : ℕ) (step : Part (List ℕ) → Result (Part TableColumn)) (start end : ℕ) (a : ColumnAnswer) → r ≡ At start end
+      → a ≡ columnAnswer vs (step (record { part = part l start end; rest = drop end l })) → a ≡ columnAnswer vs (definition >>= step)
+  step-on vs step start end a e c = c ∙ sym (ap (λ (d : Result (Part (List ℕ))). columnAnswer vs (d >>= step)) (part-read start end e))
 
 -- ---- the values
+
+-- values of the length of their type
+values-of : (t : DataType) (rows : ℕ) (offsets bytes : List ℕ) (size : ℕ) → size ≡ valuesLength t rows offsets → readValues t rows offsets bytes ≡ valuesOfLength size bytes
+unfolding readValues valuesOfLength
+values-of t rows offsets bytes size e = sym (ap (λ (k : ℕ). valuesOfLength k bytes) e)
 
 abbrev valuesBehind : DataType → Bool → List ℕ → List ℕ → Part (List ℕ) → Result (Part TableColumn)
 valuesBehind t n validity offsets values =
@@ -62,16 +66,29 @@ module _ (l : List ℕ) (t : DataType) (n : Bool) (vs ve os oe rows size : ℕ) 
   unfolding valuesStep
   values-step = ap (λ (k : ℕ). valuesOfLength k (drop oe l) >>= valuesBehind t n (part l vs ve) (part l os oe)) is
 
-  pub whole-refused : (k : ℕ) (a : ColumnAnswer) → r ≡ Refused k → Refuses k a → ColumnGives l (valuesStep t n (part l vs ve) (part l os oe) rows (drop oe l)) a
-  whole-refused k a e u = column-same l _ _ a values-step (step-refused l (valuesOfLength size (drop oe l)) r g _ k a e u)
+  pub whole-refused : (k : ℕ) (a : ColumnAnswer) → r ≡ Refused k → a ≡ refusedColumn k → a ≡ columnAnswer vs (valuesStep t n (part l vs ve) (part l os oe) rows (drop oe l))
+  whole-refused k a e u = step-refused l (valuesOfLength size (drop oe l)) r g vs _ k a e u ∙ ap (columnAnswer vs) values-step
 
-  pub whole-column : Inside (length l) vs ve → Inside (length l) os oe → (begin end : ℕ) → r ≡ At begin end
-      → ColumnGives l (valuesStep t n (part l vs ve) (part l os oe) rows (drop oe l))
-      (record { refused = 0; place = record { «data_type» = t; nullable = n; «validity_start» = vs; «validity_end» = ve; «offsets_start» = os; «offsets_end» = oe; «values_start» = begin; «values_end» = end }; next = end })
-  whole-column v o begin end e =
+  pub whole-column : Inside (length l) vs ve → Inside (length l) os oe → os ≡ offsetsStart t ve → (begin end : ℕ) → r ≡ At begin end
+      → record { refused = 0; place = record { «data_type» = t; nullable = n; «validity_start» = vs; «validity_end» = ve; «offsets_start» = os; «offsets_end» = oe; «values_start» = begin; «values_end» = end }; next = end }
+      ≡ columnAnswer vs (valuesStep t n (part l vs ve) (part l os oe) rows (drop oe l))
+  whole-column v o at begin end e =
       let i = part-inside l (valuesOfLength size (drop oe l)) r g begin end e in
-      column-same l _ _ _ values-step (step-on l (valuesOfLength size (drop oe l)) r g _ begin end _ e
-      (record { says = refl; inside = λ _. record { validity = v; offsets = o; values = i }; ends = λ _. i .in-bytes }))
+      let reads = values-of t rows (part l os oe) (drop oe l) size is ∙ part-read l (valuesOfLength size (drop oe l)) r g begin end e in
+      let w = stands-at l (oe + 3) begin end (values-stand t rows (part l os oe) l oe _ reads) i in
+      let first : ve ≡ vs + length (part l vs ve) = omega (arith, inside-length l vs ve v, v .ordered) in
+      let start : os ≡ offsetsStart t (vs + length (part l vs ve)) = at ∙ ap (offsetsStart t) first in
+      let behind : oe ≡ os + length (part l os oe) = omega (arith, inside-length l os oe o, o .ordered) in
+      let middle : oe ≡ offsetsStart t (vs + length (part l vs ve)) + length (part l os oe) = behind ∙ ap (λ (k : ℕ). k + length (part l os oe)) start in
+      let third : begin ≡ offsetsStart t (vs + length (part l vs ve)) + length (part l os oe) + 3 = w .0 ∙ ap (λ (k : ℕ). k + 3) middle in
+      let last = w .1 ∙ ap (λ (k : ℕ). k + length (part l begin end)) third in
+      step-on l (valuesOfLength size (drop oe l)) r g vs _ begin end _ e
+      (λ j. record {
+        refused = 0;
+        place = record { «data_type» = t; nullable = n; «validity_start» = vs; «validity_end» = first j; «offsets_start» = start j; «offsets_end» = middle j; «values_start» = third j; «values_end» = last j };
+        next = last j;
+      })
+      ∙ ap (columnAnswer vs) values-step
 
 -- ---- the offsets
 
@@ -80,12 +97,18 @@ module _ (l : List ℕ) (t : DataType) (n : Bool) (vs ve rows : ℕ) (r : PartAn
   unfolding offsetsStep
   offsets-step = refl
 
-  pub behind-validity-refused : (k : ℕ) (a : ColumnAnswer) → r ≡ Refused k → Refuses k a → ColumnGives l (offsetsStep t n (part l vs ve) rows (drop ve l)) a
-  behind-validity-refused k a e u = column-same l _ _ a offsets-step (step-refused l (readOffsets t rows (drop ve l)) r g _ k a e u)
+  -- where the offsets start
+  pub offsets-at : (os oe : ℕ) → r ≡ At os oe → ve ≤ length l → os ≡ offsetsStart t ve
+  offsets-at os oe e h =
+      stands-at l (offsetsStart t ve) os oe (offsets-stand t rows l ve _ h (part-read l (readOffsets t rows (drop ve l)) r g os oe e))
+      (part-inside l (readOffsets t rows (drop ve l)) r g os oe e) .0
 
-  pub behind-validity : (os oe : ℕ) (a : ColumnAnswer) → r ≡ At os oe → ColumnGives l (valuesStep t n (part l vs ve) (part l os oe) rows (drop oe l)) a
-      → ColumnGives l (offsetsStep t n (part l vs ve) rows (drop ve l)) a
-  behind-validity os oe a e c = column-same l _ _ a offsets-step (step-on l (readOffsets t rows (drop ve l)) r g _ os oe a e c)
+  pub behind-validity-refused : (k : ℕ) (a : ColumnAnswer) → r ≡ Refused k → a ≡ refusedColumn k → a ≡ columnAnswer vs (offsetsStep t n (part l vs ve) rows (drop ve l))
+  behind-validity-refused k a e u = step-refused l (readOffsets t rows (drop ve l)) r g vs _ k a e u ∙ ap (columnAnswer vs) offsets-step
+
+  pub behind-validity : (os oe : ℕ) (a : ColumnAnswer) → r ≡ At os oe → a ≡ columnAnswer vs (valuesStep t n (part l vs ve) (part l os oe) rows (drop oe l))
+      → a ≡ columnAnswer vs (offsetsStep t n (part l vs ve) rows (drop ve l))
+  behind-validity os oe a e c = step-on l (readOffsets t rows (drop ve l)) r g vs _ os oe a e c ∙ ap (columnAnswer vs) offsets-step
 
 -- ---- the validity
 
@@ -94,12 +117,16 @@ module _ (l : List ℕ) (t : DataType) (n : Bool) (at rows : ℕ) (r : PartAnswe
   unfolding validityStep
   validity-step = refl
 
-  pub behind-type-refused : (k : ℕ) (a : ColumnAnswer) → r ≡ Refused k → Refuses k a → ColumnGives l (validityStep t n rows (drop at l)) a
-  behind-type-refused k a e u = column-same l _ _ a validity-step (step-refused l (readValidity rows (drop at l)) r g _ k a e u)
+  pub behind-type-refused : (k : ℕ) (a : ColumnAnswer) → r ≡ Refused k → a ≡ refusedColumn k → a ≡ columnAnswer (at + 3) (validityStep t n rows (drop at l))
+  behind-type-refused k a e u = step-refused l (readValidity rows (drop at l)) r g (at + 3) _ k a e u ∙ ap (columnAnswer (at + 3)) validity-step
 
-  pub behind-type : (vs ve : ℕ) (a : ColumnAnswer) → r ≡ At vs ve → ColumnGives l (offsetsStep t n (part l vs ve) rows (drop ve l)) a
-      → ColumnGives l (validityStep t n rows (drop at l)) a
-  behind-type vs ve a e c = column-same l _ _ a validity-step (step-on l (readValidity rows (drop at l)) r g _ vs ve a e c)
+  pub behind-type : (vs ve : ℕ) (a : ColumnAnswer) → r ≡ At vs ve → a ≡ columnAnswer vs (offsetsStep t n (part l vs ve) rows (drop ve l))
+      → a ≡ columnAnswer (at + 3) (validityStep t n rows (drop at l))
+  behind-type vs ve a e c =
+      let start = stands-at l (at + 3) vs ve (validity-stands rows l at _ (part-read l (readValidity rows (drop at l)) r g vs ve e)) (part-inside l (readValidity rows (drop at l)) r g vs ve e) .0 in
+      step-on l (readValidity rows (drop at l)) r g (at + 3) _ vs ve a e
+      (c ∙ ap (λ (k : ℕ). columnAnswer k (offsetsStep t n (part l vs ve) rows (drop ve l))) start)
+      ∙ ap (columnAnswer (at + 3)) validity-step
 
 -- ---- the type and the nullable mark
 
@@ -120,23 +147,22 @@ mark-below zero h = refl
 mark-below (suc zero) h = refl
 mark-below (suc (suc k)) h = absurd (omega arith)
 
-module _ (l : List ℕ) (kind mark at rows : ℕ) (r : TypeAnswer) (g : TypeGives kind r) (a : ColumnAnswer) where
+module _ (l : List ℕ) (kind mark at rows : ℕ) (r : TypeAnswer) (g : TypeGives kind r) (a : ColumnAnswer) (vs : ℕ) where
   head-step : (t : TypeAnswer) → r ≡ t → (typeMeans 11 t >>= markBehind mark rows (drop at l)) ≡ headStep kind mark rows (drop at l)
   unfolding headStep
   head-step t e = ap (λ (d : Result DataType). d >>= markBehind mark rows (drop at l)) (sym (ap (typeMeans 11) e) ∙ g .says 11)
 
-  pub type-unknown : r ≡ Unknown → Refuses 11 a → ColumnGives l (headStep kind mark rows (drop at l)) a
-  type-unknown e u = column-refused l _ 11 a u (omega arith) (sym (head-step Unknown e))
+  pub type-unknown : r ≡ Unknown → a ≡ refusedColumn 11 → a ≡ columnAnswer vs (headStep kind mark rows (drop at l))
+  type-unknown e u = u ∙ ap (columnAnswer vs) (head-step Unknown e)
 
-  pub mark-unknown : (t : DataType) → r ≡ Known t → 1 < mark → Refuses 11 a → ColumnGives l (headStep kind mark rows (drop at l)) a
+  pub mark-unknown : (t : DataType) → r ≡ Known t → 1 < mark → a ≡ refusedColumn 11 → a ≡ columnAnswer vs (headStep kind mark rows (drop at l))
   mark-unknown t e h u =
-      column-refused l _ 11 a u (omega arith)
-      (sym (head-step (Known t) e) ∙ ap (λ (d : Result Bool). d >>= λ n. validityStep t n rows (drop at l)) (mark-above mark h))
+      u ∙ sym (ap (λ (d : Result Bool). columnAnswer vs (d >>= λ n. validityStep t n rows (drop at l))) (mark-above mark h)) ∙ ap (columnAnswer vs) (head-step (Known t) e)
 
-  pub head-known : (t : DataType) → r ≡ Known t → mark ≤ 1 → ColumnGives l (validityStep t (eqb mark 1) rows (drop at l)) a
-      → ColumnGives l (headStep kind mark rows (drop at l)) a
-  head-known t e h =
-      column-same l _ _ a (sym (ap (λ (d : Result Bool). d >>= λ n. validityStep t n rows (drop at l)) (mark-below mark h)) ∙ head-step (Known t) e)
+  pub head-known : (t : DataType) → r ≡ Known t → mark ≤ 1 → a ≡ columnAnswer vs (validityStep t (eqb mark 1) rows (drop at l))
+      → a ≡ columnAnswer vs (headStep kind mark rows (drop at l))
+  head-known t e h c =
+      c ∙ sym (ap (λ (d : Result Bool). columnAnswer vs (d >>= λ n. validityStep t n rows (drop at l))) (mark-below mark h)) ∙ ap (columnAnswer vs) (head-step (Known t) e)
 
 -- ---- tag 2
 
@@ -146,17 +172,19 @@ unfolding headStep validityStep offsetsStep valuesStep valuesOfLength readBody r
 body-is rows f = refl
 
 module _ (l : List ℕ) (at rows : ℕ) (r : PartAnswer) (g : FieldGives l 2 (taggedPair 2 (drop at l)) r) (a : ColumnAnswer) where
-  pub parts-refused : (n : ℕ) → r ≡ Refused n → Refuses n a → ColumnGives l (readParts rows (drop at l)) a
+  pub parts-refused : (n : ℕ) → r ≡ Refused n → a ≡ refusedColumn n → a ≡ columnAnswer (at + 8) (readParts rows (drop at l))
   unfolding readParts
-  parts-refused n e u =
-      column-refused l _ n a u (field-some l 2 (taggedPair 2 (drop at l)) r g n e) (behind-refused l 2 (taggedPair 2 (drop at l)) r g (readBody rows) n e)
+  parts-refused n e u = u ∙ sym (ap (columnAnswer (at + 8)) (behind-refused l 2 (taggedPair 2 (drop at l)) r g (readBody rows) n e))
 
   pub parts-behind : (begin end kind mark : ℕ) → r ≡ At begin end → kind ≡ byte (part l begin end) 0 → mark ≡ byte (part l begin end) 1
-      → ColumnGives l (headStep kind mark rows (drop end l)) a → ColumnGives l (readParts rows (drop at l)) a
+      → a ≡ columnAnswer (end + 3) (headStep kind mark rows (drop end l)) → a ≡ columnAnswer (at + 8) (readParts rows (drop at l))
   unfolding readParts
-  parts-behind begin end kind mark e p q =
-      column-same l _ _ a
-      ((λ i. headStep (p i) (q i) rows (drop end l)) ∙ body-is rows (record { tag = 2; content = part l begin end; rest = drop end l })
+  parts-behind begin end kind mark e p q c =
+      let s = pair-stands l at 2 _ (sym (g .says) ∙ ap (fieldMeans l 2) e) in
+      let w = stands-at l (at + 3) begin end (s .0) (field-inside l 2 (taggedPair 2 (drop at l)) r g begin end e) in
+      let eight : end + 3 ≡ at + 8 = omega (arith, s .1, w .0, w .1) in
+      c ∙ (λ i. columnAnswer (eight i) (headStep (p i) (q i) rows (drop end l)))
+      ∙ ap (columnAnswer (at + 8)) (body-is rows (record { tag = 2; content = part l begin end; rest = drop end l })
       ∙ sym (behind-field l 2 (taggedPair 2 (drop at l)) r g (readBody rows) begin end e))
 
 -- ---- nulls
@@ -194,38 +222,62 @@ no-rows validity i e = ap (noNull validity) e
 
 -- ---- a column and its nulls
 
+-- an answer that is no refusal is a column's
+pub answer-found : (vs : ℕ) (d : Result (Part TableColumn)) (r : ColumnAnswer) → Numbered d → r ≡ columnAnswer vs d → r .refused ≡ 0
+    → (c : Part TableColumn) × (d ≡ ok c) × (r ≡ columnAnswer vs (ok c))
+answer-found vs (refused n) r h g z = absurd (omega (arith, h .numbers n refl, z, ap (λ (x : ColumnAnswer). x .refused) g))
+answer-found vs (ok c) r h g z = (c, refl, g)
+
+-- and any other is a refusal
+pub answer-refused : (vs : ℕ) (d : Result (Part TableColumn)) (r : ColumnAnswer) → r ≡ columnAnswer vs d → (r .refused ≡ 0 → ⊥)
+    → (d ≡ refused (r .refused)) × (r ≡ refusedColumn (r .refused))
+answer-refused vs (refused n) r g h =
+    let e = ap (λ (x : ColumnAnswer). x .refused) g in
+    (sym (ap refused e), g ∙ sym (ap refusedColumn e))
+answer-refused vs (ok c) r g h = absurd (h (ap (λ (x : ColumnAnswer). x .refused) g))
+
 abbrev nullsBehind : ℕ → Part TableColumn → Result (Part TableColumn)
 nullsBehind rows c = require (c .part .nullable || noNull (c .part .validity) rows) 12 >>= λ _. ok c
 
-module _ (l : List ℕ) (at rows : ℕ) (r : ColumnAnswer) (g : ColumnGives l (readParts rows (drop at l)) r) where
-  -- what the answer says goes on to the nulls
-  nulls-step : (columnMeans l (r .refused) r >>= nullsBehind rows) ≡ readColumn rows (drop at l)
+module _ (l : List ℕ) (at rows : ℕ) (r : ColumnAnswer) (g : r ≡ columnAnswer (at + 8) (readParts rows (drop at l))) where
+  pub column-left : (r .refused ≡ 0 → ⊥) → r ≡ columnAnswer (at + 8) (readColumn rows (drop at l))
   unfolding readColumn
-  nulls-step = ap (λ (d : Result (Part TableColumn)). d >>= nullsBehind rows) (g .says)
-
-  pub column-left : (r .refused ≡ 0 → ⊥) → ColumnGives l (readColumn rows (drop at l)) r
-  column-left h = record { says = refusal (r .refused) h ∙ nulls-step; inside = g .inside; ends = g .ends }
-    where
-      refusal : (k : ℕ) → (k ≡ 0 → ⊥) → columnMeans l k r ≡ (columnMeans l k r >>= nullsBehind rows)
-      refusal zero p = absurd (p refl)
-      refusal (suc k) p = refl
+  column-left h =
+      let e = answer-refused (at + 8) (readParts rows (drop at l)) r g h in
+      e .1 ∙ sym (ap (λ (d : Result (Part TableColumn)). columnAnswer (at + 8) (d >>= nullsBehind rows)) (e .0))
 
   module _ (z : r .refused ≡ 0) where
-    abbrev found : Part TableColumn
-    found = record { part = columnIn l (r .place); rest = drop (r .next) l }
+    abbrev found : (c : Part TableColumn) × (readParts rows (drop at l) ≡ ok c) × (r ≡ columnAnswer (at + 8) (ok c))
+    found = answer-found (at + 8) (readParts rows (drop at l)) r (parts-numbered rows (drop at l)) g z
 
-    found-step : nullsBehind rows found ≡ readColumn rows (drop at l)
-    found-step = sym (ap (λ (k : ℕ). columnMeans l k r >>= nullsBehind rows) z) ∙ nulls-step
+    -- its nulls decide
+    found-is : (b : Bool) → (found .0 .part .nullable || noNull (found .0 .part .validity) rows) ≡ b → readColumn rows (drop at l) ≡ (require b 12 >>= λ _. ok (found .0))
+    unfolding readColumn
+    found-is b e =
+        ap (λ (d : Result (Part TableColumn)). d >>= nullsBehind rows) (found .1) ∙ ap (λ (x : Bool). require x 12 >>= λ _. ok (found .0)) e
 
-    found-taken : (found .part .nullable || noNull (found .part .validity) rows) ≡ true → ColumnGives l (readColumn rows (drop at l)) r
-    found-taken t = record { says = ap (λ (k : ℕ). columnMeans l k r) z ∙ sym (simp t) ∙ found-step; inside = g .inside; ends = g .ends }
+    -- the mark and the validity of the answer are the column's
+    mark-is : found .0 .part .nullable ≡ r .place .nullable
+    mark-is = sym (ap (λ (x : ColumnAnswer). x .place .nullable) (found .2))
 
-    pub column-nullable : r .place .nullable ≡ true → ColumnGives l (readColumn rows (drop at l)) r
-    column-nullable n = found-taken (simp n)
+    validity-is : found .0 .part .validity ≡ columnIn l (r .place) .validity
+    validity-is =
+        sym (ap (λ (x : TableColumn). x .validity) (column-stands rows l at (found .0) (found .1) .there))
+        ∙ sym (ap (λ (x : ColumnAnswer). columnIn l (x .place) .validity) (found .2))
+
+    found-taken : (found .0 .part .nullable || noNull (found .0 .part .validity) rows) ≡ true → r ≡ columnAnswer (at + 8) (readColumn rows (drop at l))
+    found-taken t = found .2 ∙ sym (ap (columnAnswer (at + 8)) (found-is true t))
+
+    pub column-nullable : r .place .nullable ≡ true → r ≡ columnAnswer (at + 8) (readColumn rows (drop at l))
+    column-nullable n = found-taken (ap (λ (b : Bool). b || noNull (found .0 .part .validity) rows) (mark-is ∙ n))
 
     module _ (n : r .place .nullable ≡ false) where
-      pub column-full : noNull (found .part .validity) rows ≡ true → ColumnGives l (readColumn rows (drop at l)) r
-      column-full f = found-taken (simp (n, f))
+      -- where it isn't nullable, the answer of its validity
+      nulls-are : (b : Bool) → noNull (columnIn l (r .place) .validity) rows ≡ b → (found .0 .part .nullable || noNull (found .0 .part .validity) rows) ≡ b
+      nulls-are b f = ap (λ (x : Bool). x || noNull (found .0 .part .validity) rows) (mark-is ∙ n) ∙ ap (λ (v : List ℕ). noNull v rows) validity-is ∙ f
 
-      pub column-null : (a : ColumnAnswer) → noNull (found .part .validity) rows ≡ false → Refuses 12 a → ColumnGives l (readColumn rows (drop at l)) a
-      column-null a f u = column-refused l _ 12 a u (omega arith) (sym found-step ∙ simp (n, f))
+      pub column-full : noNull (columnIn l (r .place) .validity) rows ≡ true → r ≡ columnAnswer (at + 8) (readColumn rows (drop at l))
+      column-full f = found-taken (nulls-are true f)
+
+      pub column-null : (a : ColumnAnswer) → noNull (columnIn l (r .place) .validity) rows ≡ false → a ≡ refusedColumn 12 → a ≡ columnAnswer (at + 8) (readColumn rows (drop at l))
+      column-null a f u = u ∙ sym (ap (columnAnswer (at + 8)) (found-is false (nulls-are false f)))

@@ -2,10 +2,11 @@
 use mathlib.Core.Path.{_≡_, refl}
 use mathlib.Core.Bool.{true, _&&_, _||_}
 use mathlib.Core.List.{List, [], _∷_}
-use Prim.Native.Nat.{ℕ, zero, suc, _*_, _≤_}
+use Prim.Native.Nat.{ℕ, zero, suc, _*_, _<_, _≤_}
+use native.Mathlib.Omega.{arith}
 use lib.Dec.{eqb, leb, ltb}
 use lib.ListN.{length}
-use Rattle.layout.specs.Result.{refused}
+use Rattle.layout.specs.Result.{Result, refused}
 use Rattle.layout.specs.Refusals.{tableRefusals, among}
 use Rattle.layout.specs.Bytes.{byte, number, bitmapLength}
 use Rattle.layout.specs.Field.{Field}
@@ -15,7 +16,7 @@ use Rattle.scalar.specs.declared.types.DataType.{DataType}
 use Rattle.scalar.specs.declared.types.DataType.the-variants.{Boolean, Int32, Int64, Float64, Utf8}
 use Rattle.scalar.proofs.TypeLaws.{typeNumbered-among, markNumbered-among}
 use Rattle.table.specs.Column.{offsetAt}
-use Rattle.table.specs.Reading.{tagged, taggedPair, readValidity, neverFalls, readTextOffsets, readOffsets, valuesLength, readValues, readBody, readParts, noNull, readColumn, readColumns, bytesMost, rowsMost, columnsMost, readTable}
+use Rattle.table.specs.Reading.{tagged, taggedPair, readValidity, neverFalls, readTextOffsets, readOffsets, valuesLength, readValues, readBody, readParts, noNull, readColumn, readColumns, bytesMost, rowsMost, columnsMost, readTable, readAlone}
 
 -- the field of a tag is refused with one of the numbers
 tagged-among : (tag : ℕ) (bytes : List ℕ) → RefusedAmong tableRefusals (tagged tag bytes)
@@ -106,3 +107,30 @@ table-refusals bytes n e = table-among bytes .one n e
 
 pub table-bounds : (bytes : List ℕ) (n : ℕ) → readTable bytes ≡ refused n → (9 ≤ n) × (n ≤ 12)
 table-bounds bytes n e = among-between 9 12 tableRefusals n refl (table-refusals bytes n e)
+
+-- one column alone is refused with one of the numbers
+alone-among : (rows : ℕ) (bytes : List ℕ) → RefusedAmong tableRefusals (readAlone rows bytes)
+unfolding readAlone
+alone-among rows bytes =
+    require-among-then tableRefusals (leb rows rowsMost) 10 _ refl (λ _.
+    bind-among tableRefusals _ _ (parts-among rows bytes) (λ c.
+    require-among-then tableRefusals (eqb (length (c .rest)) 0) 9 _ refl (λ _. ok-among tableRefusals _)))
+
+-- the number of every refusal isn't 0
+pub record Numbered {A : Type 0} (m : Result A) : Type 0 where
+  pub numbers : (n : ℕ) → m ≡ refused n → 0 < n
+
+numbered : {A : Type 0} {m : Result A} → RefusedAmong tableRefusals m → Numbered m
+numbered r = record { numbers = λ n e. omega (arith, among-between 9 12 tableRefusals n refl (r .one n e) .0) }
+
+pub table-numbered : (bytes : List ℕ) → Numbered (readTable bytes)
+table-numbered bytes = numbered (table-among bytes)
+
+pub parts-numbered : (rows : ℕ) (bytes : List ℕ) → Numbered (readParts rows bytes)
+parts-numbered rows bytes = numbered (parts-among rows bytes)
+
+pub column-numbered : (rows : ℕ) (bytes : List ℕ) → Numbered (readColumn rows bytes)
+column-numbered rows bytes = numbered (column-among rows bytes)
+
+pub alone-numbered : (rows : ℕ) (bytes : List ℕ) → Numbered (readAlone rows bytes)
+alone-numbered rows bytes = numbered (alone-among rows bytes)

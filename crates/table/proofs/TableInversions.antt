@@ -1,12 +1,12 @@
 -- The reading of a table, taken backwards. Assumes nothing.
 use mathlib.Core.Path.{_≡_, sym, ap, _∙_}
-use mathlib.Core.Bool.{Bool, _&&_}
+use mathlib.Core.Bool.{_&&_}
 use mathlib.Core.List.{List}
 use Prim.Native.Nat.{ℕ, _<_, _≤_}
 use lib.Dec.{leb, ltb}
 use lib.ListN.{length}
 use borrow.Author.Tests.{ltb-true, leb-true}
-use Rattle.layout.specs.Result.{Result, ok}
+use Rattle.layout.specs.Result.{ok}
 use Rattle.layout.specs.Bytes.{number}
 use Rattle.layout.specs.Field.{Field}
 use Rattle.layout.proofs.ResultLaws.{bind-ok, ok-injective, require-then}

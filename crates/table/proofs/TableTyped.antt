@@ -1,12 +1,12 @@
 -- The entries of an accepted table are of their columns' types. Assumes nothing.
-use mathlib.Core.Bool.{Bool, true, false, cond, _&&_, _||_}
+use mathlib.Core.Bool.{Bool, true, false, cond, _||_}
 use mathlib.Core.Path.{_≡_, refl, subst}
 use mathlib.Core.List.{List, [], _∷_}
 use mathlib.Core.Option.{some}
 use Prim.Native.Nat.{ℕ, zero, suc, _*_, _^_, _<_, _≤_}
 use native.Mathlib.Nat.{pow-le-pow-right}
 use native.Mathlib.Omega.{arith}
-use lib.Dec.{eqb, leb, ltb}
+use lib.Dec.{eqb}
 use lib.ListN.{length, take, drop, getElem?, length-take}
 use borrow.Author.Tests.{lt-ltb}
 use Rattle.table.proofs.TableInversions.{table-inv}
@@ -21,7 +21,7 @@ use Rattle.scalar.specs.declared.types.DataType.the-variants.{Boolean, Int32, I
 use Rattle.scalar.specs.Types.{typeNumbered, markNumbered}
 use Rattle.scalar.specs.Entry.{null, ofType}
 use Rattle.table.specs.Column.{TableColumn, validIn, offsetAt, valueAt, entryAt}
-use Rattle.table.specs.Reading.{Part, neverFalls, valuesLength, noNull, bytesMost, rowsMost, columnsMost, tagged, taggedPair, readValidity, readTextOffsets, readOffsets, readValues, readBody, readParts, readColumn, readColumns, Table, readTable}
+use Rattle.table.specs.Reading.{Part, neverFalls, valuesLength, noNull, columnsMost, tagged, taggedPair, readValidity, readTextOffsets, readOffsets, readValues, readBody, readParts, readColumn, readColumns, Table, readTable}
 
 -- a number in k bytes is below 256 to the k
 pub numberAt-below : (k : ℕ) (l : List ℕ) (at : ℕ) → Bytes l → numberAt k l at < 256 ^ k

@@ -1,7 +1,7 @@
 -- A column of a table, by its parts, and its entries (01, Bytes of a table).
-use mathlib.Core.Bool.{Bool, true, false, cond, _&&_, _||_}
+use mathlib.Core.Bool.{Bool, true, cond}
 use mathlib.Core.List.{List, [], _∷_}
-use Prim.Native.Nat.{ℕ, zero, suc, _+_, _-_, _*_}
+use Prim.Native.Nat.{ℕ, suc, _-_, _*_}
 use lib.ListN.{take, drop}
 use Rattle.layout.specs.Bytes.{numberAt, bitAt}
 use Rattle.scalar.specs.declared.types.DataType.{DataType}

@@ -1,9 +1,9 @@
 -- What the answers of the reading's steps say, given the table's bytes.
 use mathlib.Core.Path.{_≡_}
 use mathlib.Core.Bool.{Bool}
-use mathlib.Core.List.{List, []}
-use Prim.Native.Nat.{ℕ, zero, suc, _^_, _<_, _≤_}
-use lib.ListN.{length, getD, drop}
+use mathlib.Core.List.{List}
+use Prim.Native.Nat.{ℕ, _^_, _<_}
+use lib.ListN.{length, drop}
 use lib.Dec.{eqb}
 use Rattle.layout.specs.Result.{Result, refused, ok, _>>=_, require}
 use Rattle.layout.specs.Bytes.{part}
@@ -11,8 +11,6 @@ use Rattle.layout.specs.Field.{Field}
 use Rattle.table.specs.declared.part.PartAnswer.{PartAnswer}
 use Rattle.table.specs.declared.part.PartAnswer.the-variants.{At, Refused}
 use Rattle.table.specs.declared.column.ColumnAnswer.{ColumnAnswer}
-use Rattle.table.specs.declared.places.TableAnswer.{TableAnswer}
-use Rattle.table.specs.declared.places.PlaceAnswer.{PlaceAnswer}
 use Rattle.table.specs.Column.{TableColumn}
 use Rattle.scalar.specs.declared.types.DataType.{DataType}
 use Rattle.scalar.specs.declared.value.Value.{Value}
@@ -20,7 +18,7 @@ use Rattle.scalar.specs.Entry.{Entry, entry}
 use Rattle.scalar.specs.Value.{meaning, Storable}
 use Rattle.scalar.specs.Types.{typeNumbered, markNumbered}
 use Rattle.table.specs.Reading.{Part, tagged, taggedPair, readValidity, readOffsets, valuesLength, readColumns, columnsMost, Table}
-use Rattle.table.specs.Places.{columnIn, Inside, ColumnInside, noPlace, readingIn}
+use Rattle.table.specs.Places.{Inside, noPlace, placeBehind, valuesEnd}
 
 -- a field of a tag by its place
 abbrev pub fieldMeans : List ℕ → ℕ → PartAnswer → Result Field
@@ -37,23 +35,24 @@ abbrev pub PartInside : ℕ → PartAnswer → Type 0
 PartInside size (At start end) = Inside size start end
 PartInside size (Refused n) = 0 < n
 
+-- what the reading of a field promises: its answer says what the definition reads, and its place lies in the bytes
 pub record FieldGives (bytes : List ℕ) (tag : ℕ) (definition : Result Field) (r : PartAnswer) : Type 0 where
   pub says : fieldMeans bytes tag r ≡ definition
   pub inside : PartInside (length bytes) r
 
+-- what the reading of a part promises: its answer says what the definition reads, and its place lies in the bytes
 pub record PartGives (bytes : List ℕ) (definition : Result (Part (List ℕ))) (r : PartAnswer) : Type 0 where
   pub says : partMeans bytes r ≡ definition
   pub inside : PartInside (length bytes) r
 
--- a column by its places: 0 is read, any other number a refusal
-abbrev pub columnMeans : List ℕ → ℕ → ColumnAnswer → Result (Part TableColumn)
-columnMeans bytes zero r = ok (record { part = columnIn bytes (r .place); rest = drop (r .next) bytes })
-columnMeans bytes (suc n) r = refused (suc n)
+-- a refusal of a column: the number and nothing else
+abbrev pub refusedColumn : ℕ → ColumnAnswer
+refusedColumn n = record { refused = n; place = noPlace; next = 0 }
 
-pub record ColumnGives (bytes : List ℕ) (definition : Result (Part TableColumn)) (r : ColumnAnswer) : Type 0 where
-  pub says : columnMeans bytes (r .refused) r ≡ definition
-  pub inside : r .refused ≡ 0 → ColumnInside (length bytes) (r .place)
-  pub ends : r .refused ≡ 0 → r .next ≤ length bytes
+-- a column whose validity starts at a place, by its places and where the bytes behind it start
+abbrev pub columnAnswer : ℕ → Result (Part TableColumn) → ColumnAnswer
+columnAnswer at (refused n) = refusedColumn n
+columnAnswer at (ok c) = record { refused = 0; place = placeBehind at (c .part); next = valuesEnd at (c .part) }
 
 -- tag 4 of a length, else 11
 unfoldable pub valuesOfLength : ℕ → List ℕ → Result (Part (List ℕ))
@@ -64,47 +63,32 @@ valuesOfLength size bytes = do
 
 -- ---- the reading of a column, step by step: `readBody` from its values backwards
 
+-- a column from its values on
 unfoldable pub valuesStep : DataType → Bool → List ℕ → List ℕ → ℕ → List ℕ → Result (Part TableColumn)
 valuesStep t n validity offsets rows bytes = do
   values ← valuesOfLength (valuesLength t rows offsets) bytes
   ok (record { part = record { type = t; nullable = n; validity = validity; offsets = offsets; values = values .part }; rest = values .rest })
 
+-- a column from its offsets on
 unfoldable pub offsetsStep : DataType → Bool → List ℕ → ℕ → List ℕ → Result (Part TableColumn)
 offsetsStep t n validity rows bytes = do
   offsets ← readOffsets t rows bytes
   valuesStep t n validity (offsets .part) rows (offsets .rest)
 
+-- a column from its validity on
 unfoldable pub validityStep : DataType → Bool → ℕ → List ℕ → Result (Part TableColumn)
 validityStep t n rows bytes = do
   validity ← readValidity rows bytes
   offsetsStep t n (validity .part) rows (validity .rest)
 
+-- a column from its type and its nullable mark on
 unfoldable pub headStep : ℕ → ℕ → ℕ → List ℕ → Result (Part TableColumn)
 headStep kind mark rows bytes = do
   t ← typeNumbered 11 kind
   n ← markNumbered 11 mark
   validityStep t n rows bytes
 
--- a refusal with a number
-pub record Refuses (n : ℕ) (r : ColumnAnswer) : Type 0 where
-  pub number : r .refused ≡ n
-
--- a refusal of one column with a number
-pub record PlaceRefuses (n : ℕ) (r : PlaceAnswer) : Type 0 where
-  pub number : r .refused ≡ n
-
 -- ---- the columns
-
--- a table by its places, beside what a step gives
-pub record TableGives (bytes : List ℕ) (definition : Result Table) (r : TableAnswer) : Type 0 where
-  pub says : readingIn bytes (r .refused) (r .table) ≡ definition
-  pub few : r .table .count ≤ 16
-  pub inside : r .refused ≡ 0 → (i : ℕ) → i < r .table .count → ColumnInside (length bytes) (getD (r .table .columns) i noPlace)
-
--- a refusal with a number
-pub record TableRefuses (n : ℕ) (r : TableAnswer) : Type 0 where
-  pub number : r .refused ≡ n
-  pub none : r .table .count ≡ 0
 
 -- bytes behind the last column that a table may have
 unfoldable pub oneMore : List ℕ → Result Table

@@ -1,21 +1,20 @@
--- What the places of a table say: the columns that its bytes hold there.
+-- Where the parts of a table stand, and what the places say: the columns that its bytes hold there.
 use mathlib.Core.Path.{_≡_}
-use mathlib.Core.Bool.{Bool, false}
-use mathlib.Core.List.{List, [], map}
+use mathlib.Core.Bool.{false}
+use mathlib.Core.List.{List, [], _∷_, _++_, map}
 use mathlib.Core.Option.{Option, some, none}
-use Prim.Native.Nat.{ℕ, zero, suc, _^_, _≤_, _<_}
-use lib.ListN.{length, getD, getElem?, take}
+use Prim.Native.Nat.{ℕ, zero, suc, _+_, _-_, _≤_, _<_}
+use lib.ListN.{length, getD, getElem?, take, replicate}
 use Rattle.layout.specs.Result.{Result, refused, ok}
 use Rattle.layout.specs.Bytes.{part}
 use Rattle.table.specs.declared.places.ColumnPlace.{ColumnPlace}
 use Rattle.table.specs.declared.places.Table.{Table as TablePlaces}
 use Rattle.table.specs.declared.places.TableAnswer.{TableAnswer}
 use Rattle.table.specs.declared.places.PlaceAnswer.{PlaceAnswer}
-use Rattle.scalar.specs.declared.types.DataType.the-variants.{Boolean}
-use Rattle.table.specs.declared.answer.EntryAnswer.{EntryAnswer}
+use Rattle.scalar.specs.declared.types.DataType.{DataType}
+use Rattle.scalar.specs.declared.types.DataType.the-variants.{Boolean, Int32, Int64, Float64, Utf8}
 use Rattle.table.specs.Column.{TableColumn}
 use Rattle.table.specs.Reading.{Table, readTable, readAlone}
-use Rattle.table.specs.Answers.{entryAnswer, entryOfTable, StorableAnswer}
 
 -- the column that bytes hold at a place
 abbrev pub columnIn : List ℕ → ColumnPlace → TableColumn
@@ -60,7 +59,69 @@ noPlace = record {
   «values_end» = 0;
 }
 
--- what the reading of a table promises: its answer says what the definition reads, and where it is accepted, its places lie in the bytes
+-- ---- where the parts stand (01, Bytes of a table)
+
+-- where offsets start behind a validity: behind the header of tag 5, which only text has
+abbrev pub offsetsStart : DataType → ℕ → ℕ
+offsetsStart Boolean at = at
+offsetsStart Int32 at = at
+offsetsStart Int64 at = at
+offsetsStart Float64 at = at
+offsetsStart Utf8 at = at + 3
+
+-- where the offsets of a column end whose validity starts at a place
+abbrev pub offsetsEnd : ℕ → TableColumn → ℕ
+offsetsEnd at c = offsetsStart (c .type) (at + length (c .validity)) + length (c .offsets)
+
+-- where its values end: they stand behind the offsets and the header of tag 4
+abbrev pub valuesEnd : ℕ → TableColumn → ℕ
+valuesEnd at c = offsetsEnd at c + 3 + length (c .values)
+
+-- where the parts of a column stand whose validity starts at a place
+abbrev pub placeBehind : ℕ → TableColumn → ColumnPlace
+placeBehind at c = record {
+  «data_type» = c .type;
+  nullable = c .nullable;
+  «validity_start» = at;
+  «validity_end» = at + length (c .validity);
+  «offsets_start» = offsetsStart (c .type) (at + length (c .validity));
+  «offsets_end» = offsetsEnd at c;
+  «values_start» = offsetsEnd at c + 3;
+  «values_end» = valuesEnd at c;
+}
+
+-- where the parts of a column stand that starts at a place: tag 2 takes five bytes, the header of tag 3 three
+abbrev pub placeFrom : ℕ → TableColumn → ColumnPlace
+placeFrom at c = placeBehind (at + 8) c
+
+-- where a column ends that starts at a place
+abbrev pub columnEnd : ℕ → TableColumn → ℕ
+columnEnd at c = valuesEnd (at + 8) c
+
+-- columns stand one behind the other
+unfoldable pub placesFrom : ℕ → List TableColumn → List ColumnPlace
+placesFrom at [] = []
+placesFrom at (c ∷ cs) = placeFrom at c ∷ placesFrom (columnEnd at c) cs
+
+-- places in 16 slots, those behind the last column empty
+abbrev pub placesIn16 : List ColumnPlace → List ColumnPlace
+placesIn16 places = places ++ replicate (16 - length places) noPlace
+
+-- the answer of a reading whose columns start at a place: where the parts stand, or the number and nothing else (01, Where a call stops)
+abbrev pub tableAnswerFrom : ℕ → Result Table → TableAnswer
+tableAnswerFrom at (refused n) = record { refused = n; table = record { rows = 0; count = 0; columns = replicate 16 noPlace } }
+tableAnswerFrom at (ok t) = record { refused = 0; table = record { rows = t .rows; count = length (t .columns); columns = placesIn16 (placesFrom at (t .columns)) } }
+
+-- the answer of the reading of a table: its columns start behind tag 1, which takes five bytes
+unfoldable pub tableAnswer : Result Table → TableAnswer
+tableAnswer = tableAnswerFrom 5
+
+-- the answer of the reading of one column that is the whole of the bytes: where its parts stand, or the number and nothing else
+unfoldable pub aloneAnswer : Result TableColumn → PlaceAnswer
+aloneAnswer (refused n) = record { refused = n; place = noPlace }
+aloneAnswer (ok c) = record { refused = 0; place = placeFrom 0 c }
+
+-- what the answer of a table's reading means: it says what the definition reads, and where it is accepted, its places lie in the bytes
 pub record TableRead (bytes : List ℕ) (r : TableAnswer) : Type 0 where
   pub says : readingIn bytes (r .refused) (r .table) ≡ readTable bytes
   pub few : r .table .count ≤ 16
@@ -71,7 +132,7 @@ abbrev pub placeIn : List ℕ → ℕ → ColumnPlace → Result TableColumn
 placeIn bytes zero p = ok (columnIn bytes p)
 placeIn bytes (suc n) p = refused (suc n)
 
--- what the reading of one column promises: its answer says what the definition reads, and where there is one, its places lie in the bytes
+-- what the answer of one column's reading means: it says what the definition reads, and where there is one, its places lie in the bytes
 pub record AloneRead (bytes : List ℕ) (rows : ℕ) (r : PlaceAnswer) : Type 0 where
   pub says : placeIn bytes (r .refused) (r .place) ≡ readAlone rows bytes
   pub inside : r .refused ≡ 0 → ColumnInside (length bytes) (r .place)
@@ -84,8 +145,3 @@ partOfColumn choose (some c) = choose c
 -- the validity, offsets or values of a column, as the part of the table's bytes that holds them (01, Bytes of a table)
 abbrev pub partIn : (TableColumn → List ℕ) → List ℕ → TablePlaces → ℕ → List ℕ
 partIn choose bytes t column = partOfColumn choose (getElem? (tableIn bytes t .columns) column)
-
--- what the entry at a place promises: its answer says what the table has there, and its value can be stored where the table is shorter than 2 ^ 32 bytes
-pub record EntryGives (bytes : List ℕ) (t : Result Table) (column row : ℕ) (r : EntryAnswer) : Type 0 where
-  pub says : entryAnswer bytes r ≡ entryOfTable t column row
-  pub stores : length bytes < 2 ^ 32 → StorableAnswer r

@@ -1,11 +1,11 @@
 -- Reading a table. The order of the tests is document 01's order of numbers (01, Where a call stops: 9 to 12).
-use mathlib.Core.Bool.{Bool, true, false, cond, not, _&&_, _||_}
+use mathlib.Core.Bool.{Bool, true, _&&_, _||_}
 use mathlib.Core.List.{List, [], _∷_}
-use Prim.Native.Nat.{ℕ, zero, suc, _+_, _*_}
+use Prim.Native.Nat.{ℕ, zero, suc, _*_}
 use lib.Dec.{eqb, leb, ltb}
 use lib.ListN.{length, drop}
 use Rattle.layout.specs.Result.{Result, refused, ok, _>>=_, require}
-use Rattle.layout.specs.Bytes.{byte, number, numberAt, bitmapLength}
+use Rattle.layout.specs.Bytes.{byte, number, bitmapLength}
 use Rattle.layout.specs.Field.{Field, header}
 use Rattle.scalar.specs.declared.types.DataType.{DataType}
 use Rattle.scalar.specs.declared.types.DataType.the-variants.{Boolean, Int32, Int64, Float64, Utf8}
@@ -114,17 +114,20 @@ readColumns rows (suc left) (b ∷ bytes) = do
   cs ← readColumns rows left (c .rest)
   ok (c .part ∷ cs)
 
+-- a table: its row count and its columns
 pub record Table : Type 0 where
   pub rows : ℕ
   pub columns : List TableColumn
 
--- empty or above 65,536 bytes: 9; above 512 rows or 16 columns: 10
+-- the most bytes of a table; empty or above it: 9
 abbrev pub bytesMost : ℕ
 bytesMost = 65536
 
+-- the most rows; above it: 10
 abbrev pub rowsMost : ℕ
 rowsMost = 512
 
+-- the most columns; at one more: 10
 abbrev pub columnsMost : ℕ
 columnsMost = 16
 

@@ -2,12 +2,14 @@
 use crate::column::column_parts;
 use crate::column::no_place;
 use crate::places::PlaceAnswer;
-ghost use Rattle.table.specs.Places.{AloneRead};
-ghost use Rattle.table.specs.Parts.{PlaceRefuses};
+ghost use mathlib.Core.Path.{_≡_};
+ghost use Rattle.layout.specs.Result.{refused};
+ghost use Rattle.table.specs.Reading.{readAlone};
+ghost use Rattle.table.specs.Places.{aloneAnswer};
 
 // A column that is refused.
 fn refuse_place(n: u8) -> PlaceAnswer
-    ensures { λ r. ⌜ PlaceRefuses n r ⌝ }
+    ensures { λ r. ⌜ r ≡ aloneAnswer (refused n) ⌝ }
 {
     PlaceAnswer {
         refused: n,
@@ -17,7 +19,7 @@ fn refuse_place(n: u8) -> PlaceAnswer
 
 // Where the parts of the one column of so many rows stand, or the number with which it is refused: above 512 rows 10, bytes behind the column 9.
 pub fn read_alone(bytes: &[u8], rows: usize) -> PlaceAnswer
-    ensures { λ r. ⌜ AloneRead (now (bytes .entry)) rows r ⌝ }
+    ensures { λ r. ⌜ r ≡ aloneAnswer (readAlone rows (now (bytes .entry))) ⌝ }
 {
     if 512 < rows {
         return refuse_place(10);

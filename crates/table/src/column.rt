@@ -13,12 +13,12 @@ use scalar::types::DataType;
 use scalar::types::TypeAnswer;
 use scalar::types::type_numbered;
 ghost use mathlib.Core.Path.{_≡_};
-ghost use Prim.Native.Nat.{_≤_};
+ghost use Prim.Native.Nat.{_+_, _≤_};
 ghost use lib.ListN.{length, drop};
 ghost use Rattle.layout.specs.Bytes.{part};
-ghost use Rattle.table.specs.Places.{Inside, noPlace};
+ghost use Rattle.table.specs.Places.{Inside, noPlace, offsetsStart};
 ghost use Rattle.table.specs.Reading.{noNull, readParts, readColumn};
-ghost use Rattle.table.specs.Parts.{ColumnGives, Refuses, valuesStep, offsetsStep, validityStep, headStep};
+ghost use Rattle.table.specs.Parts.{refusedColumn, columnAnswer, valuesStep, offsetsStep, validityStep, headStep};
 
 // The places of a column and where the bytes behind it start, or the number with which the table is refused (0: none).
 pub(crate) struct ColumnAnswer {
@@ -45,7 +45,7 @@ pub(crate) fn no_place() -> ColumnPlace
 
 // A refusal.
 fn refuse(n: u8) -> ColumnAnswer
-    ensures { λ r. ⌜ Refuses n r ⌝ }
+    ensures { λ r. ⌜ r ≡ refusedColumn n ⌝ }
 {
     ColumnAnswer {
         refused: n,
@@ -65,8 +65,8 @@ fn with_offsets(
     oe: usize,
     rows: usize,
 ) -> ColumnAnswer
-    requires { ⌜ (rows ≤ 512) × Inside (length (now bytes)) vs ve × Inside (length (now bytes)) os oe ⌝ }
-    ensures { λ r. ⌜ ColumnGives (now (bytes .entry)) (valuesStep kind nullable (part (now (bytes .entry)) vs ve) (part (now (bytes .entry)) os oe) rows (drop oe (now (bytes .entry)))) r ⌝ }
+    requires { ⌜ (rows ≤ 512) × Inside (length (now bytes)) vs ve × Inside (length (now bytes)) os oe × (os ≡ offsetsStart kind ve) ⌝ }
+    ensures { λ r. ⌜ r ≡ columnAnswer vs (valuesStep kind nullable (part (now (bytes .entry)) vs ve) (part (now (bytes .entry)) os oe) rows (drop oe (now (bytes .entry)))) ⌝ }
 {
     let size = values_length(kind, rows, &bytes[os..oe]);
     match values_part(bytes, oe, size) {
@@ -98,7 +98,7 @@ fn with_validity(
     rows: usize,
 ) -> ColumnAnswer
     requires { ⌜ (rows ≤ 512) × Inside (length (now bytes)) vs ve ⌝ }
-    ensures { λ r. ⌜ ColumnGives (now (bytes .entry)) (offsetsStep kind nullable (part (now (bytes .entry)) vs ve) rows (drop ve (now (bytes .entry)))) r ⌝ }
+    ensures { λ r. ⌜ r ≡ columnAnswer vs (offsetsStep kind nullable (part (now (bytes .entry)) vs ve) rows (drop ve (now (bytes .entry)))) ⌝ }
 {
     match offsets_part(bytes, ve, kind, rows) {
         PartAnswer::Refused(n) => refuse(n),
@@ -109,7 +109,7 @@ fn with_validity(
 // The parts behind the type and the nullable mark.
 fn with_type(bytes: &[u8], kind: DataType, nullable: bool, at: usize, rows: usize) -> ColumnAnswer
     requires { ⌜ rows ≤ 512 ⌝ }
-    ensures { λ r. ⌜ ColumnGives (now (bytes .entry)) (validityStep kind nullable rows (drop at (now (bytes .entry)))) r ⌝ }
+    ensures { λ r. ⌜ r ≡ columnAnswer (at + 3) (validityStep kind nullable rows (drop at (now (bytes .entry)))) ⌝ }
 {
     match validity_part(bytes, at, rows) {
         PartAnswer::Refused(n) => refuse(n),
@@ -120,7 +120,7 @@ fn with_type(bytes: &[u8], kind: DataType, nullable: bool, at: usize, rows: usiz
 // The type and the nullable mark (11), and the parts behind them.
 fn with_head(bytes: &[u8], kind: u8, mark: u8, at: usize, rows: usize) -> ColumnAnswer
     requires { ⌜ rows ≤ 512 ⌝ }
-    ensures { λ r. ⌜ ColumnGives (now (bytes .entry)) (headStep kind mark rows (drop at (now (bytes .entry)))) r ⌝ }
+    ensures { λ r. ⌜ r ≡ columnAnswer (at + 3) (headStep kind mark rows (drop at (now (bytes .entry)))) ⌝ }
 {
     match type_numbered(kind) {
         TypeAnswer::Unknown => refuse(11),
@@ -136,7 +136,7 @@ fn with_head(bytes: &[u8], kind: u8, mark: u8, at: usize, rows: usize) -> Column
 // A column, whatever its nulls.
 pub(crate) fn column_parts(bytes: &[u8], at: usize, rows: usize) -> ColumnAnswer
     requires { ⌜ rows ≤ 512 ⌝ }
-    ensures { λ r. ⌜ ColumnGives (now (bytes .entry)) (readParts rows (drop at (now (bytes .entry)))) r ⌝ }
+    ensures { λ r. ⌜ r ≡ columnAnswer (at + 8) (readParts rows (drop at (now (bytes .entry)))) ⌝ }
 {
     match tagged_pair(bytes, at, 2) {
         PartAnswer::Refused(n) => refuse(n),
@@ -167,7 +167,7 @@ pub(crate) fn no_null(validity: &[u8], rows: usize) -> bool
 // A column: a null in one that isn't nullable is 12.
 pub(crate) fn column_at(bytes: &[u8], at: usize, rows: usize) -> ColumnAnswer
     requires { ⌜ rows ≤ 512 ⌝ }
-    ensures { λ r. ⌜ ColumnGives (now (bytes .entry)) (readColumn rows (drop at (now (bytes .entry)))) r ⌝ }
+    ensures { λ r. ⌜ r ≡ columnAnswer (at + 8) (readColumn rows (drop at (now (bytes .entry)))) ⌝ }
 {
     let c = column_parts(bytes, at, rows);
     if c.refused != 0 {

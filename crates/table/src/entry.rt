@@ -12,14 +12,10 @@ use scalar::value::Value;
 use scalar::value::float_value;
 ghost use mathlib.Core.Path.{_≡_};
 ghost use Prim.Native.Nat.{_*_};
-ghost use Rattle.layout.specs.Bytes.{numberAt, part};
-ghost use Rattle.layout.specs.Result.{ok};
-ghost use Rattle.scalar.specs.Entry.{utf8};
+ghost use Rattle.layout.specs.Bytes.{numberAt};
 ghost use Rattle.scalar.specs.declared.types.DataType.the-variants.{Utf8};
-ghost use Rattle.table.specs.Column.{validIn, textBetween, valueAt, entryAt};
-ghost use Rattle.table.specs.Reading.{readTable};
-ghost use Rattle.table.specs.Places.{columnIn, tableIn, EntryGives};
-ghost use Rattle.table.specs.Parts.{ValueGives};
+ghost use Rattle.table.specs.Column.{validIn};
+ghost use Rattle.table.specs.Answers.{textBetweenValue, valueIn, entryValue, entryAtPlaces, entryOfBytes};
 
 // Whether a row has a value: length 0 means no null.
 pub fn valid_at(validity: &[u8], row: usize) -> bool
@@ -53,7 +49,7 @@ pub fn row_u64(values: &[u8], row: usize) -> u64
 
 // The text between two offsets of the part from start to end, by its place in the whole of the bytes.
 pub fn text_between(bytes: &[u8], start: usize, end: usize, from: usize, to: usize) -> Value
-    ensures { λ r. ⌜ ValueGives (now (bytes .entry)) (utf8 (textBetween from to (part (now (bytes .entry)) start end))) r ⌝ }
+    ensures { λ r. ⌜ r ≡ textBetweenValue (now (bytes .entry)) start end from to ⌝ }
 {
     let size = part_of(bytes, start, end).len();
     let last = if to < size { to } else { size };
@@ -65,7 +61,7 @@ pub fn text_between(bytes: &[u8], start: usize, end: usize, from: usize, to: usi
 
 // The text of a row.
 fn text_at(bytes: &[u8], place: ColumnPlace, row: usize) -> Value
-    ensures { λ r. ⌜ ValueGives (now (bytes .entry)) (valueAt Utf8 (columnIn (now (bytes .entry)) place .offsets) (columnIn (now (bytes .entry)) place .values) row) r ⌝ }
+    ensures { λ r. ⌜ r ≡ valueIn Utf8 (now (bytes .entry)) place row ⌝ }
 {
     let offsets = part_of(bytes, place.offsets_start, place.offsets_end);
     if offsets.len() / 4 < row {
@@ -78,7 +74,7 @@ fn text_at(bytes: &[u8], place: ColumnPlace, row: usize) -> Value
 
 // The value of a row, whatever its validity.
 fn value_at(bytes: &[u8], place: ColumnPlace, row: usize) -> Value
-    ensures { λ r. ⌜ ValueGives (now (bytes .entry)) (valueAt (place .«data_type») (columnIn (now (bytes .entry)) place .offsets) (columnIn (now (bytes .entry)) place .values) row) r ⌝ }
+    ensures { λ r. ⌜ r ≡ valueIn (place .«data_type») (now (bytes .entry)) place row ⌝ }
 {
     let values = part_of(bytes, place.values_start, place.values_end);
     let kind = place.data_type;
@@ -93,7 +89,7 @@ fn value_at(bytes: &[u8], place: ColumnPlace, row: usize) -> Value
 
 // The entry of a row: null or its value.
 pub fn entry_in(bytes: &[u8], place: ColumnPlace, row: usize) -> Value
-    ensures { λ r. ⌜ ValueGives (now (bytes .entry)) (entryAt (columnIn (now (bytes .entry)) place) row) r ⌝ }
+    ensures { λ r. ⌜ r ≡ entryValue (now (bytes .entry)) place row ⌝ }
 {
     let validity = part_of(bytes, place.validity_start, place.validity_end);
     if valid_at(validity, row) {
@@ -105,7 +101,7 @@ pub fn entry_in(bytes: &[u8], place: ColumnPlace, row: usize) -> Value
 
 // The entry of a column at a row of the table at the places, whether or not they lie in the bytes.
 pub fn entry_at(bytes: &[u8], t: Table, column: usize, row: usize) -> EntryAnswer
-    ensures { λ r. ⌜ EntryGives (now (bytes .entry)) (ok (tableIn (now (bytes .entry)) t)) column row r ⌝ }
+    ensures { λ r. ⌜ r ≡ entryAtPlaces (now (bytes .entry)) t column row ⌝ }
 {
     if t.count <= column {
         return EntryAnswer::NoColumn;
@@ -122,7 +118,7 @@ pub fn entry_at(bytes: &[u8], t: Table, column: usize, row: usize) -> EntryAnswe
 
 // The entry of a column at a row of a table.
 pub fn entry(bytes: &[u8], column: usize, row: usize) -> EntryAnswer
-    ensures { λ r. ⌜ EntryGives (now (bytes .entry)) (readTable (now (bytes .entry))) column row r ⌝ }
+    ensures { λ r. ⌜ r ≡ entryOfBytes (now (bytes .entry)) column row ⌝ }
 {
     let answer = read(bytes);
     if answer.refused != 0 {

@@ -6,14 +6,17 @@ use crate::part::tagged_pair;
 use crate::places::Table;
 use crate::places::TableAnswer;
 use layout::number::read_u16;
+ghost use mathlib.Core.Path.{_≡_};
 ghost use Prim.Native.Nat.{_≤_};
 ghost use lib.ListN.{length, drop};
-ghost use Rattle.table.specs.Places.{TableRead};
-ghost use Rattle.table.specs.Parts.{TableGives, TableRefuses, oneMore, columnsStep};
+ghost use Rattle.layout.specs.Result.{refused};
+ghost use Rattle.table.specs.Reading.{readTable};
+ghost use Rattle.table.specs.Places.{tableAnswerFrom, tableAnswer};
+ghost use Rattle.table.specs.Parts.{oneMore, columnsStep};
 
 // A table that is refused.
 fn refuse_table(n: u8) -> TableAnswer
-    ensures { λ r. ⌜ TableRefuses n r ⌝ }
+    ensures { λ r. ⌜ r ≡ tableAnswer (refused n) ⌝ }
 {
     TableAnswer {
         refused: n,
@@ -27,7 +30,7 @@ fn refuse_table(n: u8) -> TableAnswer
 
 // Bytes behind the last column that a table may have: 10 if a column starts there, else 9.
 fn one_more(bytes: &[u8], at: usize) -> TableAnswer
-    ensures { λ r. ⌜ TableGives (now (bytes .entry)) (oneMore (drop at (now (bytes .entry)))) r ⌝ }
+    ensures { λ r. ⌜ r ≡ tableAnswer (oneMore (drop at (now (bytes .entry)))) ⌝ }
 {
     match tagged_pair(bytes, at, 2) {
         PartAnswer::Refused(n) => refuse_table(n),
@@ -38,7 +41,7 @@ fn one_more(bytes: &[u8], at: usize) -> TableAnswer
 // The columns from a place to the end of the bytes, at most 16.
 fn columns_from(bytes: &[u8], first: usize, rows: usize) -> TableAnswer
     requires { ⌜ (rows ≤ 512) × (first ≤ length (now bytes)) ⌝ }
-    ensures { λ r. ⌜ TableGives (now (bytes .entry)) (columnsStep rows (drop first (now (bytes .entry)))) r ⌝ }
+    ensures { λ r. ⌜ r ≡ tableAnswerFrom first (columnsStep rows (drop first (now (bytes .entry)))) ⌝ }
 {
     let mut columns = [no_place(); 16];
     let mut count = 0;
@@ -68,7 +71,7 @@ fn columns_from(bytes: &[u8], first: usize, rows: usize) -> TableAnswer
 
 // Where the parts of a table stand, or the number with which it is refused.
 pub fn read(bytes: &[u8]) -> TableAnswer
-    ensures { λ r. ⌜ TableRead (now (bytes .entry)) r ⌝ }
+    ensures { λ r. ⌜ r ≡ tableAnswer (readTable (now (bytes .entry))) ⌝ }
 {
     if bytes.len() == 0 {
         return refuse_table(9);

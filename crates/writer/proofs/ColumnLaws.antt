@@ -22,7 +22,8 @@ use Rattle.scalar.specs.TryCast.{orNull}
 use Rattle.scalar.specs.Types.{typeNumber, markNumber}
 use Rattle.writer.specs.Written.{rowsFrom}
 use Rattle.writer.specs.Answer as answer
-use Rattle.writer.specs.Answer.{someNull, validityOf, numberIn, numbersOf, textsOf, offsetsFrom, offsetsOf, valuesOf, columnOf, offsetsField, columnBytes}
+use Rattle.table.specs.TableBytes.{offsetsField, columnBytes}
+use Rattle.writer.specs.Answer.{someNull, validityOf, numberIn, numbersOf, textsOf, offsetsFrom, offsetsOf, valuesOf, columnOf}
 use Rattle.writer.specs.Writing.{rowBytes, anyRow, someOfKind, rowEntry, rowEntries, trueOf, numberOf, widthOf, flagAt, bitsFrom, rowBits, rowNumbers, rowText, rowOffset, rowValidity, rowValues, rowColumn}
 use Rattle.writer.proofs.RowKindLaws.{none-at}
 use Rattle.writer.proofs.RowBitLaws.{flag-out, bits-lt}

@@ -22,12 +22,14 @@ use Rattle.scalar.specs.TryCast.{orNull}
 use Rattle.scalar.specs.Types.{typeNumber, markNumber}
 use Rattle.writer.specs.declared.RunAnswer.{RunAnswer}
 use Rattle.writer.specs.declared.RunAnswer.the-variants.{Answered, Refused}
-use Rattle.writer.specs.Answer.{columnOf, columnBytes, textLength}
+use Rattle.table.specs.TableBytes.{columnBytes}
+use Rattle.table.proofs.ReadBack.{length-field}
+use Rattle.writer.specs.Answer.{columnOf, textLength}
 use Rattle.writer.specs.Written.{rowsFrom, entriesOf, textMost, writtenAs, runAnswer, outputAfter}
 use Rattle.writer.specs.Slots.{slotAt}
 use Rattle.writer.specs.Write.{rowOutcomes, rowsRun, WriteGives, WriteAsks, kindFits}
 use Rattle.writer.specs.Writing.{wrote, Wrote, rowBytes, someOfKind, rowEntries, rowText, rowOffset, rowValidity, rowValues, rowColumn, validitySize, valuesSize}
-use Rattle.writer.proofs.WroteLaws.{length-field, wrote-as}
+use Rattle.writer.proofs.WroteLaws.{wrote-as}
 use Rattle.writer.proofs.ColumnPutLaws.{bits-size, numbers-size, offsets-size, rows-empty, validity-size}
 use Rattle.writer.proofs.RowKindLaws.{none-at, some-at}
 use Rattle.writer.proofs.ColumnLaws.{texts-rows, column-rows}

@@ -105,11 +105,6 @@ unfolding fieldBytes
 wrote-field {out} {at} {tag} {size} {content} e a b =
     wrote-then (wrote-as (ap (λ (n : ℕ). tag ∷ numberBytes 2 n) e) a) b
 
--- a field takes three bytes more than its content
-pub length-field : (tag : ℕ) (content : List ℕ) → length (fieldBytes tag content) ≡ 3 + length content
-unfolding fieldBytes
-length-field tag content = omega (arith, length-append (numberBytes 2 (length content)) content, length-numberBytes 2 (length content))
-
 -- ---- a copy, byte by byte
 
 -- where the loop stands: i bytes are copied

@@ -4,10 +4,8 @@ use mathlib.Core.List.{List, [], _∷_, _++_, map}
 use Prim.Native.Nat.{ℕ, _+_}
 use lib.ListN.{length}
 use Rattle.layout.specs.Bytes.{numberBytes, bitmap}
-use Rattle.layout.specs.Field.{fieldBytes}
 use Rattle.scalar.specs.declared.types.DataType.{DataType}
 use Rattle.scalar.specs.declared.types.DataType.the-variants.{Boolean, Int32, Int64, Float64, Utf8}
-use Rattle.scalar.specs.Types.{typeNumber, markNumber}
 use Rattle.scalar.specs.Entry.{Entry, null, boolean, int32, int64, float64, utf8, isNull, isTrue}
 use Rattle.table.specs.Column.{TableColumn}
 
@@ -72,20 +70,6 @@ valuesOf Utf8 es = textsOf es
 -- the column of a type, a nullable byte and entries
 abbrev pub columnOf : DataType → Bool → List Entry → TableColumn
 columnOf t n es = record { type = t; nullable = n; validity = validityOf es; offsets = offsetsOf t es; values = valuesOf t es }
-
--- tag 5 for text only
-abbrev pub offsetsField : DataType → List ℕ → List ℕ
-offsetsField Boolean offsets = []
-offsetsField Int32 offsets = []
-offsetsField Int64 offsets = []
-offsetsField Float64 offsets = []
-offsetsField Utf8 offsets = fieldBytes 5 offsets
-
--- tags 2, 3, 5 for text only, 4
-unfoldable pub columnBytes : TableColumn → List ℕ
-columnBytes c =
-    fieldBytes 2 (typeNumber (c .type) ∷ markNumber (c .nullable) ∷ [])
-    ++ (fieldBytes 3 (c .validity) ++ (offsetsField (c .type) (c .offsets) ++ fieldBytes 4 (c .values)))
 
 -- the answer's text in all
 abbrev pub textLength : List Entry → ℕ

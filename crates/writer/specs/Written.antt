@@ -9,7 +9,8 @@ use Rattle.scalar.specs.Entry.{Entry, Outcome, entry, unfit}
 use Rattle.scalar.specs.declared.types.DataType.{DataType}
 use Rattle.writer.specs.declared.RunAnswer.{RunAnswer}
 use Rattle.writer.specs.declared.RunAnswer.the-variants.{Answered, Refused}
-use Rattle.writer.specs.Answer.{columnOf, columnBytes, textLength}
+use Rattle.table.specs.TableBytes.{columnBytes}
+use Rattle.writer.specs.Answer.{columnOf, textLength}
 
 -- so many row numbers, rising
 unfoldable pub rowsFrom : ℕ → ℕ → List ℕ

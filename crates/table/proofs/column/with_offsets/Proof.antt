@@ -18,4 +18,4 @@ with-offsets-spec =
     (λ c κs. search needs)
     (λ c. search needs)
     (λ c. whole-refused (now (c .before .before .before .before .before .before .before .before .args .bytes)) (c .before .before .before .before .before .before .before .before .args .kind) (c .before .before .before .before .before .before .before .before .args .nullable) (c .before .before .before .before .before .before .before .before .args .vs) (c .before .before .before .before .before .before .before .before .args .ve) (c .before .before .before .before .before .before .before .before .args .os) (c .before .before .before .before .before .before .before .before .args .oe) (c .before .before .before .before .before .before .before .before .args .rows) (c .before .before .before .before .before .values-length .result) (c .before .before .before .before .before .values-length .ensures) (c .before .before .before .before .values-part .result) (c .before .before .before .before .values-part .ensures) (c .before .before .n .given .0 .0) (c .refuse .result) (c .before .before .n .given .1) (c .refuse .ensures))
-    (λ c. whole-column (now (c .before .before .before .before .before .before .before .args .bytes)) (c .before .before .before .before .before .before .before .args .kind) (c .before .before .before .before .before .before .before .args .nullable) (c .before .before .before .before .before .before .before .args .vs) (c .before .before .before .before .before .before .before .args .ve) (c .before .before .before .before .before .before .before .args .os) (c .before .before .before .before .before .before .before .args .oe) (c .before .before .before .before .before .before .before .args .rows) (c .before .before .before .before .values-length .result) (c .before .before .before .before .values-length .ensures) (c .before .before .before .values-part .result) (c .before .before .before .values-part .ensures) (c .before .before .before .before .before .before .before .pre .1) (c .before .before .before .before .before .before .before .pre .2) (c .before .begin .given .0 .0) (c .before .begin .given .0 .1 .0) (c .before .begin .given .1)))
+    (λ c. whole-column (now (c .before .before .before .before .before .before .before .args .bytes)) (c .before .before .before .before .before .before .before .args .kind) (c .before .before .before .before .before .before .before .args .nullable) (c .before .before .before .before .before .before .before .args .vs) (c .before .before .before .before .before .before .before .args .ve) (c .before .before .before .before .before .before .before .args .os) (c .before .before .before .before .before .before .before .args .oe) (c .before .before .before .before .before .before .before .args .rows) (c .before .before .before .before .values-length .result) (c .before .before .before .before .values-length .ensures) (c .before .before .before .values-part .result) (c .before .before .before .values-part .ensures) (c .before .before .before .before .before .before .before .pre .1) (c .before .before .before .before .before .before .before .pre .2) (c .before .before .before .before .before .before .before .pre .3) (c .before .begin .given .0 .0) (c .before .begin .given .0 .1 .0) (c .before .begin .given .1)))

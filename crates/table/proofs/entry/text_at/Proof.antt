@@ -1,8 +1,7 @@
 -- A row's text between its two offsets.
 use denote.Ref.{now}
 use borrow.Author.Needs.{needs}
-use Rattle.table.specs.Places.{columnIn}
-use Rattle.table.proofs.EntryLaws.{text-behind, text-row}
+use Rattle.table.proofs.EntryLaws.{text-behind, text-by-offsets}
 use Rattle.table.proofs.entry.text_at.Statement.{statement}
 use Rattle.table.proofs.entry.text_at.Tie as tie
 
@@ -11,11 +10,11 @@ text-at-spec =
     tie.close
     (tie.spec
     (λ c κs. search needs)
-    (λ c. text-behind (now (c .before .before .before .args .bytes)) (columnIn (now (c .before .before .before .args .bytes)) (c .before .before .before .args .place) .offsets) (columnIn (now (c .before .before .before .args .bytes)) (c .before .before .before .args .place) .values) (c .before .before .before .args .row) (now (c .before .part-of .result)) (c .before .part-of .ensures) (c .if1 .taken))
+    (λ c. text-behind (now (c .before .before .before .args .bytes)) (c .before .before .before .args .place) (c .before .before .before .args .row) (now (c .before .part-of .result)) (c .before .part-of .ensures) (c .if1 .taken))
     (λ c κs. search needs)
     (λ c. search needs)
     (λ c. search needs)
     (λ c κs. search needs)
     (λ c. search needs)
     (λ c κs. search needs)
-    (λ c. text-row (now (c .before .before .before .before .before .before .args .bytes)) (columnIn (now (c .before .before .before .before .before .before .args .bytes)) (c .before .before .before .before .before .before .args .place) .offsets) (columnIn (now (c .before .before .before .before .before .before .args .bytes)) (c .before .before .before .before .before .before .args .place) .values) (c .before .before .before .before .before .before .args .row) (now (c .before .before .before .before .part-of .result)) (c .before .before .before .before .part-of .ensures) (c .before .before .row-u32 .result) (c .before .row-u322 .result) (c .before .before .row-u32 .ensures) (c .before .row-u322 .ensures) (c .text-between .result) (c .text-between .ensures)))
+    (λ c. text-by-offsets (now (c .before .before .before .before .before .before .args .bytes)) (c .before .before .before .before .before .before .args .place) (c .before .before .before .before .before .before .args .row) (now (c .before .before .before .before .part-of .result)) (c .before .before .before .before .part-of .ensures) (c .before .before .row-u32 .result) (c .before .row-u322 .result) (c .before .before .row-u32 .ensures) (c .before .row-u322 .ensures) (c .text-between .result) (c .text-between .ensures)))

@@ -1,5 +1,4 @@
 -- The columns of a table: `count` of them are placed, and the definition goes on behind them.
-use mathlib.Core.Path.{refl}
 use Prim.Native.Nat.{_-_}
 use native.Mathlib.Omega.{arith}
 use denote.Ref.{now}
@@ -20,7 +19,7 @@ columns-from-spec =
     Inv-loop
     μ-loop
     (λ c κs. tt)
-    (λ c. columns-none (now (c .before .before .args .bytes)) (c .before .before .args .rows) (c .before .before .args .first) _ refl)
+    (λ c. columns-none (now (c .before .before .args .bytes)) (c .before .before .args .rows) (c .before .before .args .first) (c .no-place .ensures))
     (λ c κs. tt)
     (λ c. columns-many (now (c .before .before .before .before .before .before .args .bytes)) (c .before .before .before .before .before .before .args .rows) (c .before .before .before .before .before .before .args .first) (c .before .before .before .loop .columns) (c .before .before .before .loop .count) (c .before .before .before .loop .at) (c .before .before .before .loop .inv) (c .before .before .loop-test .taken) (c .before .if1 .taken) (c .one-more .result) (c .one-more .ensures))
     (λ c κs. c .before .before .before .before .before .pre .0)
