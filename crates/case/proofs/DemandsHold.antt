@@ -19,6 +19,9 @@ use Rattle.rule.specs.Path.{path, columnsRead, holdsMisfit}
 use Rattle.rule.specs.Constant.{unread}
 use Rattle.rule.proofs.PathLaws.{Readable, AgreeOn, path-fails, unread-fails, path-decides}
 use Rattle.rule.proofs.ReadBytes.{rule-bytes}
+use Rattle.rule.proofs.ReadBack.{rule-reads-back, rule-is-allowed}
+use Rattle.table.proofs.ReadBack.{table-reads-back}
+use Rattle.table.proofs.WholeBytes.{table-is-its-bytes}
 use Rattle.table.specs.Column.{TableColumn, entryAt}
 use Rattle.table.specs.Reading.{readParts, Table, readTable}
 use Rattle.table.proofs.TableInversions.{table-few}
@@ -26,13 +29,16 @@ use Rattle.table.specs.TableBytes.{columnBytes}
 use Rattle.writer.specs.Answer.{columnOf}
 use Rattle.case.specs.Fits.{entryIn, rowOf}
 use Rattle.case.specs.Run.{answerBytes}
-use Rattle.case.specs.Demands.{Holds, BothRead, RuleIsItsTree, OutcomeOfResultType, EntryIsOneRow, EntryFollowsPath, FailsExactly, AnswerReadsBack, behindCount, entryOf, WorkedOutExactly}
+use Rattle.case.specs.Demands.{Holds, BothRead, RuleIsItsTree, ReadExactly, OutcomeOfResultType, EntryIsOneRow, EntryFollowsPath, FailsExactly, AnswerReadsBack, behindCount, entryOf, WorkedOutExactly}
 use Rattle.case.proofs.RunLaws.{Answered, run-answered, entries-length, entries-at, run-is, run-15, run-unfit}
 use Rattle.case.proofs.AnswerLaws.{AllOfType, entry-back, column-back, answer-table}
 use Rattle.case.proofs.RowsTyped.{run-sound}
 
 pub rule-is-its-tree : RuleIsItsTree
 rule-is-its-tree = rule-bytes
+
+pub read-exactly : ReadExactly
+read-exactly = (rule-reads-back, rule-is-allowed, table-reads-back, table-is-its-bytes)
 
 pub outcome-of-result-type : OutcomeOfResultType
 outcome-of-result-type rule table e t i b f = run-sound rule table e t i (b .rule-bytes) (b .table-bytes) (b .rule-reads) (b .table-reads) f

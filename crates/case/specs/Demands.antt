@@ -14,6 +14,7 @@ use Rattle.scalar.specs.Entry.{Entry, entry, unfit, outcomeOfType}
 use Rattle.scalar.specs.Pair.{agree}
 use Rattle.rule.specs.Tree.{Expr}
 use Rattle.rule.specs.TreeBytes.{bytesOf}
+use Rattle.rule.specs.Allowed.{RuleReadsBack, RuleIsAllowed}
 use Rattle.rule.specs.Typing.{typeOf}
 use Rattle.rule.specs.Row.{eval}
 use Rattle.rule.specs.Path.{path, readsColumn, columnsRead, holdsMisfit}
@@ -21,6 +22,7 @@ use Rattle.rule.specs.Constant.{unread}
 use Rattle.rule.specs.Nullable.{nullable}
 use Rattle.rule.specs.Reading.{readRule}
 use Rattle.table.specs.Column.{TableColumn, entryAt}
+use Rattle.table.specs.TableBytes.{TableReadsBack, TableIsItsBytes}
 use Rattle.table.specs.Reading.{readParts, Table, readTable}
 use lib.ListN.{getElem?}
 use Rattle.writer.specs.declared.RunAnswer.{RunAnswer}
@@ -101,6 +103,10 @@ pub record BothRead (rule table : List ℕ) (e : Expr) (t : Table) : Type 0 wher
 -- an accepted rule is the bytes of its tree: reading loses nothing
 abbrev pub RuleIsItsTree : Type 0
 RuleIsItsTree = (rule : List ℕ) (e : Expr) → Bytes rule → readRule rule ≡ ok e → rule ≡ bytesOf e
+
+-- a rule is accepted exactly when it is the bytes of a tree that document 01 allows, and is then read as that tree; likewise a table
+abbrev pub ReadExactly : Type 0
+ReadExactly = RuleReadsBack × RuleIsAllowed × TableReadsBack × TableIsItsBytes
 
 -- at a row of a table that fits, the outcome of an accepted rule is null, an entry of the result's type, or doesn't fit
 abbrev pub OutcomeOfResultType : Type 0

@@ -8,11 +8,11 @@ use lib.Dec.{eqb, leb, ltb}
 use lib.ListN.{length, drop, length-append}
 use borrow.Author.Tests.{ltb-true, leb-true, lt-ltb, le-leb, eq-eqb, not-false}
 use Rattle.layout.specs.Result.{Result, refused, ok, _>>=_, require}
-use Rattle.layout.specs.Bytes.{number, numberBytes}
+use Rattle.layout.specs.Bytes.{byte, number, numberBytes}
 use Rattle.layout.specs.Field.{Field, header, fieldBytes}
 use Rattle.layout.proofs.TestLaws.{both-hold}
 use Rattle.layout.proofs.BytesLaws.{length-numberBytes, number-numberBytes}
-use Rattle.layout.proofs.FieldLaws.{header-field}
+use Rattle.layout.proofs.FieldLaws.{header-ok, header-field}
 use Rattle.scalar.specs.declared.types.DataType.{DataType}
 use Rattle.scalar.specs.declared.types.DataType.the-variants.{Boolean, Int32, Int64, Float64, Utf8}
 use Rattle.scalar.specs.Types.{typeNumber, markNumber}
@@ -26,7 +26,13 @@ use Rattle.rule.specs.Node.{depthOf, branchesDepth, optionalDepth}
 use Rattle.rule.specs.Constant.{columnsOf, branchesColumns, optionalColumns, constantFails}
 use Rattle.rule.specs.Reading.{Read, Reader, Kind, aColumn, aLiteral, aNot, aNegative, anIsNotNull, aCast, aTryCast, anEqual, aLess, aCase, tagOf, kindAmong, kindOf, unlikeEarlier, readColumn, numberOf, literalValue, markedValue, readLiteral, closeNode, readUnary, readCast, readBinary, readBranches, readOptional, hasBase, hasElse, readParts, readCase, readLimitedCase, readKind, readField, depthMost, casesMost, readRoot, readTree, readRule}
 use Rattle.rule.specs.Seen.{alike}
-use Rattle.rule.specs.Allowed.{casesOf, branchesCases, optionalCases, isCase, RuleAllowed, RuleReadsBack}
+use Rattle.rule.specs.Allowed.{casesOf, branchesCases, optionalCases, isCase, RuleAllowed, RuleReadsBack, RuleIsAllowed}
+use Rattle.rule.specs.Walks.{nodeTag}
+use Rattle.rule.proofs.ReadInversions.{root-inv, rule-inv}
+use Rattle.rule.proofs.ReadBytes.{rule-bytes}
+use Rattle.rule.proofs.ReadColumns.{rule-alike}
+use Rattle.rule.proofs.NodeLaws.{node-tag}
+use Rattle.rule.proofs.ReadNode.{accepted-node, accepted-cases}
 
 -- ---- what reading asks of a part
 
@@ -431,3 +437,34 @@ rule-reads-back e a =
     ap (λ (l : List ℕ). readField depthMost casesMost l []) (sym (append-nil (bytesOf e))) ∙ field-back e depthMost casesMost [] [] fits in
     let root = root-back e (a .root) few field in
     rw (lt-ltb 0 (length (bytesOf e)) (some-bytes e (a .root)), le-leb (length (bytesOf e)) 4096 few, root, a .casts-fit) refl
+
+-- ---- and an accepted rule is one that document 01 allows
+
+-- a field of tag 25 is a CASE
+tag-case : (e : Expr) → nodeTag e ≡ 25 → isCase e ≡ true
+tag-case (column c) h = absurd (omega arith)
+tag-case (literal t v) h = absurd (omega arith)
+tag-case (negation e) h = absurd (omega arith)
+tag-case (negative e) h = absurd (omega arith)
+tag-case (isNotNull e) h = absurd (omega arith)
+tag-case (cast t e) h = absurd (omega arith)
+tag-case (tryCast t e) h = absurd (omega arith)
+tag-case (equal a b) h = absurd (omega arith)
+tag-case (less a b) h = absurd (omega arith)
+tag-case (caseWhen b bs e) h = refl
+
+pub rule-is-allowed : RuleIsAllowed
+rule-is-allowed rule e b p =
+    let (x, some, most, root, end, fine, is) = rule-inv rule e p in
+    let (f, head, tag, got) = root-inv rule x root in
+    let node = accepted-node rule e b p in
+    let first : byte rule 0 ≡ 25 = ap (λ (g : Field). g .tag) (sym (header-ok 2 rule f head .2)) ∙ tag in
+    record {
+      root = tag-case e (sym (node-tag node) ∙ first);
+      few-bytes = subst (λ (l : List ℕ). length l ≤ 4096) (rule-bytes rule e b p) most;
+      depth = node .deep;
+      cases = accepted-cases rule e p;
+      formed = node .formed;
+      columns-alike = rule-alike rule e p;
+      casts-fit = ap constantFails is ∙ fine;
+    }

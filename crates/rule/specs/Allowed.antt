@@ -5,6 +5,7 @@ use mathlib.Core.List.{List, reverse}
 use Prim.Native.Nat.{ℕ, zero, suc, _≤_, max}
 use lib.ListN.{length}
 use Rattle.layout.specs.Result.{ok}
+use Rattle.layout.specs.Bytes.{Bytes}
 use Rattle.rule.specs.Tree.{Column, Expr, column, literal, negation, negative, isNotNull, cast, tryCast, equal, less, caseWhen, Branches, noMore, branch, Optional, absent, present}
 use Rattle.rule.specs.TreeBytes.{bytesOf}
 use Rattle.rule.specs.WellFormed.{wellFormed}
@@ -13,8 +14,8 @@ use Rattle.rule.specs.Constant.{columnsOf, constantFails}
 use Rattle.rule.specs.Reading.{depthMost, casesMost, readRule}
 use Rattle.rule.specs.Seen.{alike}
 
--- the most CASEs on a path of a tree (01, Bytes of a rule: depth)
 unfoldable mutual
+  -- the most CASEs on a path of a tree (01, Bytes of a rule: depth)
   pub casesOf : Expr → ℕ
   casesOf (column c) = 0
   casesOf (literal t v) = 0
@@ -27,10 +28,12 @@ unfoldable mutual
   casesOf (less a b) = max (casesOf a) (casesOf b)
   casesOf (caseWhen b bs e) = suc (max (optionalCases b) (max (branchesCases bs) (optionalCases e)))
 
+  -- the most on a path of one of the branches
   pub branchesCases : Branches → ℕ
   branchesCases noMore = 0
   branchesCases (branch w t bs) = max (casesOf w) (max (casesOf t) (branchesCases bs))
 
+  -- the most on a path of a part that may be absent
   pub optionalCases : Optional → ℕ
   optionalCases absent = 0
   optionalCases (present e) = casesOf e
@@ -62,3 +65,7 @@ pub record RuleAllowed (e : Expr) : Type 0 where
 -- a rule that document 01 allows is accepted, and read as its tree
 abbrev pub RuleReadsBack : Type 0
 RuleReadsBack = (e : Expr) → RuleAllowed e → readRule (bytesOf e) ≡ ok e
+
+-- an accepted rule is one that document 01 allows
+abbrev pub RuleIsAllowed : Type 0
+RuleIsAllowed = (rule : List ℕ) (e : Expr) → Bytes rule → readRule rule ≡ ok e → RuleAllowed e

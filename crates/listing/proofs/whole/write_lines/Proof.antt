@@ -5,6 +5,7 @@ use mathlib.Core.Path.{_∙_}
 use denote.Ref.{now}
 use Prim.Native.Nat.{_-_}
 use Rattle.table.specs.Places.{columnIn}
+use Rattle.table.proofs.EntryLaws.{entry-in-gives}
 use Rattle.listing.proofs.WriteLaws.{wrote-long}
 use Rattle.listing.proofs.WholeLaws.{head-fits, LinesSoFar, lines-none, lines-room, lines-next, lines-long, lines-all}
 use Rattle.listing.proofs.whole.write_lines.Statement.{statement}
@@ -26,9 +27,9 @@ write-lines-spec =
     (λ c. lines-none (columnIn (now (c .before .before .before .before .before .before .args .bytes)) (c .before .before .before .before .before .before .args .place)) (c .before .before .before .before .before .before .args .rows) (c .before .before .write-head .ensures) (c .before .before .before .before .before .before .pre))
     (λ c κs. search needs)
     (λ c κs. search needs)
-    (λ c κs. lines-room (c .before .before .before .before .loop .inv) (c .before .before .before .loop-test .taken) (c .before .before .entry-in .ensures) (c .before .show .ensures))
+    (λ c κs. lines-room (c .before .before .before .before .loop .inv) (c .before .before .before .loop-test .taken) (entry-in-gives (now (c .before .before .before .before .before .before .before .before .before .before .before .args .bytes)) (λ i. omega (arith, c .before .before .before .before .before .before .before .before .before .before .shared-slice-known .given i)) (c .before .before .before .before .before .before .before .before .before .before .before .args .place) (c .before .before .before .before .loop .row) (c .before .before .entry-in .ensures)) (c .before .show .ensures))
     (λ c. omega arith)
     (λ c. omega arith)
-    (λ c. lines-next (c .before .before .before .before .before .before .before .loop .inv) (c .before .before .before .before .before .before .loop-test .taken) (c .before .before .before .before .before .entry-in .ensures) (c .before .before .before .before .show .ensures) (c .before .before .write-row .ensures))
+    (λ c. lines-next (c .before .before .before .before .before .before .before .loop .inv) (c .before .before .before .before .before .before .loop-test .taken) (entry-in-gives (now (c .before .before .before .before .before .before .before .before .before .before .before .before .before .before .args .bytes)) (λ i. omega (arith, c .before .before .before .before .before .before .before .before .before .before .before .before .before .shared-slice-known .given i)) (c .before .before .before .before .before .before .before .before .before .before .before .before .before .before .args .place) (c .before .before .before .before .before .before .before .loop .row) (c .before .before .before .before .before .entry-in .ensures)) (c .before .before .before .before .show .ensures) (c .before .before .write-row .ensures))
     (λ c. lines-long (c .before .loop .inv) ∙ wrote-long (c .before .before .before .before .write-head .ensures))
     (λ c. lines-all (columnIn (now (c .before .before .before .before .before .before .before .before .args .bytes)) (c .before .before .before .before .before .before .before .before .args .place)) (c .before .before .before .before .before .before .before .before .args .rows) (c .before .before .before .before .write-head .ensures) (c .before .loop .inv) (c .loop-test .left)))
