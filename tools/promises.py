@@ -59,15 +59,16 @@ def named(promise):
     return body.lstrip("(").split()[0]
 
 
-def outright(promise, text):
-    """Whether a promise is an equation, or a record of equations."""
+def outright(promise, text, specs):
+    """Whether a promise is an equation, or a record of equations and of such records."""
     body = re.sub(r"^λ \S+\. ⌜ ?|⌝$", "", promise)
     if text is None:
-        return re.match(r"\s*(now )?\(?\w+ ≡|\s*now \w+ ≡", body) is not None
+        return re.match(r"\s*(now )?(\w+|\(\w+ \.exit\)) ≡", body) is not None
     if not text.startswith("pub record"):
         return False
-    lines = [l for l in text.split("\n")[1:] if l.strip().startswith("pub ")]
-    return all("≡" in l and "→" not in l for l in lines)
+    fields = [l.strip().split(" : ", 1)[1] for l in text.split("\n")[1:] if l.strip().startswith("pub ")]
+    inner = [[t for (_, n), t in specs.items() if n == f.split()[0]] for f in fields]
+    return all("→" not in f and ("≡" in f or any(outright(f, t, specs) for t in r)) for f, r in zip(fields, inner))
 
 
 def main(root):
@@ -92,7 +93,7 @@ def main(root):
             for promise in c["ensures"]:
                 name = named(promise)
                 record = specs.get((imported.get(name, crate), name))
-                if not outright(promise, record):
+                if not outright(promise, record, specs):
                     said.append("promises by " + name if record else "promises " + promise)
             if said:
                 listed += 1
