@@ -188,15 +188,15 @@ fn span_index(lows: &[u64], highs: &[u64], count: usize, x: u64) -> u16
     requires { ⌜ (length (now lows) ≡ 32) × (length (now highs) ≡ 32) × (count ≤ 32) ⌝ }
     ensures { λ r. ⌜ r ≡ spanIndex (now (lows .entry)) (now (highs .entry)) count x ⌝ }
 {
-    let mut k = 0;
+    let mut span = 0;
     let index = loop {
-        if k == count {
+        if span == count {
             break count + 1;
         }
-        if in_span(lows[k], highs[k], x) {
-            break k + 1;
+        if in_span(lows[span], highs[span], x) {
+            break span + 1;
         }
-        k += 1;
+        span += 1;
     };
     index as u16
 }

@@ -11,10 +11,10 @@ use Rattle.case.proofs.steps.span_index.Statement.{statement}
 use Rattle.case.proofs.steps.span_index.Tie as tie
 
 abbrev Inv-loop : tie.InvT-loop
-Inv-loop lows highs count x k₀ k = Searching (λ (i : ℕ). inSpan (getD lows i 0) (getD highs i 0) x) (λ (i : ℕ). i + 1) count (count + 1) k
+Inv-loop lows highs count x span₀ span = Searching (λ (i : ℕ). inSpan (getD lows i 0) (getD highs i 0) x) (λ (i : ℕ). i + 1) count (count + 1) span
 
 abbrev μ-loop : tie.MeasureT-loop
-μ-loop lows highs count x k₀ k = count - k
+μ-loop lows highs count x span₀ span = count - span
 
 pub span-index-spec : {M : Type 1} → statement M
 span-index-spec =

@@ -1,4 +1,5 @@
 -- A rule of at most 4,096 bytes is its root, with no byte after it.
+use native.Mathlib.Omega.{arith}
 use denote.Ref.{now}
 use Rattle.rule.proofs.SeenLaws.{seen-none}
 use Rattle.rule.proofs.CycleLaws.{tree-empty, tree-long, tree-refused, tree-left, tree-gives}
@@ -13,7 +14,7 @@ read-tree-spec =
     (λ c κs. search needs)
     (λ c. tree-empty (now (c .before .before .before .args .rule)) _ (c .before .if1 .taken) (c .refuse-rule .ensures))
     (λ c κs. search needs)
-    (λ c. tree-long (now (c .before .before .before .before .args .rule)) (c .before .before .if1 .left) _ (c .before .if2 .taken) (c .refuse-rule2 .ensures))
+    (λ c. tree-long (now (c .before .before .before .before .args .rule)) (c .before .before .if1 .left) _ (omega (arith, c .before .if2 .taken)) (c .refuse-rule2 .ensures))
     (λ c κs. search needs)
     (λ c κs. search needs)
     (λ c. tree-refused (now (c .before .before .before .before .before .before .before .before .args .rule)) (c .before .before .before .before .before .before .if1 .left) (c .before .before .before .before .before .if2 .left) (c .before .before .before .read-root .result) _ (c .before .before .before .read-root .ensures seen-none) _ (c .before .if3 .taken) (c .refuse-rule3 .ensures))
