@@ -1,4 +1,4 @@
--- A table is refused with one of the numbers up to 12. Assumes nothing.
+-- A table, and one column alone, are refused with one of the numbers up to 12. Assumes nothing.
 use mathlib.Core.Path.{_≡_}
 use mathlib.Core.Bool.{_&&_, _||_}
 use mathlib.Core.List.{List, [], _∷_}
@@ -15,7 +15,7 @@ use Rattle.scalar.specs.declared.types.DataType.{DataType}
 use Rattle.scalar.specs.declared.types.DataType.the-variants.{Boolean, Int32, Int64, Float64, Utf8}
 use Rattle.scalar.proofs.TypeLaws.{typeNumbered-most, markNumbered-most}
 use Rattle.table.specs.Column.{offsetAt}
-use Rattle.table.specs.Reading.{tagged, taggedPair, readValidity, neverFalls, readTextOffsets, readOffsets, valuesLength, readValues, readBody, readParts, noNull, readColumn, readColumns, bytesMost, rowsMost, columnsMost, readTable}
+use Rattle.table.specs.Reading.{tagged, taggedPair, readValidity, neverFalls, readTextOffsets, readOffsets, valuesLength, readValues, readBody, readParts, noNull, readColumn, readColumns, bytesMost, rowsMost, columnsMost, readTable, readAlone}
 
 -- the field of a tag is refused with at most 12
 tagged-most : (tag : ℕ) (bytes : List ℕ) → AtMost 12 (tagged tag bytes)
@@ -103,3 +103,13 @@ table-most bytes =
 -- the number that a table is refused with is at most 12
 pub table-refusals : (bytes : List ℕ) (n : ℕ) → readTable bytes ≡ refused n → n ≤ 12
 table-refusals bytes n e = table-most bytes .most n e
+
+-- one column alone is refused with at most 12
+alone-most : (rows : ℕ) (bytes : List ℕ) → AtMost 12 (readAlone rows bytes)
+unfolding readAlone
+alone-most rows bytes =
+    require-most-then 12 (leb rows rowsMost) 10 _ (omega arith) (λ _.
+    bind-most 12 _ _ (parts-most rows bytes) (λ c. require-most-then 12 (eqb (length (c .rest)) 0) 9 _ (omega arith) (λ _. ok-most 12 _)))
+
+pub alone-refusals : (rows : ℕ) (bytes : List ℕ) (n : ℕ) → readAlone rows bytes ≡ refused n → n ≤ 12
+alone-refusals rows bytes n e = alone-most rows bytes .most n e
