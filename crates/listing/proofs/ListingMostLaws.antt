@@ -13,7 +13,7 @@ use lib.Signed.{mag}
 use borrow.Author.Tests.{eqb-true}
 use Rattle.layout.specs.Bytes.{Bytes, byte}
 use Rattle.layout.specs.Field.{Field}
-use Rattle.layout.specs.Result.{ok}
+use Rattle.layout.specs.Result.{Result, refused, ok}
 use Rattle.layout.proofs.ResultLaws.{bind-ok, require-then, ok-injective}
 use Rattle.scalar.specs.declared.types.DataType.{DataType}
 use Rattle.scalar.specs.declared.types.DataType.the-variants.{Boolean, Int32, Int64, Float64, Utf8}
@@ -25,9 +25,10 @@ use Rattle.table.specs.Column.{TableColumn, validIn, offsetAt, valueAt, entryAt
 use Rattle.table.specs.Reading.{Part, tagged, taggedPair, neverFalls, readValidity, readTextOffsets, readOffsets, valuesLength, readValues, readBody, readParts, readAlone}
 use Rattle.table.proofs.OffsetLaws.{Left, falls-start, falls-next, falls-here}
 use Rattle.table.proofs.AloneLaws.{alone-short}
-use Rattle.listing.specs.Listing.{integerBytes, entryBytes, rowLine, headLine, rowLines, columnLines, listingMost}
+use Rattle.table.proofs.RefusalLaws.{alone-bounds}
+use Rattle.listing.specs.Listing.{integerBytes, entryBytes, rowLine, headLine, rowLines, columnLines, listing, listingMost}
 use Rattle.listing.proofs.DigitLaws.{length-digits, length-decimal, length-hex, places-most}
-use Rattle.listing.proofs.LineLaws.{length-row, length-head}
+use Rattle.listing.proofs.LineLaws.{length-row, length-head, length-refused}
 
 -- a decimal of 64 bits, with its sign
 integer-short : (z : ℤ) → mag z < 18446744073709551616 → length (integerBytes z) ≤ 21
@@ -201,3 +202,12 @@ lines-most l rows c h e =
     let s = alone-short l rows c h e in
     let rise = alone-rises l rows c e in
     omega (arith, s .0, s .1, rows-short c rows (s .0) rise rows (omega arith), text-all (c .type) rows (c .offsets) (length (c .values)) rise, length-append (headLine rows (c .type) (c .nullable)) (rowLines c rows), length-head rows (c .type) (c .nullable) refl, places-most 2 rows (omega (arith, s .0)))
+
+-- and so does every listing of an answer
+pub listing-fits : (l : List ℕ) (rows : ℕ) → Bytes l → length (listing rows (readAlone rows l)) ≤ listingMost
+unfolding listing
+listing-fits l rows h = go (readAlone rows l) refl
+  where
+    go : (d : Result TableColumn) → readAlone rows l ≡ d → length (listing rows d) ≤ listingMost
+    go (refused n) e = omega (arith, length-refused n refl, places-most 2 n (omega (arith, alone-bounds rows l n e .1)))
+    go (ok c) e = lines-most l rows c h e

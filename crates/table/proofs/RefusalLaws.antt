@@ -1,4 +1,4 @@
--- A table is refused with one of 9 to 12. Assumes nothing.
+-- A table, and one column alone, are refused with one of 9 to 12. Assumes nothing.
 use mathlib.Core.Path.{_≡_, refl}
 use mathlib.Core.Bool.{true, _&&_, _||_}
 use mathlib.Core.List.{List, [], _∷_}
@@ -115,6 +115,9 @@ alone-among rows bytes =
     require-among-then tableRefusals (leb rows rowsMost) 10 _ refl (λ _.
     bind-among tableRefusals _ _ (parts-among rows bytes) (λ c.
     require-among-then tableRefusals (eqb (length (c .rest)) 0) 9 _ refl (λ _. ok-among tableRefusals _)))
+
+pub alone-bounds : (rows : ℕ) (bytes : List ℕ) (n : ℕ) → readAlone rows bytes ≡ refused n → (9 ≤ n) × (n ≤ 12)
+alone-bounds rows bytes n e = among-between 9 12 tableRefusals n refl (alone-among rows bytes .one n e)
 
 -- the number of every refusal isn't 0
 pub record Numbered {A : Type 0} (m : Result A) : Type 0 where
