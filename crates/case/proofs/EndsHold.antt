@@ -1,6 +1,6 @@
 -- A call ends with a column or one of the numbers, and what it leaves (demand 1), proved. Assumes nothing.
 use mathlib.Core.Path.{_≡_, refl, sym, ap, subst, _∙_}
-use mathlib.Core.Bool.{Bool, true, cond, not, _&&_}
+use mathlib.Core.Bool.{Bool, cond, not, _&&_}
 use mathlib.Core.List.{List, [], _++_}
 use Prim.Native.Nat.{ℕ, _+_, _≤_}
 use native.Mathlib.Omega.{arith}
@@ -8,9 +8,9 @@ use lib.Dec.{eqb, leb}
 use lib.ListN.{length, take, drop, length-append, length-drop}
 use lib.Seq.{take-append-seam, drop-append-seam}
 use borrow.Author.Tests.{le-leb, lt-leb}
-use Rattle.layout.specs.Result.{Result, refused, ok, _>>=_, require}
+use Rattle.layout.specs.Result.{Result, refused, ok}
 use Rattle.layout.specs.Refusals.{ruleRefusals, tableRefusals, evaluationRefusals, runRefusals, builderRefusals, among}
-use Rattle.layout.proofs.ResultLaws.{bind-ok, RefusedAmong, ok-among, bind-among, require-among-then, among-between, among-more}
+use Rattle.layout.proofs.ResultLaws.{RefusedAmong, ok-among, bind-among, require-among-then, among-between, among-more}
 use Rattle.scalar.specs.Entry.{Entry}
 use Rattle.rule.specs.Tree.{Expr}
 use Rattle.rule.specs.Reading.{readRule}
@@ -24,9 +24,9 @@ use Rattle.writer.specs.Answer.{textLength}
 use Rattle.writer.specs.Written.{entriesOf, textMost, writtenAs, zeros, runAnswer, outputAfter}
 use Rattle.case.specs.Fits.{fits, rowOf}
 use Rattle.case.specs.Run.{outcomes, workLeast, answerBytes, written, runRead, run, workAfter}
-use Rattle.case.specs.Promise.{callRun, Evaluated}
+use Rattle.case.specs.Promise.{callRun}
 use Rattle.case.specs.Demands.{RunRefusals, BuilderRefusals, RefusalLeaves, AnswerLeaves, Leaves, CallEnds}
-use Rattle.case.proofs.RunLaws.{run-answered, entries-refused}
+use Rattle.case.proofs.RunLaws.{entries-refused, run-fits}
 
 -- ---- the numbers
 
@@ -78,20 +78,12 @@ builder-refusals = (
 
 -- ---- what a call leaves
 
--- an answer fits into the output
-run-room : (rule table : List ℕ) (work output : ℕ) (answer : List ℕ) → run rule table work output ≡ ok answer → length answer ≤ output
-unfolding run
-run-room rule table work output answer p =
-    let (e, reads, rest) = bind-ok (readRule rule) _ answer p in
-    let (t, table-reads, last) = bind-ok (readTable table) _ answer rest in
-    run-answered rule table work output answer e t reads table-reads p .1 .room
-
 -- by what the run is
 module _ (rule table work output work′ output′ : List ℕ) where
   answer-leaves : (answer : List ℕ) → callRun rule table work output ≡ ok answer → work′ ≡ zeros work → output′ ≡ answer ++ drop (length answer) output
       → AnswerLeaves (callRun rule table work output) work output (length answer) work′ output′
   answer-leaves answer is w o =
-      let room = run-room rule table (length work) (length output) answer is in
+      let room = run-fits rule table (length work) (length output) answer is in
       let front : take (length answer) output′ ≡ answer = ap (take (length answer)) o ∙ take-append-seam answer (drop (length answer) output) in
       let size : length output′ ≡ length answer + length (drop (length answer) output) = ap length o ∙ length-append answer (drop (length answer) output) in
       let left = length-drop (length answer) output in

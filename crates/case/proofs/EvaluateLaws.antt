@@ -33,7 +33,7 @@ use Rattle.writer.specs.declared.RunAnswer.the-variants.{Refused}
 use Rattle.table.specs.TableBytes.{columnBytes}
 use Rattle.writer.specs.Answer.{columnOf, textLength}
 use Rattle.writer.specs.Written.{rowsFrom, entriesOf, textMost, writtenAs, runAnswer, zeros, outputAfter}
-use Rattle.writer.specs.Write.{rowOutcomes, rowsRun, RunGives, ColumnGives, WriteGives, WriteAsks, writable, classValue, classed}
+use Rattle.writer.specs.Write.{rowOutcomes, rowsRun, ColumnGives, WriteGives, WriteAsks, writable, classValue, classed}
 use Rattle.writer.proofs.FitLaws.{column-said, gives-rows, typed-fits, asks-write, asks-classed}
 use Rattle.case.specs.Fits.{fits}
 use Rattle.case.specs.Fitting.{FitsGives}

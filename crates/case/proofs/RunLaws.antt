@@ -16,7 +16,8 @@ use Rattle.rule.specs.Row.{eval}
 use Rattle.rule.specs.Reading.{readRule}
 use Rattle.table.specs.Reading.{Table, readTable}
 use Rattle.writer.specs.Answer.{textLength}
-use Rattle.writer.specs.Written.{rowsFrom, entriesOf, textMost, writtenAs}
+use Rattle.writer.specs.declared.RunAnswer.the-variants as Says
+use Rattle.writer.specs.Written.{rowsFrom, entriesOf, textMost, writtenAs, runAnswer}
 use Rattle.case.specs.Fits.{fits, rowOf}
 use Rattle.case.specs.Run.{outcomes, workLeast, answerBytes, written, runRead, run}
 
@@ -146,6 +147,23 @@ run-answered rule table work output answer e t p q r =
         room = w .2;
       },
     )
+
+-- an answer is no longer than its output
+pub run-fits : (rule table : List ℕ) (work output : ℕ) (answer : List ℕ) → run rule table work output ≡ ok answer → length answer ≤ output
+unfolding run
+run-fits rule table work output answer r =
+    let (e, reads, rest) = bind-ok (readRule rule) _ answer r in
+    let (t, table-reads, last) = bind-ok (readTable table) _ answer rest in
+    run-answered rule table work output answer e t reads table-reads r .1 .room
+
+-- a run by what it says
+pub answered-run : (d : Result (List ℕ)) (k : ℕ) → Says.Answered k ≡ runAnswer d → (l : List ℕ) × (d ≡ ok l) × (k ≡ length l)
+answered-run (refused n) k e = let z : _≡_ {A = ℕ} 0 1 = cc in absurd (omega arith)
+answered-run (ok l) k e = (l, refl, cc)
+
+pub refused-run : (d : Result (List ℕ)) (n : ℕ) → Says.Refused n ≡ runAnswer d → d ≡ refused n
+refused-run (refused m) n e = cc
+refused-run (ok l) n e = let z : _≡_ {A = ℕ} 0 1 = cc in absurd (omega arith)
 
 -- writing is not refused with 15
 written-not-15 : (e : Expr) (es : List Entry) (output : ℕ) → written e es output ≡ refused 15 → ⊥

@@ -76,3 +76,8 @@ header-field n tag content rest h =
     let after = sym (drop-drop (contentLength l) 3 l) ∙ behind in
     let same : fieldAt l ≡ record { tag = tag; content = content; rest = rest } = λ i. record { tag = tag; content = inside i; rest = after i } in
     header-fits n l (omega arith) (omega arith) ∙ ap ok same
+
+-- a field's bytes are three more than its content's
+pub length-field : (tag : ℕ) (content : List ℕ) → length (fieldBytes tag content) ≡ 3 + length content
+unfolding fieldBytes numberBytes
+length-field tag content = omega arith

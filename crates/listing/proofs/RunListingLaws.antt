@@ -14,22 +14,14 @@ use Rattle.table.specs.Reading.{Table, readTable, readAlone}
 use Rattle.table.specs.Places.{readingIn, TableRead}
 use Rattle.writer.specs.declared.RunAnswer.{RunAnswer}
 use Rattle.writer.specs.declared.RunAnswer.the-variants.{Answered, Refused}
-use Rattle.writer.specs.Written.{runAnswer, outputAfter}
+use Rattle.writer.specs.Written.{outputAfter}
 use Rattle.case.specs.Run.{run}
 use Rattle.case.specs.Promise.{callRun, Evaluated}
+use Rattle.case.proofs.RunLaws.{answered-run, refused-run}
 use Rattle.listing.specs.declared.put.PutAnswer.{PutAnswer}
 use Rattle.listing.specs.Listing.{refusedLine, listing, rowsIn, runLines, runListing}
 use Rattle.listing.specs.Putting.{Put, Listed}
 use Rattle.listing.proofs.WholeLaws.{put-as}
-
--- a run by what it says
-answered-run : (d : Result (List ℕ)) (k : ℕ) → Answered k ≡ runAnswer d → (l : List ℕ) × (d ≡ ok l) × (k ≡ length l)
-answered-run (refused n) k e = let z : _≡_ {A = ℕ} 0 1 = cc in absurd (omega arith)
-answered-run (ok l) k e = (l, refl, cc)
-
-refused-run : (d : Result (List ℕ)) (n : ℕ) → Refused n ≡ runAnswer d → d ≡ refused n
-refused-run (refused m) n e = cc
-refused-run (ok l) n e = let z : _≡_ {A = ℕ} 0 1 = cc in absurd (omega arith)
 
 -- the rows of a table that a run reads
 run-rows : (rule table : List ℕ) (work output : ℕ) (l : List ℕ) (b : TableAnswer) → run rule table work output ≡ ok l → TableRead table b → b .table .rows ≡ rowsIn (readTable table)

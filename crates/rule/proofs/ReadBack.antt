@@ -1,18 +1,18 @@
 -- A tree that document 01 allows is read back from its bytes. Assumes nothing.
 use mathlib.Core.Path.{_≡_, refl, ap, sym, subst, _∙_}
-use mathlib.Core.Bool.{Bool, true, false, cond, not, _&&_, false≢true}
+use mathlib.Core.Bool.{Bool, true, false, not, _&&_, false≢true}
 use mathlib.Core.List.{List, [], _∷_, _++_, append-nil, append-assoc, reverse, reverseAux, reverseAux-append}
-use Prim.Native.Nat.{ℕ, zero, suc, _+_, _-_, _^_, _<_, _≤_, max}
+use Prim.Native.Nat.{ℕ, zero, suc, _+_, _^_, _<_, _≤_, max, _-_}
 use native.Mathlib.Omega.{arith}
-use lib.Dec.{eqb, leb, ltb}
-use lib.ListN.{length, drop, length-append}
-use borrow.Author.Tests.{ltb-true, leb-true, lt-ltb, le-leb, eq-eqb, not-false}
-use Rattle.layout.specs.Result.{Result, refused, ok, _>>=_, require}
-use Rattle.layout.specs.Bytes.{byte, number, numberBytes}
+use lib.Dec.{leb, ltb}
+use lib.ListN.{length, length-append}
+use borrow.Author.Tests.{ltb-true, lt-ltb, le-leb, eq-eqb}
+use Rattle.layout.specs.Result.{Result, ok, _>>=_}
+use Rattle.layout.specs.Bytes.{byte, numberBytes}
 use Rattle.layout.specs.Field.{Field, header, fieldBytes}
 use Rattle.layout.proofs.TestLaws.{both-hold}
 use Rattle.layout.proofs.BytesLaws.{length-numberBytes, number-numberBytes}
-use Rattle.layout.proofs.FieldLaws.{header-ok, header-field}
+use Rattle.layout.proofs.FieldLaws.{header-ok, header-field, length-field}
 use Rattle.scalar.specs.declared.types.DataType.{DataType}
 use Rattle.scalar.specs.declared.types.DataType.the-variants.{Boolean, Int32, Int64, Float64, Utf8}
 use Rattle.scalar.specs.Types.{typeNumber, markNumber}
@@ -26,7 +26,7 @@ use Rattle.rule.specs.Node.{depthOf, branchesDepth, optionalDepth}
 use Rattle.rule.specs.Constant.{columnsOf, branchesColumns, optionalColumns, constantFails}
 use Rattle.rule.specs.Reading.{Read, Reader, Kind, aColumn, aLiteral, aNot, aNegative, anIsNotNull, aCast, aTryCast, anEqual, aLess, aCase, tagOf, kindAmong, kindOf, unlikeEarlier, readColumn, numberOf, literalValue, markedValue, readLiteral, closeNode, readUnary, readCast, readBinary, readBranches, readOptional, hasBase, hasElse, readParts, readCase, readLimitedCase, readKind, readField, depthMost, casesMost, readRoot, readTree, readRule}
 use Rattle.rule.specs.Seen.{alike}
-use Rattle.rule.specs.Allowed.{casesOf, branchesCases, optionalCases, isCase, RuleAllowed, RuleReadsBack, RuleIsAllowed}
+use Rattle.rule.specs.Allowed.{casesOf, branchesCases, optionalCases, isCase, RuleReadsBack, RuleIsAllowed}
 use Rattle.rule.specs.Walks.{nodeTag}
 use Rattle.rule.proofs.ReadInversions.{root-inv, rule-inv}
 use Rattle.rule.proofs.ReadBytes.{rule-bytes}
@@ -90,11 +90,6 @@ alike-before : (l seen : List Column) → alike (reverseAux l seen) ≡ true →
 unfolding alike
 alike-before [] seen h = h
 alike-before (c ∷ l) seen h = both-hold (not (unlikeEarlier c seen)) (alike seen) (alike-before l (c ∷ seen) h) .1
-
--- a field's bytes
-length-field : (tag : ℕ) (content : List ℕ) → length (fieldBytes tag content) ≡ 3 + length content
-unfolding fieldBytes numberBytes
-length-field tag content = omega arith
 
 -- the first of two parts, and the second behind it
 module _ (a b : Shape) {d c : ℕ} {seen : List Column} (f : Fits (bothShape a b) d c seen) where

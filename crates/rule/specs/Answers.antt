@@ -1,13 +1,11 @@
 -- The public answers about a rule, from its reading: the refusal, or what was asked.
-use mathlib.Core.Bool.{Bool, false}
+use mathlib.Core.Bool.{false}
 use mathlib.Core.List.{List, [], _∷_, _++_, reverse}
 use Prim.Native.Nat.{ℕ, zero, suc, _-_}
 use lib.ListN.{length, replicate}
 use Rattle.layout.specs.Result.{Result, refused, ok}
-use Rattle.scalar.specs.declared.types.DataType.{DataType}
 use Rattle.scalar.specs.declared.types.DataType.the-variants.{Boolean}
 use Rattle.rule.specs.declared.read.RuleReading.{RuleReading}
-use Rattle.rule.specs.declared.strategy.Strategy.{Strategy}
 use Rattle.rule.specs.declared.answer.RuleAnswer.{RuleAnswer}
 use Rattle.rule.specs.declared.answer.StrategyAnswer.{StrategyAnswer}
 use Rattle.rule.specs.declared.answer.NullableAnswer.{NullableAnswer}
@@ -19,7 +17,6 @@ use Rattle.rule.specs.Tree.{Column, Expr}
 use Rattle.rule.specs.Constant.{columnsOf}
 use Rattle.rule.specs.Seen.{markAt}
 use Rattle.rule.specs.Typing.{typeOf}
-use Rattle.rule.specs.Reading.{readRule}
 use Rattle.rule.specs.Strategy.{strategy}
 use Rattle.rule.specs.Projection.{projection}
 use Rattle.rule.specs.Nullable.{nullable}

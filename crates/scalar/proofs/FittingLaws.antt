@@ -10,7 +10,7 @@ use Rattle.scalar.specs.declared.types.DataType.{DataType}
 use Rattle.scalar.specs.declared.types.DataType.the-variants.{Boolean, Int32, Int64, Float64, Utf8}
 use Rattle.scalar.specs.Integer.{signed, bitsOf, inRange}
 use Rattle.scalar.specs.Float.{floatBits}
-use Rattle.scalar.specs.Entry.{Entry, null, boolean, int32, int64, float64, utf8, Outcome, entry, unfit, ofType}
+use Rattle.scalar.specs.Entry.{Entry, null, boolean, int32, int64, float64, utf8, entry, unfit}
 use Rattle.scalar.proofs.TypeLaws.{boolean-type, int32-type, int64-type, float64-type, utf8-type}
 use Rattle.scalar.specs.Cast.{listed, narrowed, castEntry, NarrowsOutside, CastFailsExactly}
 

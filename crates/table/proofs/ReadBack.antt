@@ -12,7 +12,7 @@ use Rattle.layout.specs.Result.{ok}
 use Rattle.layout.specs.Bytes.{numberBytes, bitmapLength}
 use Rattle.layout.specs.Field.{fieldBytes}
 use Rattle.layout.proofs.BytesLaws.{length-numberBytes, number-numberBytes}
-use Rattle.layout.proofs.FieldLaws.{header-field}
+use Rattle.layout.proofs.FieldLaws.{header-field, length-field}
 use Rattle.scalar.specs.declared.types.DataType.{DataType}
 use Rattle.scalar.specs.declared.types.DataType.the-variants.{Boolean, Int32, Int64, Float64, Utf8}
 use Rattle.scalar.specs.Types.{typeNumber, markNumber, markNumbered}
@@ -35,11 +35,6 @@ pub pair-back : (tag : ℕ) (content rest : List ℕ) → length content ≡ 2
     → taggedPair tag (fieldBytes tag content ++ rest) ≡ ok (record { tag = tag; content = content; rest = rest })
 unfolding taggedPair
 pair-back tag content rest h = rw (tagged-back tag content rest (omega arith), h)
-
--- its header takes three bytes
-pub length-field : (tag : ℕ) (content : List ℕ) → length (fieldBytes tag content) ≡ 3 + length content
-unfolding fieldBytes
-length-field tag content = let e = length-append (numberBytes 2 (length content)) content in omega (arith, length-numberBytes 2 (length content))
 
 -- a mark by its number
 mark-back : (n : Bool) → markNumbered 11 (markNumber n) ≡ ok n

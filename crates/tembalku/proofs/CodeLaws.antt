@@ -2,23 +2,19 @@
 use mathlib.Core.Path.{_≡_, refl, sym, ap, ap₂, subst, _∙_}
 use mathlib.Core.Bool.{Bool, true, false, cond}
 use mathlib.Core.List.{List, _++_}
-use Prim.Native.Nat.{ℕ, zero, suc, _+_, _-_, _≤_}
+use Prim.Native.Nat.{ℕ, zero, suc, _+_, _≤_, _-_}
 use lib.Dec.{leb}
 use lib.ListN.{length, take, drop, replicate}
 use lib.Seq.{take-append-seam}
 use native.Mathlib.Omega.{arith}
 use Rattle.layout.specs.Result.{Result, refused, ok}
 use Rattle.layout.specs.Bytes.{part, PartWritten}
-use Rattle.layout.proofs.ResultLaws.{bind-ok}
 use Rattle.scalar.specs.declared.types.DataType.{DataType}
 use Rattle.scalar.specs.declared.types.DataType.the-variants.{Boolean, Int32, Int64, Float64, Utf8}
 use Rattle.scalar.specs.Types.{typeNumber, markNumber}
-use Rattle.rule.specs.declared.answer.RuleAnswer.{RuleAnswer}
 use Rattle.rule.specs.declared.answer.RuleAnswer.the-variants.{Accepted, Refused}
 use Rattle.rule.specs.Tree.{Expr}
-use Rattle.rule.specs.declared.answer.StrategyAnswer.{StrategyAnswer}
 use Rattle.rule.specs.declared.answer.StrategyAnswer.the-variants as OfStrategy
-use Rattle.rule.specs.declared.answer.NullableAnswer.{NullableAnswer}
 use Rattle.rule.specs.declared.answer.NullableAnswer.the-variants as OfNullable
 use Rattle.rule.specs.declared.answer.ProjectionAnswer.{ProjectionAnswer}
 use Rattle.rule.specs.declared.strategy.Strategy.{Strategy}
@@ -29,10 +25,8 @@ use Rattle.rule.specs.Reading.{readRule}
 use Rattle.rule.specs.Answers.{ruleAnswer, strategyAnswer, nullableAnswer, projectionAnswer}
 use Rattle.writer.specs.declared.RunAnswer.{RunAnswer}
 use Rattle.writer.specs.declared.RunAnswer.the-variants as OfRun
-use Rattle.writer.specs.Written.{runAnswer}
-use Rattle.case.specs.Run.{runRead, run}
 use Rattle.case.specs.Promise.{callRun, Evaluated}
-use Rattle.case.proofs.RunLaws.{run-answered}
+use Rattle.case.proofs.RunLaws.{run-fits, answered-run, refused-run}
 use Rattle.table.specs.declared.places.Table.{Table as TablePlaces}
 use Rattle.table.specs.declared.places.TableAnswer.{TableAnswer}
 use Rattle.table.specs.Reading.{readTable}
@@ -118,34 +112,18 @@ nullable-is (ok x) b false e p = ap (λ (y : Bool). 256 + markNumber y) (sym p �
 
 -- ---- an evaluation
 
--- an answer is no longer than its output
-pub run-fits : (rule table : List ℕ) (work output : ℕ) (answer : List ℕ) → run rule table work output ≡ ok answer → length answer ≤ output
-unfolding run
-run-fits rule table work output answer r =
-    let a = bind-ok (readRule rule) _ answer r in
-    let b = bind-ok (readTable table) _ answer (a .2) in
-    run-answered rule table work output answer (a .0) (b .0) (a .1) (b .1) r .1 .room
-
-answered-is : (d : Result (List ℕ)) (k : ℕ) → OfRun.Answered k ≡ runAnswer d → (l : List ℕ) × (d ≡ ok l) × (k ≡ length l)
-answered-is (refused n) k e = let z : _≡_ {A = ℕ} 0 1 = cc in absurd (omega arith)
-answered-is (ok l) k e = (l, refl, cc)
-
 pub answer-fits : {rule table work output : List ℕ} {r : RunAnswer} {w o : List ℕ} {k : ℕ} → Evaluated rule table work output r w o → r ≡ OfRun.Answered k → k ≤ length output
 answer-fits {rule} {table} {work} {output} {k = k} g e =
-    let (l, is, size) = answered-is (callRun rule table work output) k (sym e ∙ g .says) in
+    let (l, is, size) = answered-run (callRun rule table work output) k (sym e ∙ g .says) in
     subst (λ (j : ℕ). j ≤ length output) (sym size) (run-fits rule table (length work) (length output) l is)
-
-refused-is : (d : Result (List ℕ)) (n : ℕ) → OfRun.Refused n ≡ runAnswer d → n ≡ runCode d
-refused-is (refused m) n e = cc
-refused-is (ok l) n e = let z : _≡_ {A = ℕ} 0 1 = cc in absurd (omega arith)
 
 pub called-refused : {rule table work output : List ℕ} {r : RunAnswer} {w o : List ℕ} {n : ℕ} → Evaluated rule table work output r w o → r ≡ OfRun.Refused n → Called rule table work output n w o
 called-refused {rule} {table} {work} {output} {n = n} g e =
-    record { says = refused-is (callRun rule table work output) n (sym e ∙ g .says); work-is = g .work-is; output-is = g .output-is }
+    record { says = ap runCode (sym (refused-run (callRun rule table work output) n (sym e ∙ g .says))); work-is = g .work-is; output-is = g .output-is }
 
 pub called-answered : {rule table work output : List ℕ} {r : RunAnswer} {w o : List ℕ} {k : ℕ} → Evaluated rule table work output r w o → r ≡ OfRun.Answered k → Called rule table work output (65536 + k) w o
 called-answered {rule} {table} {work} {output} {k = k} g e =
-    let (l, is, size) = answered-is (callRun rule table work output) k (sym e ∙ g .says) in
+    let (l, is, size) = answered-run (callRun rule table work output) k (sym e ∙ g .says) in
     record { says = ap (λ (j : ℕ). 65536 + j) size ∙ ap runCode (sym is); work-is = g .work-is; output-is = g .output-is }
 
 -- ---- the projection

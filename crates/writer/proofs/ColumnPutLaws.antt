@@ -14,7 +14,7 @@ use Rattle.scalar.specs.declared.value.Value.{Value}
 use Rattle.scalar.specs.Types.{typeNumber, markNumber}
 use Rattle.writer.specs.Slots.{slotAt}
 use Rattle.writer.specs.Writing.{Wrote, RowsAsk, rowBytes, numberOf, widthOf, rowBits, rowNumbers, rowText, rowOffset, rowValidity, rowValues, validitySize, valuesSize}
-use Rattle.table.proofs.ReadBack.{length-field}
+use Rattle.layout.proofs.FieldLaws.{length-field}
 use Rattle.writer.proofs.WroteLaws.{length-rows, wrote-as, wrote-then, wrote-long, wrote-field}
 
 -- ---- how many bytes the rows take

@@ -28,7 +28,7 @@ use Rattle.writer.specs.declared.RunAnswer.the-variants.{Answered, Refus
 use Rattle.writer.specs.Answer.{numberIn}
 use Rattle.writer.specs.Write.{WriteGives, ClassesAsk, PlainRows, RowsOfKind, Tells, slotKind, slotPayload, classPayload}
 use Rattle.writer.specs.Writing.{Wrote, rowBytes, someOfKind, numberOf, widthOf, rowNumbers, rowText, rowValues, rowColumn, plainNumbers, plainFront, validitySize, valuesSize}
-use Rattle.table.proofs.ReadBack.{length-field}
+use Rattle.layout.proofs.FieldLaws.{length-field}
 use Rattle.writer.proofs.WroteLaws.{length-rows, rows-same, low-bytes, wrote-as, wrote-then, wrote-long}
 use Rattle.writer.proofs.RowKindLaws.{any-none}
 use Rattle.writer.proofs.ColumnPutLaws.{rows-empty, validity-none, header-ends}

@@ -23,7 +23,7 @@ use Rattle.scalar.specs.Types.{typeNumber, markNumber}
 use Rattle.writer.specs.declared.RunAnswer.{RunAnswer}
 use Rattle.writer.specs.declared.RunAnswer.the-variants.{Answered, Refused}
 use Rattle.table.specs.TableBytes.{columnBytes}
-use Rattle.table.proofs.ReadBack.{length-field}
+use Rattle.layout.proofs.FieldLaws.{length-field}
 use Rattle.writer.specs.Answer.{columnOf, textLength}
 use Rattle.writer.specs.Written.{rowsFrom, entriesOf, textMost, writtenAs, runAnswer, outputAfter}
 use Rattle.writer.specs.Slots.{slotAt}

@@ -1,4 +1,5 @@
 -- `put_listing` puts the refusal's line, or the listing of the answer at the front of the output.
+use Rattle.table.proofs.StandLaws.{table-read}
 use borrow.Author.Needs.{needs}
 use Rattle.listing.proofs.RunListingLaws.{listed-refused, listed-answered}
 use Rattle.listing.proofs.whole.put_listing.Statement.{statement}
@@ -18,7 +19,7 @@ put-listing-spec =
     (λ c. search needs)
     (λ c. search needs)
     (λ c. search needs)
-    (λ c. listed-answered (c .before .before .before .before .before .before .before .before .before .before .before .before .before .before .before .evaluate .ensures) (c .before .before .before .before .before .before .before .before .before .size .given .1) (c .before .before .before .before .before .before .before .read .ensures) (c .before .before .before .before .part-of .ensures) (c .before .before .put-column .ensures))
+    (λ c. listed-answered (c .before .before .before .before .before .before .before .before .before .before .before .before .before .before .before .evaluate .ensures) (c .before .before .before .before .before .before .before .before .before .size .given .1) (table-read (c .before .before .before .before .before .before .before .read .ensures)) (c .before .before .before .before .part-of .ensures) (c .before .before .put-column .ensures))
     (λ c. search needs)
     (λ c. search needs)
     (λ c. search needs)

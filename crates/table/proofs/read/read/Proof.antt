@@ -1,4 +1,5 @@
 -- A table: the tests of its length, its tag 1 and its row count, then its columns.
+use native.Mathlib.Omega.{arith}
 use denote.Ref.{now}
 use borrow.Author.Needs.{needs}
 use Rattle.table.proofs.ReadLaws.{read-none, read-long, read-refused, read-rows, read-columns}
@@ -13,7 +14,7 @@ read-spec =
     (λ c κs. search needs)
     (λ c. read-none (now (c .before .before .before .args .bytes)) (c .refuse-table .result) (c .before .if1 .taken) (c .refuse-table .ensures))
     (λ c κs. search needs)
-    (λ c. read-long (now (c .before .before .before .before .args .bytes)) (c .refuse-table2 .result) (c .before .before .if1 .left) (c .before .if2 .taken) (c .refuse-table2 .ensures))
+    (λ c. read-long (now (c .before .before .before .before .args .bytes)) (c .refuse-table2 .result) (c .before .before .if1 .left) (omega (arith, c .before .if2 .taken)) (c .refuse-table2 .ensures))
     (λ c κs. search needs)
     (λ c. search needs)
     (λ c κs. search needs)
