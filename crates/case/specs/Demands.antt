@@ -1,4 +1,5 @@
--- What must hold of the definitions, in a reader's words. `proofs/DemandsHold.antt` has the proofs.
+-- What must hold of the definitions, in a reader's words. `proofs/DemandsHold.antt`, `CallsHold.antt` and `EndsHold.antt` have the proofs.
+-- That of the casts only Int64 to Int32 can fail to fit is `CastFailsExactly` of scalar's `specs/Cast.antt`.
 -- Each speaks of lists of bytes, as a slice of bytes always is one.
 use mathlib.Core.Bool.{true, _||_}
 use mathlib.Core.Path.{_≡_}
@@ -120,8 +121,8 @@ EntryIsOneRow = (rule table : List ℕ) (e : Expr) (t : Table) (i work output : 
     → (v : Entry) × (eval e (rowOf t i) ≡ entry v) × Holds e answer (t .rows) i v
 
 -- an entry depends only on the columns that the row's own path reads (demand 3): whichever two tables and rows, wherever the rows stand and
--- whatever the other rows hold, if both runs answer and the rows agree in every column that the first row's path reads, both answers hold the same entry there, the one-row
--- definition's
+-- whatever the other rows hold, if both runs answer and the rows agree in every column that the first row's path reads, both answers hold the
+-- same entry there, the one-row definition's
 abbrev pub EntryFollowsPath : Type 0
 EntryFollowsPath = (rule table table′ : List ℕ) (e : Expr) (t t′ : Table) (i i′ : ℕ) (work output work′ output′ : ℕ) (answer answer′ : List ℕ)
     → BothRead rule table e t → BothRead rule table′ e t′
