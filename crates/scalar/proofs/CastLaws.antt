@@ -1,8 +1,9 @@
 -- Casts by the value's kind: what a kind's step gives is the cast. Assumes nothing.
-use mathlib.Core.Path.{_≡_, refl, sym, subst, _∙_}
+use mathlib.Core.Path.{_≡_, refl, sym, ap, subst, _∙_}
 use mathlib.Core.Bool.{Bool, true, false, cond}
 use mathlib.Core.List.{List, [], _∷_}
-use Prim.Native.Nat.{ℕ, _^_, _<_}
+use Prim.Native.Nat.{ℕ, _<_}
+use native.Mathlib.Omega.{arith}
 use lib.Dec.{lit<}
 use lib.Ieee.{Float, binary64, ofInt}
 use lib.Ieee.Fits.{ofInt-fits}
@@ -14,28 +15,36 @@ use Rattle.scalar.specs.declared.types.DataType.{DataType}
 use Rattle.scalar.specs.declared.types.DataType.the-variants as type
 use Rattle.scalar.specs.declared.value.Value.{Value}
 use Rattle.scalar.specs.declared.value.Value.the-variants.{Null, Boolean, Int32, Int64, Float64, Nan, RuleText, TableText, Failed}
-use Rattle.scalar.specs.Entry.{boolean, int64, onEntry}
-use Rattle.scalar.specs.Integer.{signed, bitsOf}
-use Rattle.scalar.specs.Cast.{castEntry}
-use Rattle.scalar.specs.Casts.{wholeBits, keptAs}
-use Rattle.scalar.specs.Value.{meaning, Storable, Gives}
-use Rattle.scalar.proofs.FloatLaws.{ofInt-no-nan}
+use Rattle.scalar.specs.Entry.{int32, entry, unfit, onEntry}
+use Rattle.scalar.specs.Integer.{signed, bitsOf, inRange}
+use Rattle.scalar.specs.Float.{floatBits}
+use Rattle.scalar.specs.Cast.{narrowed, castEntry}
+use Rattle.scalar.specs.Casts.{wholeBits, keptAs, castValue}
+use Rattle.scalar.specs.Value.{meaning, valueSaying, Storable, Gives}
+use Rattle.scalar.proofs.IntegerLaws.{bitsOf-below}
+use Rattle.scalar.proofs.FloatLaws.{ofInt-no-nan, float-back, float-means, float-stores, floatBits-below}
 
--- what a cast gives to a type that is known
-pub gives-as : {to t : DataType} {v r : Value} → to ≡ t → ((rule table : List ℕ) → meaning rule table r ≡ onEntry (castEntry t) (meaning rule table v)) → (Storable v → Storable r)
-    → Gives (castEntry to) v r
-gives-as {v = v} {r} e m s = subst (λ (t : DataType). Gives (castEntry t) v r) (sym e) (record { means = m; stores = s })
+-- ---- the steps
+
+-- a cast to a type that is known
+pub cast-to : {to t : DataType} (v : Value) {r : Value} → to ≡ t → r ≡ castValue t v → r ≡ castValue to v
+cast-to v e p = p ∙ ap (λ (t : DataType). castValue t v) (sym e)
 
 -- an Int32's float is its cast
-pub floated-gives : {to : DataType} {n : ℕ} {f : Float} → to ≡ type.Float64 → f ≡ ofInt binary64 (signed 31 n) → Gives (castEntry to) (Int32 n) (Float64 f)
+pub floated-cast : {to : DataType} (n : ℕ) {f : Float} → to ≡ type.Float64 → f ≡ ofInt binary64 (signed 31 n) → Float64 f ≡ castValue to (Int32 n)
 unfolding castEntry
-floated-gives {n = n} e p = rw p (gives-as e (λ rule table. refl) (λ s. (ofInt-fits binary64 (signed 31 n), ofInt-no-nan binary64 (signed 31 n))))
+floated-cast n e p = cast-to (Int32 n) e (ap Float64 p ∙ sym (float-back (ofInt binary64 (signed 31 n)) (ofInt-fits binary64 (signed 31 n)) (ofInt-no-nan binary64 (signed 31 n))))
+
+-- an Int64's Int32, or what doesn't fit, is its cast
+pub narrowed-cast : (n : ℕ) {r : Value} → r ≡ valueSaying (Int64 n) (narrowed n) → r ≡ castValue type.Int32 (Int64 n)
+unfolding castEntry
+narrowed-cast n p = p
 
 -- an Int64 is cast to no float and no text
-pub whole-lost : (to : DataType) (n : ℕ) → OneOf (3 ∷ 4 ∷ []) (tagOf data-type.the-type to) → Gives (castEntry to) (Int64 n) Failed
+pub whole-lost : (to : DataType) (n : ℕ) → OneOf (3 ∷ 4 ∷ []) (tagOf data-type.the-type to) → Failed ≡ castValue to (Int64 n)
 unfolding castEntry
-whole-lost type.Float64 n h = record { means = λ rule table. refl; stores = λ s. tt }
-whole-lost type.Utf8 n h = record { means = λ rule table. refl; stores = λ s. tt }
+whole-lost type.Float64 n h = refl
+whole-lost type.Utf8 n h = refl
 whole-lost type.Boolean n h = absurd (miss (3 ∷ 4 ∷ []) 0 tt h)
 whole-lost type.Int32 n h = absurd (miss (3 ∷ 4 ∷ []) 1 tt h)
 whole-lost type.Int64 n h = absurd (miss (3 ∷ 4 ∷ []) 2 tt h)
@@ -68,7 +77,7 @@ no-whole (TableText s n) h = refl
 no-whole Failed h = refl
 
 -- a Boolean is cast as the Int64 1 or 0 is
-boolean-cast : (to : DataType) (b : Bool) → castEntry to (int64 (cond b 1 0)) ≡ castEntry to (boolean b)
+boolean-cast : (to : DataType) (b : Bool) → castValue to (Int64 (cond b 1 0)) ≡ castValue to (Boolean b)
 unfolding castEntry bitsOf
 boolean-cast type.Boolean true = refl
 boolean-cast type.Boolean false = refl
@@ -79,11 +88,8 @@ boolean-cast type.Int64 false = refl
 boolean-cast type.Float64 b = refl
 boolean-cast type.Utf8 b = refl
 
-flag-small : (b : Bool) → cond b 1 0 < 2 ^ 64
-flag-small true = lit< tt
-flag-small false = lit< tt
+-- ---- the arms of `cast`, by the tags of the values
 
--- the arms of `cast`, by the tags of the values
 abbrev pub IsWhole : Value → Type 0
 IsWhole v = OneOf (1 ∷ 3 ∷ []) (tagOf the-type v)
 
@@ -97,96 +103,104 @@ abbrev pub IsNone : Value → Type 0
 IsNone v = OneOf (0 ∷ 8 ∷ []) (tagOf the-type v)
 
 -- a Boolean or an Int64, by its bits as an Int64
-pub whole-gives : (to : DataType) (v : Value) {n : ℕ} {r : Value} → IsWhole v → n ≡ wholeBits v → Gives (castEntry to) (Int64 n) r → Gives (castEntry to) v r
-whole-gives to v {r = r} h e g = go v h (subst (λ (n : ℕ). Gives (castEntry to) (Int64 n) r) e g)
+pub whole-cast : (to : DataType) (v : Value) {n : ℕ} {r : Value} → IsWhole v → n ≡ wholeBits v → r ≡ castValue to (Int64 n) → r ≡ castValue to v
+whole-cast to v {r = r} h e p = p ∙ ap (λ (n : ℕ). castValue to (Int64 n)) e ∙ go v h
   where
-    go : (v : Value) → IsWhole v → Gives (castEntry to) (Int64 (wholeBits v)) r → Gives (castEntry to) v r
-    go (Boolean b) h g = record { means = λ rule table. g .means rule table ∙ boolean-cast to b; stores = λ _. g .stores (flag-small b) }
-    go (Int64 n) h g = g
-    go Null h g = absurd (miss (1 ∷ 3 ∷ []) 0 tt h)
-    go (Int32 n) h g = absurd (miss (1 ∷ 3 ∷ []) 2 tt h)
-    go (Float64 f) h g = absurd (miss (1 ∷ 3 ∷ []) 4 tt h)
-    go (Nan n) h g = absurd (miss (1 ∷ 3 ∷ []) 5 tt h)
-    go (RuleText s n) h g = absurd (miss (1 ∷ 3 ∷ []) 6 tt h)
-    go (TableText s n) h g = absurd (miss (1 ∷ 3 ∷ []) 7 tt h)
-    go Failed h g = absurd (miss (1 ∷ 3 ∷ []) 8 tt h)
+    go : (v : Value) → IsWhole v → castValue to (Int64 (wholeBits v)) ≡ castValue to v
+    go (Boolean b) h = boolean-cast to b
+    go (Int64 n) h = refl
+    go Null h = absurd (miss (1 ∷ 3 ∷ []) 0 tt h)
+    go (Int32 n) h = absurd (miss (1 ∷ 3 ∷ []) 2 tt h)
+    go (Float64 f) h = absurd (miss (1 ∷ 3 ∷ []) 4 tt h)
+    go (Nan n) h = absurd (miss (1 ∷ 3 ∷ []) 5 tt h)
+    go (RuleText s n) h = absurd (miss (1 ∷ 3 ∷ []) 6 tt h)
+    go (TableText s n) h = absurd (miss (1 ∷ 3 ∷ []) 7 tt h)
+    go Failed h = absurd (miss (1 ∷ 3 ∷ []) 8 tt h)
 
 -- a float is cast to its own type alone
-float-kept : (to : DataType) (v : Value) → IsFloat v → Gives (castEntry to) v (keptAs type.Float64 to v)
-unfolding castEntry
-float-kept to (Float64 f) h =
-    elim to [
-      | type.Boolean ↦ record { means = λ rule table. refl; stores = λ s. tt }
-      | type.Int32 ↦ record { means = λ rule table. refl; stores = λ s. tt }
-      | type.Int64 ↦ record { means = λ rule table. refl; stores = λ s. tt }
-      | type.Float64 ↦ record { means = λ rule table. refl; stores = λ s. s }
-      | type.Utf8 ↦ record { means = λ rule table. refl; stores = λ s. tt }
-    ]
-float-kept to (Nan n) h =
-    elim to [
-      | type.Boolean ↦ record { means = λ rule table. refl; stores = λ s. tt }
-      | type.Int32 ↦ record { means = λ rule table. refl; stores = λ s. tt }
-      | type.Int64 ↦ record { means = λ rule table. refl; stores = λ s. tt }
-      | type.Float64 ↦ record { means = λ rule table. refl; stores = λ s. s }
-      | type.Utf8 ↦ record { means = λ rule table. refl; stores = λ s. tt }
-    ]
-float-kept to Null h = absurd (miss (4 ∷ 5 ∷ []) 0 tt h)
-float-kept to (Boolean b) h = absurd (miss (4 ∷ 5 ∷ []) 1 tt h)
-float-kept to (Int32 n) h = absurd (miss (4 ∷ 5 ∷ []) 2 tt h)
-float-kept to (Int64 n) h = absurd (miss (4 ∷ 5 ∷ []) 3 tt h)
-float-kept to (RuleText s n) h = absurd (miss (4 ∷ 5 ∷ []) 6 tt h)
-float-kept to (TableText s n) h = absurd (miss (4 ∷ 5 ∷ []) 7 tt h)
-float-kept to Failed h = absurd (miss (4 ∷ 5 ∷ []) 8 tt h)
-
-pub float-gives : (to : DataType) (v : Value) {r : Value} → IsFloat v → r ≡ keptAs type.Float64 to v → Gives (castEntry to) v r
-float-gives to v h e = subst (Gives (castEntry to) v) (sym e) (float-kept to v h)
+pub float-cast : (to : DataType) (v : Value) → IsFloat v → keptAs type.Float64 to v ≡ castValue to v
+float-cast to (Float64 f) h = refl
+float-cast to (Nan n) h = refl
+float-cast to Null h = absurd (miss (4 ∷ 5 ∷ []) 0 tt h)
+float-cast to (Boolean b) h = absurd (miss (4 ∷ 5 ∷ []) 1 tt h)
+float-cast to (Int32 n) h = absurd (miss (4 ∷ 5 ∷ []) 2 tt h)
+float-cast to (Int64 n) h = absurd (miss (4 ∷ 5 ∷ []) 3 tt h)
+float-cast to (RuleText s n) h = absurd (miss (4 ∷ 5 ∷ []) 6 tt h)
+float-cast to (TableText s n) h = absurd (miss (4 ∷ 5 ∷ []) 7 tt h)
+float-cast to Failed h = absurd (miss (4 ∷ 5 ∷ []) 8 tt h)
 
 -- and so is a text
-text-kept : (to : DataType) (v : Value) → IsText v → Gives (castEntry to) v (keptAs type.Utf8 to v)
+pub text-cast : (to : DataType) (v : Value) → IsText v → keptAs type.Utf8 to v ≡ castValue to v
 unfolding castEntry
-text-kept to (RuleText s n) h =
-    elim to [
-      | type.Boolean ↦ record { means = λ rule table. refl; stores = λ s. tt }
-      | type.Int32 ↦ record { means = λ rule table. refl; stores = λ s. tt }
-      | type.Int64 ↦ record { means = λ rule table. refl; stores = λ s. tt }
-      | type.Float64 ↦ record { means = λ rule table. refl; stores = λ s. tt }
-      | type.Utf8 ↦ record { means = λ rule table. refl; stores = λ s. s }
-    ]
-text-kept to (TableText s n) h =
-    elim to [
-      | type.Boolean ↦ record { means = λ rule table. refl; stores = λ s. tt }
-      | type.Int32 ↦ record { means = λ rule table. refl; stores = λ s. tt }
-      | type.Int64 ↦ record { means = λ rule table. refl; stores = λ s. tt }
-      | type.Float64 ↦ record { means = λ rule table. refl; stores = λ s. tt }
-      | type.Utf8 ↦ record { means = λ rule table. refl; stores = λ s. s }
-    ]
-text-kept to Null h = absurd (miss (6 ∷ 7 ∷ []) 0 tt h)
-text-kept to (Boolean b) h = absurd (miss (6 ∷ 7 ∷ []) 1 tt h)
-text-kept to (Int32 n) h = absurd (miss (6 ∷ 7 ∷ []) 2 tt h)
-text-kept to (Int64 n) h = absurd (miss (6 ∷ 7 ∷ []) 3 tt h)
-text-kept to (Float64 f) h = absurd (miss (6 ∷ 7 ∷ []) 4 tt h)
-text-kept to (Nan n) h = absurd (miss (6 ∷ 7 ∷ []) 5 tt h)
-text-kept to Failed h = absurd (miss (6 ∷ 7 ∷ []) 8 tt h)
-
-pub text-gives : (to : DataType) (v : Value) {r : Value} → IsText v → r ≡ keptAs type.Utf8 to v → Gives (castEntry to) v r
-text-gives to v h e = subst (Gives (castEntry to) v) (sym e) (text-kept to v h)
+text-cast to (RuleText s n) h = elim to [ type.Boolean ↦ refl | type.Int32 ↦ refl | type.Int64 ↦ refl | type.Float64 ↦ refl | type.Utf8 ↦ refl ]
+text-cast to (TableText s n) h = elim to [ type.Boolean ↦ refl | type.Int32 ↦ refl | type.Int64 ↦ refl | type.Float64 ↦ refl | type.Utf8 ↦ refl ]
+text-cast to Null h = absurd (miss (6 ∷ 7 ∷ []) 0 tt h)
+text-cast to (Boolean b) h = absurd (miss (6 ∷ 7 ∷ []) 1 tt h)
+text-cast to (Int32 n) h = absurd (miss (6 ∷ 7 ∷ []) 2 tt h)
+text-cast to (Int64 n) h = absurd (miss (6 ∷ 7 ∷ []) 3 tt h)
+text-cast to (Float64 f) h = absurd (miss (6 ∷ 7 ∷ []) 4 tt h)
+text-cast to (Nan n) h = absurd (miss (6 ∷ 7 ∷ []) 5 tt h)
+text-cast to Failed h = absurd (miss (6 ∷ 7 ∷ []) 8 tt h)
 
 -- null is cast to null, and what has failed stays so
-pub none-gives : (to : DataType) (v : Value) → IsNone v → Gives (castEntry to) v v
+pub none-cast : (to : DataType) (v : Value) → IsNone v → v ≡ castValue to v
 unfolding castEntry
-none-gives to Null h =
-    elim to [
-      | type.Boolean ↦ record { means = λ rule table. refl; stores = λ s. s }
-      | type.Int32 ↦ record { means = λ rule table. refl; stores = λ s. s }
-      | type.Int64 ↦ record { means = λ rule table. refl; stores = λ s. s }
-      | type.Float64 ↦ record { means = λ rule table. refl; stores = λ s. s }
-      | type.Utf8 ↦ record { means = λ rule table. refl; stores = λ s. s }
-    ]
-none-gives to Failed h = record { means = λ rule table. refl; stores = λ s. s }
-none-gives to (Boolean b) h = absurd (miss (0 ∷ 8 ∷ []) 1 tt h)
-none-gives to (Int32 n) h = absurd (miss (0 ∷ 8 ∷ []) 2 tt h)
-none-gives to (Int64 n) h = absurd (miss (0 ∷ 8 ∷ []) 3 tt h)
-none-gives to (Float64 f) h = absurd (miss (0 ∷ 8 ∷ []) 4 tt h)
-none-gives to (Nan n) h = absurd (miss (0 ∷ 8 ∷ []) 5 tt h)
-none-gives to (RuleText s n) h = absurd (miss (0 ∷ 8 ∷ []) 6 tt h)
-none-gives to (TableText s n) h = absurd (miss (0 ∷ 8 ∷ []) 7 tt h)
+none-cast to Null h = elim to [ type.Boolean ↦ refl | type.Int32 ↦ refl | type.Int64 ↦ refl | type.Float64 ↦ refl | type.Utf8 ↦ refl ]
+none-cast to Failed h = refl
+none-cast to (Boolean b) h = absurd (miss (0 ∷ 8 ∷ []) 1 tt h)
+none-cast to (Int32 n) h = absurd (miss (0 ∷ 8 ∷ []) 2 tt h)
+none-cast to (Int64 n) h = absurd (miss (0 ∷ 8 ∷ []) 3 tt h)
+none-cast to (Float64 f) h = absurd (miss (0 ∷ 8 ∷ []) 4 tt h)
+none-cast to (Nan n) h = absurd (miss (0 ∷ 8 ∷ []) 5 tt h)
+none-cast to (RuleText s n) h = absurd (miss (0 ∷ 8 ∷ []) 6 tt h)
+none-cast to (TableText s n) h = absurd (miss (0 ∷ 8 ∷ []) 7 tt h)
+
+-- ---- what a cast means
+
+flag-small : {m : ℕ} (b : Bool) → 1 < m → cond b 1 0 < m
+flag-small true h = h
+flag-small false h = omega arith
+
+narrowed-means : (n : ℕ) (rule table : List ℕ) → meaning rule table (valueSaying (Int64 n) (narrowed n)) ≡ narrowed n
+narrowed-means n rule table = go (inRange 31 (signed 63 n))
+  where
+    go : (c : Bool) → meaning rule table (valueSaying (Int64 n) (cond c (entry (int32 (bitsOf 31 (signed 63 n)))) unfit)) ≡ cond c (entry (int32 (bitsOf 31 (signed 63 n)))) unfit
+    go true = refl
+    go false = refl
+
+narrowed-stores : (n : ℕ) → Storable (valueSaying (Int64 n) (narrowed n))
+narrowed-stores n = go (inRange 31 (signed 63 n))
+  where
+    go : (c : Bool) → Storable (valueSaying (Int64 n) (cond c (entry (int32 (bitsOf 31 (signed 63 n)))) unfit))
+    go true = bitsOf-below 31 (signed 63 n)
+    go false = tt
+
+cast-means : (to : DataType) (v : Value) (rule table : List ℕ) → meaning rule table (castValue to v) ≡ onEntry (castEntry to) (meaning rule table v)
+unfolding castEntry
+cast-means to Null rule table = elim to [ type.Boolean ↦ refl | type.Int32 ↦ refl | type.Int64 ↦ refl | type.Float64 ↦ refl | type.Utf8 ↦ refl ]
+cast-means to (Boolean b) rule table = elim to [ type.Boolean ↦ refl | type.Int32 ↦ refl | type.Int64 ↦ refl | type.Float64 ↦ refl | type.Utf8 ↦ refl ]
+cast-means to (Int32 n) rule table =
+    elim to [ type.Boolean ↦ refl | type.Int32 ↦ refl | type.Int64 ↦ refl | type.Float64 ↦ float-means (floatBits (signed 31 n)) (floatBits-below (signed 31 n)) rule table | type.Utf8 ↦ refl ]
+cast-means to (Int64 n) rule table = elim to [ type.Boolean ↦ refl | type.Int32 ↦ narrowed-means n rule table | type.Int64 ↦ refl | type.Float64 ↦ refl | type.Utf8 ↦ refl ]
+cast-means to (Float64 f) rule table = elim to [ type.Boolean ↦ refl | type.Int32 ↦ refl | type.Int64 ↦ refl | type.Float64 ↦ refl | type.Utf8 ↦ refl ]
+cast-means to (Nan n) rule table = elim to [ type.Boolean ↦ refl | type.Int32 ↦ refl | type.Int64 ↦ refl | type.Float64 ↦ refl | type.Utf8 ↦ refl ]
+cast-means to (RuleText s n) rule table = elim to [ type.Boolean ↦ refl | type.Int32 ↦ refl | type.Int64 ↦ refl | type.Float64 ↦ refl | type.Utf8 ↦ refl ]
+cast-means to (TableText s n) rule table = elim to [ type.Boolean ↦ refl | type.Int32 ↦ refl | type.Int64 ↦ refl | type.Float64 ↦ refl | type.Utf8 ↦ refl ]
+cast-means to Failed rule table = refl
+
+cast-stores : (to : DataType) (v : Value) → Storable v → Storable (castValue to v)
+unfolding castEntry
+cast-stores to Null h = elim to [ type.Boolean ↦ tt | type.Int32 ↦ tt | type.Int64 ↦ tt | type.Float64 ↦ tt | type.Utf8 ↦ tt ]
+cast-stores to (Boolean b) h = elim to [ type.Boolean ↦ tt | type.Int32 ↦ flag-small b (lit< tt) | type.Int64 ↦ flag-small b (lit< tt) | type.Float64 ↦ tt | type.Utf8 ↦ tt ]
+cast-stores to (Int32 n) h =
+    elim to [ type.Boolean ↦ tt | type.Int32 ↦ h | type.Int64 ↦ bitsOf-below 63 (signed 31 n) | type.Float64 ↦ float-stores (floatBits (signed 31 n)) (floatBits-below (signed 31 n)) | type.Utf8 ↦ tt ]
+cast-stores to (Int64 n) h = elim to [ type.Boolean ↦ tt | type.Int32 ↦ narrowed-stores n | type.Int64 ↦ h | type.Float64 ↦ tt | type.Utf8 ↦ tt ]
+cast-stores to (Float64 f) h = elim to [ type.Boolean ↦ tt | type.Int32 ↦ tt | type.Int64 ↦ tt | type.Float64 ↦ h | type.Utf8 ↦ tt ]
+cast-stores to (Nan n) h = elim to [ type.Boolean ↦ tt | type.Int32 ↦ tt | type.Int64 ↦ tt | type.Float64 ↦ h | type.Utf8 ↦ tt ]
+cast-stores to (RuleText s n) h = elim to [ type.Boolean ↦ tt | type.Int32 ↦ tt | type.Int64 ↦ tt | type.Float64 ↦ tt | type.Utf8 ↦ h ]
+cast-stores to (TableText s n) h = elim to [ type.Boolean ↦ tt | type.Int32 ↦ tt | type.Int64 ↦ tt | type.Float64 ↦ tt | type.Utf8 ↦ h ]
+cast-stores to Failed h = tt
+
+-- a cast gives what the entry's cast is
+pub cast-gives : (to : DataType) (v : Value) {r : Value} → r ≡ castValue to v → Gives (castEntry to) v r
+cast-gives to v e = subst (Gives (castEntry to) v) (sym e) (record { means = cast-means to v; stores = cast-stores to v })

@@ -1,5 +1,5 @@
 -- Equal and less, read from the order of two values. Assumes nothing.
-use mathlib.Core.Path.{_≡_, refl, sym, ap, _∙_}
+use mathlib.Core.Path.{_≡_, refl, sym, ap, _∙_, subst}
 use mathlib.Core.Bool.{Bool, true, false, cond, not, _&&_, Bool·beq, false≢true}
 use mathlib.Core.List.{List, [], _∷_}
 use Prim.Native.Nat.{ℕ, _^_}
@@ -19,7 +19,7 @@ use Rattle.scalar.specs.Entry.{Entry, boolean, Outcome, entry, unfit, on
 use Rattle.scalar.specs.Pair.{Pair, bothNull, oneNull, unlike, booleans, int32s, int64s, float64s, texts, pairOf}
 use Rattle.scalar.specs.Compare.{equalPair, equalEntry, lessPair, lessEntry}
 use Rattle.scalar.specs.Order.{orderOfPair, orderOf, Numbered}
-use Rattle.scalar.specs.Value.{meaning, Storable, GivesBoth}
+use Rattle.scalar.specs.Value.{meaning, valueSaying, onValues, Storable, GivesBoth}
 use Rattle.scalar.proofs.OrderLaws.{numbers-order}
 
 -- the value of a comparison, by what it says of a less, an equal and a greater first side
@@ -39,6 +39,14 @@ compared-stores x y z SomeNull = tt
 compared-stores x y z SomeFailed = tt
 compared-stores x y z Unlike = tt
 
+compared-said : (rule table : List ℕ) (x y z : Bool) (o : Order) → compared x y z o ≡ valueSaying Null (meaning rule table (compared x y z o))
+compared-said rule table x y z Less = refl
+compared-said rule table x y z Equal = refl
+compared-said rule table x y z Greater = refl
+compared-said rule table x y z SomeNull = refl
+compared-said rule table x y z SomeFailed = refl
+compared-said rule table x y z Unlike = refl
+
 module _ (rule table : List ℕ) (x y z : Bool) (operation : Pair → Entry) (at : (p : Pair) → meaning rule table (compared x y z (orderOfPair p)) ≡ entry (operation p)) where
   outcomes : (o q : Outcome) → meaning rule table (compared x y z (orderOf o q)) ≡ onEntries (λ a b. operation (pairOf a b)) o q
   outcomes (entry a) (entry b) = at (pairOf a b)
@@ -51,6 +59,9 @@ module _ (rule table : List ℕ) (x y z : Bool) (operation : Pair → Entry) (at
     means = ap (λ (w : Order). meaning rule table (compared x y z w)) e ∙ outcomes (meaning rule table a) (meaning rule table b);
     stores = compared-stores x y z o;
   }
+
+  said : (a b : Value) (o : Order) → o ≡ orderOf (meaning rule table a) (meaning rule table b) → compared x y z o ≡ onValues (λ a b. operation (pairOf a b)) rule table a b
+  said a b o e = compared-said rule table x y z o ∙ ap (valueSaying Null) (gives a b o e .means)
 
 -- of two that are equal none is less
 flags-once : (x y : Bool) → Bool·beq x y ≡ true → (not x && y) ≡ false
@@ -121,6 +132,20 @@ equal-gives rule table = gives rule table false true false equalPair (equal-pair
 
 pub less-gives : (rule table : List ℕ) (a b : Value) (o : Order) → o ≡ orderOf (meaning rule table a) (meaning rule table b) → GivesBoth lessEntry rule table a b (compared true false false o)
 less-gives rule table = gives rule table true false false lessPair (less-pair rule table)
+
+-- the value that is said of them
+pub equal-said : (rule table : List ℕ) (a b : Value) (o : Order) → o ≡ orderOf (meaning rule table a) (meaning rule table b) → compared false true false o ≡ onValues equalEntry rule table a b
+equal-said rule table = said rule table false true false equalPair (equal-pair rule table)
+
+pub less-said : (rule table : List ℕ) (a b : Value) (o : Order) → o ≡ orderOf (meaning rule table a) (meaning rule table b) → compared true false false o ≡ onValues lessEntry rule table a b
+less-said rule table = said rule table true false false lessPair (less-pair rule table)
+
+-- it is the comparison of their entries
+pub equal-both : {rule table : List ℕ} {a b r : Value} → r ≡ onValues equalEntry rule table a b → GivesBoth equalEntry rule table a b r
+equal-both {rule} {table} {a} {b} e = subst (GivesBoth equalEntry rule table a b) (equal-said rule table a b (orderOf (meaning rule table a) (meaning rule table b)) refl ∙ sym e) (equal-gives rule table a b (orderOf (meaning rule table a) (meaning rule table b)) refl)
+
+pub less-both : {rule table : List ℕ} {a b r : Value} → r ≡ onValues lessEntry rule table a b → GivesBoth lessEntry rule table a b r
+less-both {rule} {table} {a} {b} e = subst (GivesBoth lessEntry rule table a b) (less-said rule table a b (orderOf (meaning rule table a) (meaning rule table b)) refl ∙ sym e) (less-gives rule table a b (orderOf (meaning rule table a) (meaning rule table b)) refl)
 
 -- equal and less of two entries that go by numbers of one kind
 number-once : (x y : ℕ) → eqb x y ≡ true → ltb x y ≡ false

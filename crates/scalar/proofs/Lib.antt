@@ -5,6 +5,7 @@ pub mod TypeLaws
 pub mod FittingLaws
 pub mod ValueLaws
 pub mod CastLaws
+pub mod OperationLaws
 pub mod EntryLaws
 pub mod TextLaws
 pub mod OrderLaws

@@ -1,6 +1,6 @@
 -- Types and marks by their numbers. Each operation keeps types: what it gives is null or a value of its type, within its bits. Assumes nothing.
 use mathlib.Core.Bool.{Bool, true, false, false≢true, cond}
-use mathlib.Core.Path.{_≡_, refl, sym, ap, subst}
+use mathlib.Core.Path.{_≡_, refl, sym, ap, subst, _∙_}
 use mathlib.Core.List.{List}
 use Prim.Native.Nat.{ℕ, zero, suc, _≤_}
 use borrow.Author.Tests.{ltb-true, eqb-true, lt-ltb}
@@ -8,9 +8,10 @@ use Rattle.layout.specs.Result.{refused, ok}
 use Rattle.layout.specs.Refusals.{among}
 use Rattle.layout.proofs.ResultLaws.{refused-not-ok, ok-injective, RefusedAmong, ok-among, refused-among}
 use Rattle.scalar.specs.declared.types.DataType.{DataType}
+use Rattle.scalar.specs.declared.types.TypeAnswer.{TypeAnswer}
 use Rattle.scalar.specs.declared.types.TypeAnswer.the-variants.{Known, Unknown}
 use Rattle.scalar.specs.declared.types.DataType.the-variants.{Boolean, Int32, Int64, Float64, Utf8}
-use Rattle.scalar.specs.Types.{typeNumber, sameType, typeNumbered, TypeGives, markNumber, markNumbered}
+use Rattle.scalar.specs.Types.{typeNumber, sameType, typeNumbered, typeAnswer, typeMeans, markNumber, markNumbered}
 use Rattle.scalar.specs.Integer.{signed, bitsOf, inRange}
 use Rattle.scalar.specs.Entry.{Entry, null, boolean, int32, int64, float64, utf8, Outcome, entry, unfit, ofType, outcomeOfType}
 use Rattle.scalar.specs.Pair.{Pair, bothNull, oneNull, unlike, booleans, int32s, int64s, float64s, texts, pairOf}
@@ -205,27 +206,30 @@ less-typed a b = go (pairOf a b)
 abbrev pub NoType : ℕ → Type 0
 NoType k = (((((Unit {0} × (k ≡ 1 → ⊥)) × (k ≡ 2 → ⊥)) × (k ≡ 3 → ⊥)) × (k ≡ 4 → ⊥)) × (k ≡ 5 → ⊥))
 
-pub no-type : (k : ℕ) → NoType k → TypeGives k Unknown
+pub no-type : (k : ℕ) → NoType k → Unknown ≡ typeAnswer (typeNumbered 0 k)
 unfolding typeNumbered
-no-type k h = record { says = λ n. go n k h }
-  where
-    go : (n k : ℕ) → NoType k → refused n ≡ typeNumbered n k
-    go n zero h = refl
-    go n (suc zero) h = absurd (h .0 .0 .0 .0 .1 refl)
-    go n (suc (suc zero)) h = absurd (h .0 .0 .0 .1 refl)
-    go n (suc (suc (suc zero))) h = absurd (h .0 .0 .1 refl)
-    go n (suc (suc (suc (suc zero)))) h = absurd (h .0 .1 refl)
-    go n (suc (suc (suc (suc (suc zero))))) h = absurd (h .1 refl)
-    go n (suc (suc (suc (suc (suc (suc j)))))) h = refl
+no-type zero h = refl
+no-type (suc zero) h = absurd (h .0 .0 .0 .0 .1 refl)
+no-type (suc (suc zero)) h = absurd (h .0 .0 .0 .1 refl)
+no-type (suc (suc (suc zero))) h = absurd (h .0 .0 .1 refl)
+no-type (suc (suc (suc (suc zero)))) h = absurd (h .0 .1 refl)
+no-type (suc (suc (suc (suc (suc zero))))) h = absurd (h .1 refl)
+no-type (suc (suc (suc (suc (suc (suc j)))))) h = refl
 
 -- a number that is a type's
-pub has-type : (k : ℕ) (t : DataType) → k ≡ typeNumber t → TypeGives k (Known t)
+pub has-type : (k : ℕ) (t : DataType) → k ≡ typeNumber t → Known t ≡ typeAnswer (typeNumbered 0 k)
+has-type k t e = ap typeAnswer (sym (typeNumbered-back 0 t)) ∙ ap (λ (x : ℕ). typeAnswer (typeNumbered 0 x)) (sym e)
+
+-- an answer is the reading, whatever the refusal
+pub type-means : (n k : ℕ) {r : TypeAnswer} → r ≡ typeAnswer (typeNumbered 0 k) → typeMeans n r ≡ typeNumbered n k
 unfolding typeNumbered
-has-type k t e = subst (λ (x : ℕ). TypeGives x (Known t)) (sym e) (record { says = λ n. go n t })
+type-means n k e = ap (typeMeans n) e ∙ go k
   where
-    go : (n : ℕ) (t : DataType) → ok t ≡ typeNumbered n (typeNumber t)
-    go n Boolean = refl
-    go n Int32 = refl
-    go n Int64 = refl
-    go n Float64 = refl
-    go n Utf8 = refl
+    go : (k : ℕ) → typeMeans n (typeAnswer (typeNumbered 0 k)) ≡ typeNumbered n k
+    go zero = refl
+    go (suc zero) = refl
+    go (suc (suc zero)) = refl
+    go (suc (suc (suc zero))) = refl
+    go (suc (suc (suc (suc zero)))) = refl
+    go (suc (suc (suc (suc (suc zero))))) = refl
+    go (suc (suc (suc (suc (suc (suc j)))))) = refl

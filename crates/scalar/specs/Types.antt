@@ -36,9 +36,10 @@ abbrev pub typeMeans : ℕ → TypeAnswer → Result DataType
 typeMeans n (Known t) = ok t
 typeMeans n Unknown = refused n
 
--- an answer beside the definition, whatever the refusal
-pub record TypeGives (number : ℕ) (r : TypeAnswer) : Type 0 where
-  pub says : (n : ℕ) → typeMeans n r ≡ typeNumbered n number
+-- a reading of a number as an answer
+abbrev pub typeAnswer : Result DataType → TypeAnswer
+typeAnswer (ok t) = Known t
+typeAnswer (refused n) = Unknown
 
 -- a mark is 0 or 1 (01, Bytes of a rule; Bytes of a table)
 unfoldable pub markNumbered : ℕ → ℕ → Result Bool

@@ -1,7 +1,7 @@
 -- What a value means, given the rule's and the table's bytes (01, What changes shape); its kind and its payload of 64 bits.
 use mathlib.Core.Path.{_≡_}
 use mathlib.Core.Bool.{Bool, true, false, not, cond}
-use mathlib.Core.List.{List}
+use mathlib.Core.List.{List, []}
 use Prim.Native.Nat.{ℕ, zero, suc, _+_, _*_, _/_, _%_, _^_, _<_}
 use lib.Dec.{T, eqb}
 use lib.Ieee.{binary64, nanBits, ofBits, toBits, fits, isNan}
@@ -30,6 +30,24 @@ meaning rule table Failed = unfit
 -- a float by its bits: a NaN keeps them
 abbrev pub floatValue : ℕ → Value
 floatValue n = cond (nanBits binary64 n) (Nan n) (Float64 (ofBits binary64 n))
+
+-- the value of an outcome; a text is the value that is given, since an outcome has its bytes and not its place
+abbrev pub valueSaying : Value → Outcome → Value
+valueSaying text (entry null) = Null
+valueSaying text (entry (boolean b)) = Boolean b
+valueSaying text (entry (int32 n)) = Int32 n
+valueSaying text (entry (int64 n)) = Int64 n
+valueSaying text (entry (float64 n)) = floatValue n
+valueSaying text (entry (utf8 t)) = text
+valueSaying text unfit = Failed
+
+-- an operation on one value, whatever a text's bytes are; a text that it keeps is that value
+abbrev pub onValue : (Entry → Outcome) → Value → Value
+onValue operation v = valueSaying v (onEntry operation (meaning [] [] v))
+
+-- an operation on two values that gives no text, with the rule's and the table's bytes
+abbrev pub onValues : (Entry → Entry → Entry) → List ℕ → List ℕ → Value → Value → Value
+onValues operation rule table a b = valueSaying Null (onEntries operation (meaning rule table a) (meaning rule table b))
 
 -- the numbers of the kinds: those of the types, null 0, text in the table 6, failed 7
 abbrev pub kindOf : Value → ℕ

@@ -3,14 +3,12 @@ use crate::types::DataType;
 use crate::value::Value;
 ghost use mathlib.Core.Path.{_≡_};
 ghost use lib.Ieee.{binary64, ofInt};
-ghost use Rattle.scalar.specs.Cast.{castEntry};
 ghost use Rattle.scalar.specs.Integer.{signed, bitsOf};
-ghost use Rattle.scalar.specs.Value.{Gives};
-ghost use Rattle.scalar.specs.Casts.{Narrowed, wholeBits, keptAs};
+ghost use Rattle.scalar.specs.Casts.{wholeBits, keptAs, castValue};
 
 // Int64 to Int32: a value outside of Int32's range fails.
 pub fn narrowed(n: u64) -> Value
-    ensures { λ r. ⌜ Narrowed n r ⌝ }
+    ensures { λ r. ⌜ r ≡ castValue DataType.Int32 (Value.Int64 n) ⌝ }
 {
     if n < 0x8000_0000 {
         return Value::Int32(n as u32);
@@ -46,7 +44,7 @@ pub fn floated(n: u32) -> f64
 
 // An Int32 as the type; to Boolean it is "not zero".
 fn from_int32(to: DataType, n: u32) -> Value
-    ensures { λ r. ⌜ Gives (castEntry to) (Value.Int32 n) r ⌝ }
+    ensures { λ r. ⌜ r ≡ castValue to (Value.Int32 n) ⌝ }
 {
     match to {
         DataType::Boolean => Value::Boolean(n != 0),
@@ -59,7 +57,7 @@ fn from_int32(to: DataType, n: u32) -> Value
 
 // An Int64 as the type; to Boolean it is "not zero".
 fn from_int64(to: DataType, n: u64) -> Value
-    ensures { λ r. ⌜ Gives (castEntry to) (Value.Int64 n) r ⌝ }
+    ensures { λ r. ⌜ r ≡ castValue to (Value.Int64 n) ⌝ }
 {
     match to {
         DataType::Boolean => Value::Boolean(n != 0),
@@ -102,7 +100,7 @@ fn kept_text(to: DataType, v: Value) -> Value
 
 // A cast to a type; a pair that isn't listed fails.
 pub fn cast(to: DataType, v: Value) -> Value
-    ensures { λ r. ⌜ Gives (castEntry to) v r ⌝ }
+    ensures { λ r. ⌜ r ≡ castValue to v ⌝ }
 {
     match v {
         Value::Int32(n) => from_int32(to, n),

@@ -4,11 +4,11 @@ use crate::order::order_of;
 use crate::value::Value;
 ghost use mathlib.Core.Path.{_≡_};
 ghost use Rattle.scalar.specs.Compare.{equalEntry, lessEntry};
-ghost use Rattle.scalar.specs.Value.{GivesBoth};
+ghost use Rattle.scalar.specs.Value.{onValues};
 
 // Whether two values are equal; null also at two that are of unlike types.
 pub fn equal(rule: &[u8], table: &[u8], a: Value, b: Value) -> Value
-    ensures { λ r. ⌜ GivesBoth equalEntry (now (rule .entry)) (now (table .entry)) a b r ⌝ }
+    ensures { λ r. ⌜ r ≡ onValues equalEntry (now (rule .entry)) (now (table .entry)) a b ⌝ }
 {
     match order_of(rule, table, a, b) {
         Order::Less => Value::Boolean(false),
@@ -22,7 +22,7 @@ pub fn equal(rule: &[u8], table: &[u8], a: Value, b: Value) -> Value
 
 // Whether a value is less than another; null also at two that are of unlike types.
 pub fn less(rule: &[u8], table: &[u8], a: Value, b: Value) -> Value
-    ensures { λ r. ⌜ GivesBoth lessEntry (now (rule .entry)) (now (table .entry)) a b r ⌝ }
+    ensures { λ r. ⌜ r ≡ onValues lessEntry (now (rule .entry)) (now (table .entry)) a b ⌝ }
 {
     match order_of(rule, table, a, b) {
         Order::Less => Value::Boolean(true),

@@ -3,11 +3,11 @@ use crate::value::Value;
 ghost use mathlib.Core.Path.{_≡_};
 ghost use Rattle.scalar.specs.Entry.{entry};
 ghost use Rattle.scalar.specs.IsNotNull.{isNotNullEntry};
-ghost use Rattle.scalar.specs.Value.{Gives};
+ghost use Rattle.scalar.specs.Value.{onValue};
 
 // Whether a value is not null.
 pub fn is_not_null(v: Value) -> Value
-    ensures { λ r. ⌜ Gives (λ e. entry (isNotNullEntry e)) v r ⌝ }
+    ensures { λ r. ⌜ r ≡ onValue (λ e. entry (isNotNullEntry e)) v ⌝ }
 {
     match v {
         Value::Null => Value::Boolean(false),

@@ -7,7 +7,7 @@ ghost use Rattle.scalar.specs.Entry.{entry};
 ghost use Rattle.scalar.specs.Float.{signTurned};
 ghost use Rattle.scalar.specs.Integer.{negated};
 ghost use Rattle.scalar.specs.Negative.{negativeEntry};
-ghost use Rattle.scalar.specs.Value.{Gives};
+ghost use Rattle.scalar.specs.Value.{onValue};
 
 // The bits of the negated Int32.
 pub fn negated_int32(n: u32) -> u32
@@ -36,7 +36,7 @@ pub fn sign_turned(bits: u64) -> u64
 
 // The negated value; null at a value that is no number.
 pub fn negative(v: Value) -> Value
-    ensures { λ r. ⌜ Gives (λ e. entry (negativeEntry e)) v r ⌝ }
+    ensures { λ r. ⌜ r ≡ onValue (λ e. entry (negativeEntry e)) v ⌝ }
 {
     match v {
         Value::Null => Value::Null,

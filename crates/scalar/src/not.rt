@@ -3,11 +3,11 @@ use crate::value::Value;
 ghost use mathlib.Core.Path.{_≡_};
 ghost use Rattle.scalar.specs.Entry.{entry};
 ghost use Rattle.scalar.specs.Not.{notEntry};
-ghost use Rattle.scalar.specs.Value.{Gives};
+ghost use Rattle.scalar.specs.Value.{onValue};
 
 // NOT of a value; null at a value that is no Boolean.
 pub fn not_value(v: Value) -> Value
-    ensures { λ r. ⌜ Gives (λ e. entry (notEntry e)) v r ⌝ }
+    ensures { λ r. ⌜ r ≡ onValue (λ e. entry (notEntry e)) v ⌝ }
 {
     match v {
         Value::Null => Value::Null,

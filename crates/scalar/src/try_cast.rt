@@ -3,13 +3,11 @@ use crate::cast::cast;
 use crate::types::DataType;
 use crate::value::Value;
 ghost use mathlib.Core.Path.{_≡_};
-ghost use Rattle.scalar.specs.Entry.{entry};
-ghost use Rattle.scalar.specs.TryCast.{tryCastEntry};
-ghost use Rattle.scalar.specs.Value.{Gives};
+ghost use Rattle.scalar.specs.Casts.{tryCastValue};
 
 // A try-cast to a type; what failed before stays failed.
 pub fn try_cast(to: DataType, v: Value) -> Value
-    ensures { λ r. ⌜ Gives (λ e. entry (tryCastEntry to e)) v r ⌝ }
+    ensures { λ r. ⌜ r ≡ tryCastValue to v ⌝ }
 {
     if let Value::Failed = v {
         return Value::Failed;

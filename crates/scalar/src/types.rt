@@ -1,6 +1,6 @@
 // The types of columns, literals and results.
 ghost use mathlib.Core.Path.{_≡_};
-ghost use Rattle.scalar.specs.Types.{TypeGives, markNumber};
+ghost use Rattle.scalar.specs.Types.{typeNumbered, typeAnswer, markNumber};
 
 pub enum DataType {
     Boolean,
@@ -18,7 +18,7 @@ pub enum TypeAnswer {
 
 // The type of a number: 1 to 5.
 pub fn type_numbered(number: u8) -> TypeAnswer
-    ensures { λ r. ⌜ TypeGives number r ⌝ }
+    ensures { λ r. ⌜ r ≡ typeAnswer (typeNumbered 0 number) ⌝ }
 {
     match number {
         1 => TypeAnswer::Known(DataType::Boolean),

@@ -1,10 +1,9 @@
 -- An Int32 as each type.
 use mathlib.Core.Path.{refl, ap}
-use Prim.Native.Nat.{ℕ}
 use borrow.Author.Needs.{needs}
-use Rattle.scalar.specs.Entry.{int64, entry}
+use Rattle.scalar.specs.declared.value.Value.the-variants.{Int32, Int64}
 use Rattle.scalar.specs.Cast.{castEntry}
-use Rattle.scalar.proofs.CastLaws.{gives-as, floated-gives}
+use Rattle.scalar.proofs.CastLaws.{cast-to, floated-cast}
 use Rattle.scalar.proofs.cast.from_int32.Statement.{statement}
 use Rattle.scalar.proofs.cast.from_int32.Tie as tie
 
@@ -20,8 +19,8 @@ from-int32-spec =
     (λ c. search needs)
     (λ c κs. search needs)
     (λ c. search needs)
-    (λ c. gives-as (c .enum-told .given .1) (λ rule table. refl) (λ s. tt))
-    (λ c. gives-as (c .enum-told2 .given .1) (λ rule table. refl) (λ s. s))
-    (λ c. gives-as (c .before .enum-told3 .given .1) (λ rule table. ap (λ (n : ℕ). entry (int64 n)) (c .widened .ensures)) (λ s. c .widened .ok))
-    (λ c. floated-gives (c .before .enum-told4 .given .1) (c .floated .ensures))
-    (λ c. gives-as (c .enum-told5 .given .1) (λ rule table. refl) (λ s. tt)))
+    (λ c. cast-to (Int32 (c .before .before .args .n)) (c .enum-told .given .1) refl)
+    (λ c. cast-to (Int32 (c .before .before .args .n)) (c .enum-told2 .given .1) refl)
+    (λ c. cast-to (Int32 (c .before .before .before .args .n)) (c .before .enum-told3 .given .1) (ap Int64 (c .widened .ensures)))
+    (λ c. floated-cast (c .before .before .before .args .n) (c .before .enum-told4 .given .1) (c .floated .ensures))
+    (λ c. cast-to (Int32 (c .before .before .args .n)) (c .enum-told5 .given .1) refl))

@@ -1,8 +1,9 @@
 -- An Int64 as each type.
 use mathlib.Core.Path.{refl}
 use borrow.Author.Needs.{needs}
+use Rattle.scalar.specs.declared.value.Value.the-variants.{Int64}
 use Rattle.scalar.specs.Cast.{castEntry}
-use Rattle.scalar.proofs.CastLaws.{gives-as, whole-lost}
+use Rattle.scalar.proofs.CastLaws.{cast-to, whole-lost}
 use Rattle.scalar.proofs.cast.from_int64.Statement.{statement}
 use Rattle.scalar.proofs.cast.from_int64.Tie as tie
 
@@ -15,7 +16,7 @@ from-int64-spec =
     (λ c. search needs)
     (λ c κs. search needs)
     (λ c. search needs)
-    (λ c. gives-as (c .enum-told .given .1) (λ rule table. refl) (λ s. tt))
-    (λ c. gives-as (c .before .enum-told2 .given .1) (c .narrowed .ensures .means) (λ s. c .narrowed .ensures .stores))
-    (λ c. gives-as (c .enum-told3 .given .1) (λ rule table. refl) (λ s. s))
+    (λ c. cast-to (Int64 (c .before .before .args .n)) (c .enum-told .given .1) refl)
+    (λ c. cast-to (Int64 (c .before .before .before .args .n)) (c .before .enum-told2 .given .1) (c .narrowed .ensures))
+    (λ c. cast-to (Int64 (c .before .before .args .n)) (c .enum-told3 .given .1) refl)
     (λ c. whole-lost (c .before .args .to) (c .before .args .n) (c .match .keys4)))

@@ -1,11 +1,12 @@
 -- Negative, arm by arm.
 use mathlib.Core.Path.{refl, ap, _∙_}
-use Prim.Native.Nat.{ℕ}
 use borrow.Author.Needs.{needs}
-use Rattle.scalar.specs.Entry.{int32, int64, entry}
+use Rattle.scalar.specs.declared.value.Value.the-variants.{Int32, Int64}
+use Rattle.scalar.specs.Entry.{entry}
 use Rattle.scalar.specs.Float.{signTurned}
-use Rattle.scalar.specs.Value.{meaning}
-use Rattle.scalar.proofs.ValueLaws.{gives-at, turned-gives}
+use Rattle.scalar.specs.Negative.{negativeEntry}
+use Rattle.scalar.specs.Value.{floatValue, onValue}
+use Rattle.scalar.proofs.OperationLaws.{value-at}
 use Rattle.scalar.proofs.negative.negative.Statement.{statement}
 use Rattle.scalar.proofs.negative.negative.Tie as tie
 
@@ -29,12 +30,12 @@ negative-spec =
     (λ c. search needs)
     (λ c. search needs)
     (λ c. search needs)
-    (λ c. gives-at (c .enum-told .given .1) (λ rule table. refl) (λ s. tt))
-    (λ c. gives-at (c .enum-told2 .given .1) (λ rule table. refl) (λ s. tt))
-    (λ c. gives-at (c .before .before .v .given .1) (λ rule table. ap (λ (n : ℕ). entry (int32 n)) (c .negated-int32 .ensures)) (λ s. c .negated-int32 .ok))
-    (λ c. gives-at (c .before .before .v2 .given .1) (λ rule table. ap (λ (n : ℕ). entry (int64 n)) (c .negated-int64 .ensures)) (λ s. c .negated-int64 .ok))
-    (λ c. turned-gives (λ rule table. ap (meaning rule table) (c .before .before .before .before .v3 .given .1)) (c .before .sign-turned .ensures ∙ ap (signTurned 63) (c .before .before .float-bits .ensures)) (c .before .sign-turned .ok) (c .float-value .ensures))
-    (λ c. turned-gives (λ rule table. ap (meaning rule table) (c .before .before .before .v4 .given .1)) (c .before .sign-turned2 .ensures) (c .before .sign-turned2 .ok) (c .float-value2 .ensures))
-    (λ c. gives-at (c .enum-told3 .given .1) (λ rule table. refl) (λ s. tt))
-    (λ c. gives-at (c .enum-told4 .given .1) (λ rule table. refl) (λ s. tt))
-    (λ c. gives-at (c .enum-told5 .given .1) (λ rule table. refl) (λ s. tt)))
+    (λ c. value-at (onValue (λ e. entry (negativeEntry e))) (c .enum-told .given .1) refl)
+    (λ c. value-at (onValue (λ e. entry (negativeEntry e))) (c .enum-told2 .given .1) refl)
+    (λ c. value-at (onValue (λ e. entry (negativeEntry e))) (c .before .before .v .given .1) (ap Int32 (c .negated-int32 .ensures)))
+    (λ c. value-at (onValue (λ e. entry (negativeEntry e))) (c .before .before .v2 .given .1) (ap Int64 (c .negated-int64 .ensures)))
+    (λ c. value-at (onValue (λ e. entry (negativeEntry e))) (c .before .before .before .before .v3 .given .1) (c .float-value .ensures ∙ ap floatValue (c .before .sign-turned .ensures ∙ ap (signTurned 63) (c .before .before .float-bits .ensures))))
+    (λ c. value-at (onValue (λ e. entry (negativeEntry e))) (c .before .before .before .v4 .given .1) (c .float-value2 .ensures ∙ ap floatValue (c .before .sign-turned2 .ensures)))
+    (λ c. value-at (onValue (λ e. entry (negativeEntry e))) (c .enum-told3 .given .1) refl)
+    (λ c. value-at (onValue (λ e. entry (negativeEntry e))) (c .enum-told4 .given .1) refl)
+    (λ c. value-at (onValue (λ e. entry (negativeEntry e))) (c .enum-told5 .given .1) refl))

@@ -1,7 +1,10 @@
 -- NOT, arm by arm.
 use mathlib.Core.Path.{refl}
 use borrow.Author.Needs.{needs}
-use Rattle.scalar.proofs.ValueLaws.{gives-at}
+use Rattle.scalar.specs.Entry.{entry}
+use Rattle.scalar.specs.Not.{notEntry}
+use Rattle.scalar.specs.Value.{onValue}
+use Rattle.scalar.proofs.OperationLaws.{value-at}
 use Rattle.scalar.proofs.not.not_value.Statement.{statement}
 use Rattle.scalar.proofs.not.not_value.Tie as tie
 
@@ -18,12 +21,12 @@ not-value-spec =
     (λ c. search needs)
     (λ c. search needs)
     (λ c. search needs)
-    (λ c. gives-at (c .enum-told .given .1) (λ rule table. refl) (λ s. tt))
-    (λ c. gives-at (c .before .v .given .1) (λ rule table. refl) (λ s. tt))
-    (λ c. gives-at (c .enum-told2 .given .1) (λ rule table. refl) (λ s. tt))
-    (λ c. gives-at (c .enum-told3 .given .1) (λ rule table. refl) (λ s. tt))
-    (λ c. gives-at (c .enum-told4 .given .1) (λ rule table. refl) (λ s. tt))
-    (λ c. gives-at (c .enum-told5 .given .1) (λ rule table. refl) (λ s. tt))
-    (λ c. gives-at (c .enum-told6 .given .1) (λ rule table. refl) (λ s. tt))
-    (λ c. gives-at (c .enum-told7 .given .1) (λ rule table. refl) (λ s. tt))
-    (λ c. gives-at (c .enum-told8 .given .1) (λ rule table. refl) (λ s. tt)))
+    (λ c. value-at (onValue (λ e. entry (notEntry e))) (c .enum-told .given .1) refl)
+    (λ c. value-at (onValue (λ e. entry (notEntry e))) (c .before .v .given .1) refl)
+    (λ c. value-at (onValue (λ e. entry (notEntry e))) (c .enum-told2 .given .1) refl)
+    (λ c. value-at (onValue (λ e. entry (notEntry e))) (c .enum-told3 .given .1) refl)
+    (λ c. value-at (onValue (λ e. entry (notEntry e))) (c .enum-told4 .given .1) refl)
+    (λ c. value-at (onValue (λ e. entry (notEntry e))) (c .enum-told5 .given .1) refl)
+    (λ c. value-at (onValue (λ e. entry (notEntry e))) (c .enum-told6 .given .1) refl)
+    (λ c. value-at (onValue (λ e. entry (notEntry e))) (c .enum-told7 .given .1) refl)
+    (λ c. value-at (onValue (λ e. entry (notEntry e))) (c .enum-told8 .given .1) refl))

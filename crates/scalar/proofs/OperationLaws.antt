@@ -1,0 +1,161 @@
+-- Operations on values: what each gives is what it makes of the entry. Assumes nothing.
+use mathlib.Core.Path.{_≡_, refl, sym, ap, subst, _∙_}
+use mathlib.Core.Bool.{Bool, true, false, cond, false≢true}
+use mathlib.Core.List.{List, [], _∷_}
+use Prim.Native.Nat.{ℕ, _^_, _<_}
+use lib.Dec.{T}
+use lib.IntN.{negℤ}
+use lib.Ieee.{binary64, fits, toBits}
+use lib.Ieee.Bits.{toBits-lt}
+use types.Run.{OneOf, miss}
+use denote.Enum.Declared.{tagOf}
+use Rattle.scalar.proofs.value.Value.{the-type}
+use Rattle.scalar.specs.declared.types.DataType.{DataType}
+use Rattle.scalar.specs.declared.value.Value.{Value}
+use Rattle.scalar.specs.declared.value.Value.the-variants.{Null, Boolean, Int32, Int64, Float64, Nan, RuleText, TableText, Failed}
+use Rattle.scalar.specs.Entry.{Entry, float64, Outcome, entry, onEntry}
+use Rattle.scalar.specs.Integer.{signed}
+use Rattle.scalar.specs.Float.{signTurned}
+use Rattle.scalar.specs.Not.{notEntry}
+use Rattle.scalar.specs.IsNotNull.{isNotNullEntry}
+use Rattle.scalar.specs.Negative.{negativeEntry}
+use Rattle.scalar.specs.Cast.{castEntry}
+use Rattle.scalar.specs.TryCast.{orNull, tryCastEntry}
+use Rattle.scalar.specs.Casts.{castValue, failed, tryCastValue}
+use Rattle.scalar.specs.Value.{meaning, floatValue, onValue, Storable, Gives}
+use Rattle.scalar.proofs.IntegerLaws.{bitsOf-below}
+use Rattle.scalar.proofs.FloatLaws.{float-stores, float-means, signTurned-below}
+use Rattle.scalar.proofs.CastLaws.{cast-gives}
+
+-- an operation at a value that is known
+pub value-at : (f : Value → Value) {v w r : Value} → v ≡ w → r ≡ f w → r ≡ f v
+value-at f e p = p ∙ ap f (sym e)
+
+-- NOT of a value is that of its entry
+pub not-gives : {v r : Value} → r ≡ onValue (λ e. entry (notEntry e)) v → Gives (λ e. entry (notEntry e)) v r
+not-gives {v} e = subst (Gives (λ e. entry (notEntry e)) v) (sym e) (go v)
+  where
+    go : (v : Value) → Gives (λ e. entry (notEntry e)) v (onValue (λ e. entry (notEntry e)) v)
+    go Null = record { means = λ rule table. refl; stores = λ s. tt }
+    go (Boolean b) = record { means = λ rule table. refl; stores = λ s. tt }
+    go (Int32 n) = record { means = λ rule table. refl; stores = λ s. tt }
+    go (Int64 n) = record { means = λ rule table. refl; stores = λ s. tt }
+    go (Float64 f) = record { means = λ rule table. refl; stores = λ s. tt }
+    go (Nan n) = record { means = λ rule table. refl; stores = λ s. tt }
+    go (RuleText start size) = record { means = λ rule table. refl; stores = λ s. tt }
+    go (TableText start size) = record { means = λ rule table. refl; stores = λ s. tt }
+    go Failed = record { means = λ rule table. refl; stores = λ s. tt }
+
+-- and so is IS NOT NULL
+pub isNotNull-gives : {v r : Value} → r ≡ onValue (λ e. entry (isNotNullEntry e)) v → Gives (λ e. entry (isNotNullEntry e)) v r
+isNotNull-gives {v} e = subst (Gives (λ e. entry (isNotNullEntry e)) v) (sym e) (go v)
+  where
+    go : (v : Value) → Gives (λ e. entry (isNotNullEntry e)) v (onValue (λ e. entry (isNotNullEntry e)) v)
+    go Null = record { means = λ rule table. refl; stores = λ s. tt }
+    go (Boolean b) = record { means = λ rule table. refl; stores = λ s. tt }
+    go (Int32 n) = record { means = λ rule table. refl; stores = λ s. tt }
+    go (Int64 n) = record { means = λ rule table. refl; stores = λ s. tt }
+    go (Float64 f) = record { means = λ rule table. refl; stores = λ s. tt }
+    go (Nan n) = record { means = λ rule table. refl; stores = λ s. tt }
+    go (RuleText start size) = record { means = λ rule table. refl; stores = λ s. tt }
+    go (TableText start size) = record { means = λ rule table. refl; stores = λ s. tt }
+    go Failed = record { means = λ rule table. refl; stores = λ s. tt }
+
+-- a float is one of 64 bits
+abbrev pub Bits64 : Value → Type 0
+Bits64 Null = Unit {0}
+Bits64 (Boolean b) = Unit {0}
+Bits64 (Int32 n) = Unit {0}
+Bits64 (Int64 n) = Unit {0}
+Bits64 (Float64 f) = T (fits binary64 f)
+Bits64 (Nan n) = n < 2 ^ 64
+Bits64 (RuleText start size) = Unit {0}
+Bits64 (TableText start size) = Unit {0}
+Bits64 Failed = Unit {0}
+
+-- a float's bits with their sign turned are the negative of its value
+turned-gives : (n : ℕ) {v : Value} → n < 2 ^ 64 → ((rule table : List ℕ) → meaning rule table v ≡ entry (float64 n)) → Gives (λ e. entry (negativeEntry e)) v (floatValue (signTurned 63 n))
+turned-gives n b m = record {
+  means = λ rule table. float-means (signTurned 63 n) (signTurned-below 63 n b) rule table ∙ sym (ap (onEntry (λ e. entry (negativeEntry e))) (m rule table));
+  stores = λ _. float-stores (signTurned 63 n) (signTurned-below 63 n b);
+}
+
+-- negative of a value is that of its entry
+pub negative-gives : {v r : Value} → Bits64 v → r ≡ onValue (λ e. entry (negativeEntry e)) v → Gives (λ e. entry (negativeEntry e)) v r
+negative-gives {v} b e = subst (Gives (λ e. entry (negativeEntry e)) v) (sym e) (go v b)
+  where
+    go : (v : Value) → Bits64 v → Gives (λ e. entry (negativeEntry e)) v (onValue (λ e. entry (negativeEntry e)) v)
+    go Null b = record { means = λ rule table. refl; stores = λ s. tt }
+    go (Boolean c) b = record { means = λ rule table. refl; stores = λ s. tt }
+    go (Int32 n) b = record { means = λ rule table. refl; stores = λ s. bitsOf-below 31 (negℤ (signed 31 n)) }
+    go (Int64 n) b = record { means = λ rule table. refl; stores = λ s. bitsOf-below 63 (negℤ (signed 63 n)) }
+    go (Float64 f) b = turned-gives (toBits binary64 f) (toBits-lt binary64 f b) (λ rule table. refl)
+    go (Nan n) b = turned-gives n b (λ rule table. refl)
+    go (RuleText start size) b = record { means = λ rule table. refl; stores = λ s. tt }
+    go (TableText start size) b = record { means = λ rule table. refl; stores = λ s. tt }
+    go Failed b = record { means = λ rule table. refl; stores = λ s. tt }
+
+-- what the last arm of a `match` on a failed value leaves
+abbrev pub NotFailed : Value → Type 0
+NotFailed v = OneOf (0 ∷ 1 ∷ 2 ∷ 3 ∷ 4 ∷ 5 ∷ 6 ∷ 7 ∷ []) (tagOf the-type v)
+
+not-failed : (v : Value) → NotFailed v → failed v ≡ false
+not-failed Null h = refl
+not-failed (Boolean b) h = refl
+not-failed (Int32 n) h = refl
+not-failed (Int64 n) h = refl
+not-failed (Float64 f) h = refl
+not-failed (Nan n) h = refl
+not-failed (RuleText start size) h = refl
+not-failed (TableText start size) h = refl
+not-failed Failed h = absurd (miss (0 ∷ 1 ∷ 2 ∷ 3 ∷ 4 ∷ 5 ∷ 6 ∷ 7 ∷ []) 8 tt h)
+
+has-failed : (v : Value) → failed v ≡ true → v ≡ Failed
+has-failed Null h = absurd (false≢true h)
+has-failed (Boolean b) h = absurd (false≢true h)
+has-failed (Int32 n) h = absurd (false≢true h)
+has-failed (Int64 n) h = absurd (false≢true h)
+has-failed (Float64 f) h = absurd (false≢true h)
+has-failed (Nan n) h = absurd (false≢true h)
+has-failed (RuleText start size) h = absurd (false≢true h)
+has-failed (TableText start size) h = absurd (false≢true h)
+has-failed Failed h = refl
+
+-- a value that has not failed is an entry
+is-entry : (v : Value) → failed v ≡ false → (rule table : List ℕ) → meaning rule table v ≡ entry (orNull (meaning rule table v))
+is-entry Null h rule table = refl
+is-entry (Boolean b) h rule table = refl
+is-entry (Int32 n) h rule table = refl
+is-entry (Int64 n) h rule table = refl
+is-entry (Float64 f) h rule table = refl
+is-entry (Nan n) h rule table = refl
+is-entry (RuleText start size) h rule table = refl
+is-entry (TableText start size) h rule table = refl
+is-entry Failed h rule table = absurd (false≢true (sym h))
+
+-- null, where the cast fails
+pub try-null : (to : DataType) (v : Value) {r : Value} → NotFailed v → r ≡ Failed → r ≡ castValue to v → Null ≡ tryCastValue to v
+try-null to v h e p = simp (not-failed v h, ap failed (sym p ∙ e))
+
+-- the cast, where it fits
+pub try-entry : (to : DataType) (v : Value) {r : Value} → NotFailed v → NotFailed r → r ≡ castValue to v → r ≡ tryCastValue to v
+try-entry to v {r} h k p = p ∙ simp (not-failed v h, ap failed (sym p) ∙ not-failed r k)
+
+-- a try-cast of a value is that of its entry
+module _ (to : DataType) (v : Value) where
+  tried : failed v ≡ false → (r : Value) → Gives (castEntry to) v r → (rule table : List ℕ) → entry (orNull (meaning rule table r)) ≡ onEntry (λ e. entry (tryCastEntry to e)) (meaning rule table v)
+  tried h r g rule table = ap (λ (o : Outcome). entry (orNull o)) (g .means rule table) ∙ rw (is-entry v h rule table) refl
+
+  fitted : failed v ≡ false → (r : Value) (c : Bool) → failed r ≡ c → Gives (castEntry to) v r → Gives (λ e. entry (tryCastEntry to e)) v (cond c Null r)
+  fitted h r true k g = record {
+    means = λ rule table. ap (λ (x : Value). entry (orNull (meaning rule table x))) (sym (has-failed r k)) ∙ tried h r g rule table;
+    stores = λ _. tt;
+  }
+  fitted h r false k g = record { means = λ rule table. is-entry r k rule table ∙ tried h r g rule table; stores = g .stores }
+
+  by-failing : (c : Bool) → failed v ≡ c → Gives (λ e. entry (tryCastEntry to e)) v (cond c Failed (cond (failed (castValue to v)) Null (castValue to v)))
+  by-failing true h = rw (has-failed v h) (record { means = λ rule table. refl; stores = λ s. s })
+  by-failing false h = fitted h (castValue to v) (failed (castValue to v)) refl (cast-gives to v refl)
+
+pub tryCast-gives : (to : DataType) (v : Value) {r : Value} → r ≡ tryCastValue to v → Gives (λ e. entry (tryCastEntry to e)) v r
+tryCast-gives to v e = subst (Gives (λ e. entry (tryCastEntry to e)) v) (sym e) (by-failing to v (failed v) refl)
