@@ -3,9 +3,8 @@ use mathlib.Core.Path.{_≡_, refl, sym, ap, subst, _∙_}
 use mathlib.Core.Bool.{Bool, true, false, cond, false≢true}
 use mathlib.Core.List.{List, [], _∷_}
 use Prim.Native.Nat.{ℕ, _^_, _<_}
-use lib.Dec.{T}
 use lib.IntN.{negℤ}
-use lib.Ieee.{binary64, fits, toBits}
+use lib.Ieee.{binary64, nanBits, ofBits, toBits}
 use lib.Ieee.Bits.{toBits-lt}
 use types.Run.{OneOf, miss}
 use denote.Enum.Declared.{tagOf}
@@ -24,11 +23,11 @@ use Rattle.scalar.specs.TryCast.{orNull, tryCastEntry}
 use Rattle.scalar.specs.Casts.{castValue, failed, tryCastValue}
 use Rattle.scalar.specs.Value.{meaning, floatValue, onValue, Storable, Gives}
 use Rattle.scalar.proofs.IntegerLaws.{bitsOf-below}
-use Rattle.scalar.proofs.FloatLaws.{float-stores, float-means, signTurned-below}
+use Rattle.scalar.proofs.FloatLaws.{float-stores, signTurned-below}
 use Rattle.scalar.proofs.CastLaws.{cast-gives}
 
 -- an operation at a value that is known
-pub value-at : (f : Value → Value) {v w r : Value} → v ≡ w → r ≡ f w → r ≡ f v
+pub value-at : {A : Type 0} (f : Value → A) {v w : Value} {r : A} → v ≡ w → r ≡ f w → r ≡ f v
 value-at f e p = p ∙ ap f (sym e)
 
 -- NOT of a value is that of its entry
@@ -61,39 +60,36 @@ isNotNull-gives {v} e = subst (Gives (λ e. entry (isNotNullEntry e)) v) (sym e)
     go (TableText start size) = record { means = λ rule table. refl; stores = λ s. tt }
     go Failed = record { means = λ rule table. refl; stores = λ s. tt }
 
--- a float is one of 64 bits
-abbrev pub Bits64 : Value → Type 0
-Bits64 Null = Unit {0}
-Bits64 (Boolean b) = Unit {0}
-Bits64 (Int32 n) = Unit {0}
-Bits64 (Int64 n) = Unit {0}
-Bits64 (Float64 f) = T (fits binary64 f)
-Bits64 (Nan n) = n < 2 ^ 64
-Bits64 (RuleText start size) = Unit {0}
-Bits64 (TableText start size) = Unit {0}
-Bits64 Failed = Unit {0}
+-- a float has no text, so it means the same whatever the bytes
+float-anywhere : (n : ℕ) (rule table : List ℕ) → meaning rule table (floatValue n) ≡ meaning [] [] (floatValue n)
+float-anywhere n rule table = go (nanBits binary64 n)
+  where
+    go : (c : Bool) → meaning rule table (cond c (Nan n) (Float64 (ofBits binary64 n))) ≡ meaning [] [] (cond c (Nan n) (Float64 (ofBits binary64 n)))
+    go true = refl
+    go false = refl
 
 -- a float's bits with their sign turned are the negative of its value
-turned-gives : (n : ℕ) {v : Value} → n < 2 ^ 64 → ((rule table : List ℕ) → meaning rule table v ≡ entry (float64 n)) → Gives (λ e. entry (negativeEntry e)) v (floatValue (signTurned 63 n))
-turned-gives n b m = record {
-  means = λ rule table. float-means (signTurned 63 n) (signTurned-below 63 n b) rule table ∙ sym (ap (onEntry (λ e. entry (negativeEntry e))) (m rule table));
-  stores = λ _. float-stores (signTurned 63 n) (signTurned-below 63 n b);
+turned-gives : (n : ℕ) {v : Value} → ((rule table : List ℕ) → meaning rule table v ≡ entry (float64 n)) → (Storable v → n < 2 ^ 64) → meaning [] [] (floatValue (signTurned 63 n)) ≡ entry (float64 (signTurned 63 n))
+    → Gives (λ e. entry (negativeEntry e)) v (floatValue (signTurned 63 n))
+turned-gives n m b q = record {
+  means = λ rule table. float-anywhere (signTurned 63 n) rule table ∙ q ∙ sym (ap (onEntry (λ e. entry (negativeEntry e))) (m rule table));
+  stores = λ s. float-stores (signTurned 63 n) (signTurned-below 63 n (b s));
 }
 
 -- negative of a value is that of its entry
-pub negative-gives : {v r : Value} → Bits64 v → r ≡ onValue (λ e. entry (negativeEntry e)) v → Gives (λ e. entry (negativeEntry e)) v r
-negative-gives {v} b e = subst (Gives (λ e. entry (negativeEntry e)) v) (sym e) (go v b)
+pub negative-gives : (v : Value) {r : Value} → r ≡ onValue (λ e. entry (negativeEntry e)) v → meaning [] [] r ≡ onEntry (λ e. entry (negativeEntry e)) (meaning [] [] v) → Gives (λ e. entry (negativeEntry e)) v r
+negative-gives v e q = subst (Gives (λ e. entry (negativeEntry e)) v) (sym e) (go v (sym (ap (meaning [] []) e) ∙ q))
   where
-    go : (v : Value) → Bits64 v → Gives (λ e. entry (negativeEntry e)) v (onValue (λ e. entry (negativeEntry e)) v)
-    go Null b = record { means = λ rule table. refl; stores = λ s. tt }
-    go (Boolean c) b = record { means = λ rule table. refl; stores = λ s. tt }
-    go (Int32 n) b = record { means = λ rule table. refl; stores = λ s. bitsOf-below 31 (negℤ (signed 31 n)) }
-    go (Int64 n) b = record { means = λ rule table. refl; stores = λ s. bitsOf-below 63 (negℤ (signed 63 n)) }
-    go (Float64 f) b = turned-gives (toBits binary64 f) (toBits-lt binary64 f b) (λ rule table. refl)
-    go (Nan n) b = turned-gives n b (λ rule table. refl)
-    go (RuleText start size) b = record { means = λ rule table. refl; stores = λ s. tt }
-    go (TableText start size) b = record { means = λ rule table. refl; stores = λ s. tt }
-    go Failed b = record { means = λ rule table. refl; stores = λ s. tt }
+    go : (v : Value) → meaning [] [] (onValue (λ e. entry (negativeEntry e)) v) ≡ onEntry (λ e. entry (negativeEntry e)) (meaning [] [] v) → Gives (λ e. entry (negativeEntry e)) v (onValue (λ e. entry (negativeEntry e)) v)
+    go Null q = record { means = λ rule table. refl; stores = λ s. tt }
+    go (Boolean b) q = record { means = λ rule table. refl; stores = λ s. tt }
+    go (Int32 n) q = record { means = λ rule table. refl; stores = λ s. bitsOf-below 31 (negℤ (signed 31 n)) }
+    go (Int64 n) q = record { means = λ rule table. refl; stores = λ s. bitsOf-below 63 (negℤ (signed 63 n)) }
+    go (Float64 f) q = turned-gives (toBits binary64 f) (λ rule table. refl) (λ s. toBits-lt binary64 f (s .0)) q
+    go (Nan n) q = turned-gives n (λ rule table. refl) (λ s. s .0) q
+    go (RuleText start size) q = record { means = λ rule table. refl; stores = λ s. tt }
+    go (TableText start size) q = record { means = λ rule table. refl; stores = λ s. tt }
+    go Failed q = record { means = λ rule table. refl; stores = λ s. tt }
 
 -- what the last arm of a `match` on a failed value leaves
 abbrev pub NotFailed : Value → Type 0

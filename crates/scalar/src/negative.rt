@@ -3,11 +3,12 @@ use crate::value::Value;
 use crate::value::float_bits;
 use crate::value::float_value;
 ghost use mathlib.Core.Path.{_≡_};
-ghost use Rattle.scalar.specs.Entry.{entry};
+ghost use mathlib.Core.List.{[]};
+ghost use Rattle.scalar.specs.Entry.{entry, onEntry};
 ghost use Rattle.scalar.specs.Float.{signTurned};
 ghost use Rattle.scalar.specs.Integer.{negated};
 ghost use Rattle.scalar.specs.Negative.{negativeEntry};
-ghost use Rattle.scalar.specs.Value.{onValue};
+ghost use Rattle.scalar.specs.Value.{meaning, onValue};
 
 // The bits of the negated Int32.
 pub fn negated_int32(n: u32) -> u32
@@ -34,9 +35,9 @@ pub fn sign_turned(bits: u64) -> u64
     }
 }
 
-// The negated value; null at a value that is no number.
+// The negated value; null at a value that is no number. That it means the negative is said too: callers don't know that a float's bits are 64.
 pub fn negative(v: Value) -> Value
-    ensures { λ r. ⌜ r ≡ onValue (λ e. entry (negativeEntry e)) v ⌝ }
+    ensures { λ r. ⌜ (r ≡ onValue (λ e. entry (negativeEntry e)) v) × (meaning [] [] r ≡ onEntry (λ e. entry (negativeEntry e)) (meaning [] [] v)) ⌝ }
 {
     match v {
         Value::Null => Value::Null,

@@ -13,7 +13,8 @@ use Rattle.layout.specs.Field.{Field}
 use Rattle.scalar.specs.declared.types.DataType.{DataType}
 use Rattle.scalar.specs.declared.types.TypeAnswer.{TypeAnswer}
 use Rattle.scalar.specs.declared.types.TypeAnswer.the-variants.{Known, Unknown}
-use Rattle.scalar.specs.Types.{typeMeans, TypeGives, markNumbered}
+use Rattle.scalar.proofs.TypeLaws.{type-means}
+use Rattle.scalar.specs.Types.{typeNumbered, typeAnswer, typeMeans, markNumbered}
 use Rattle.table.specs.declared.part.PartAnswer.{PartAnswer}
 use Rattle.table.specs.declared.part.PartAnswer.the-variants.{At, Refused}
 use Rattle.table.specs.declared.places.ColumnPlace.{ColumnPlace}
@@ -147,10 +148,10 @@ mark-below zero h = refl
 mark-below (suc zero) h = refl
 mark-below (suc (suc k)) h = absurd (omega arith)
 
-module _ (l : List ℕ) (kind mark at rows : ℕ) (r : TypeAnswer) (g : TypeGives kind r) (a : ColumnAnswer) (vs : ℕ) where
+module _ (l : List ℕ) (kind mark at rows : ℕ) (r : TypeAnswer) (g : r ≡ typeAnswer (typeNumbered 0 kind)) (a : ColumnAnswer) (vs : ℕ) where
   head-step : (t : TypeAnswer) → r ≡ t → (typeMeans 11 t >>= markBehind mark rows (drop at l)) ≡ headStep kind mark rows (drop at l)
   unfolding headStep
-  head-step t e = ap (λ (d : Result DataType). d >>= markBehind mark rows (drop at l)) (sym (ap (typeMeans 11) e) ∙ g .says 11)
+  head-step t e = ap (λ (d : Result DataType). d >>= markBehind mark rows (drop at l)) (sym (ap (typeMeans 11) e) ∙ type-means 11 kind g)
 
   pub type-unknown : r ≡ Unknown → a ≡ refusedColumn 11 → a ≡ columnAnswer vs (headStep kind mark rows (drop at l))
   type-unknown e u = u ∙ ap (columnAnswer vs) (head-step Unknown e)

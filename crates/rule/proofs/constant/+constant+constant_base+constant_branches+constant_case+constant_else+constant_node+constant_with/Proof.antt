@@ -2,6 +2,8 @@
 -- from the next node. The loop's invariant: the branches that are left stand at the place and give what all give.
 use mathlib.Core.Path.{refl, sym, _∙_}
 use native.Mathlib.Omega.{arith}
+use Rattle.scalar.proofs.CompareLaws.{equal-both}
+use Rattle.scalar.proofs.OperationLaws.{tryCast-gives}
 use Rattle.rule.proofs.ConstantNode.{within-column, within-literal, within-case, within-one, within-two, constant-same, constant-other, constant-none, within-behind}
 use Rattle.rule.proofs.ConstantCase.{base-none, base-some, else-none, else-some, with-failed, with-null, with-value, BranchesLeft, branches-start, branches-next, branches-failed, branches-then, branches-end, case-gives, case-behind}
 use Prim.Native.Nat.{ℕ, _+_, _*_, _<_}
@@ -180,12 +182,12 @@ pub +constant+constant-base+constant-branches+constant-case+constant-else+consta
     (λ c κs. tt)
     (λ c κs. tt)
     (λ c κs. tt)
-    (λ c. branches-failed (c .before .before .before .before .before .before .before .before .before .loop .inv) (c .before .before .before .before .before .before .before .before .loop-test .taken) (end-gives (c .before .before .before .before .before .before .before .field-end .ensures)) (end-gives (c .before .before .before .before .before .before .field-end2 .ensures)) (c .before .before .before .before .before .constant .ensures) (c .before .before .before .before .equal .ensures) (sym (c .before .kind .ensures) ∙ c .if2 .taken))
+    (λ c. branches-failed (c .before .before .before .before .before .before .before .before .before .loop .inv) (c .before .before .before .before .before .before .before .before .loop-test .taken) (end-gives (c .before .before .before .before .before .before .before .field-end .ensures)) (end-gives (c .before .before .before .before .before .before .field-end2 .ensures)) (c .before .before .before .before .before .constant .ensures) (equal-both (c .before .before .before .before .equal .ensures)) (sym (c .before .kind .ensures) ∙ c .if2 .taken))
     (λ c κs. let q = c .before .before .before .before .before .before .before .before .before .before .before .before .pre .0 in (omega arith, tt))
-    (λ c. branches-then (c .before .before .before .before .before .before .before .before .before .before .loop .inv) (c .before .before .before .before .before .before .before .before .before .loop-test .taken) (end-gives (c .before .before .before .before .before .before .before .before .field-end .ensures)) (end-gives (c .before .before .before .before .before .before .before .field-end2 .ensures)) (c .before .before .before .before .before .before .constant .ensures) (c .before .before .before .before .before .equal .ensures) (c .before .before .before .before .may-pass .ensures) (c .before .before .before .if1 .taken) (λ p. c .before .if2 .left (c .before .before .kind .ensures ∙ p)) (c .constant2 .ensures))
+    (λ c. branches-then (c .before .before .before .before .before .before .before .before .before .before .loop .inv) (c .before .before .before .before .before .before .before .before .before .loop-test .taken) (end-gives (c .before .before .before .before .before .before .before .before .field-end .ensures)) (end-gives (c .before .before .before .before .before .before .before .field-end2 .ensures)) (c .before .before .before .before .before .before .constant .ensures) (equal-both (c .before .before .before .before .before .equal .ensures)) (c .before .before .before .before .may-pass .ensures) (c .before .before .before .if1 .taken) (λ p. c .before .if2 .left (c .before .before .kind .ensures ∙ p)) (c .constant2 .ensures))
     (λ c. omega arith)
     (λ c. omega arith)
-    (λ c. branches-next (c .before .before .before .before .before .before .before .loop .inv) (c .before .before .before .before .before .before .loop-test .taken) (end-gives (c .before .before .before .before .before .field-end .ensures)) (end-gives (c .before .before .before .before .field-end2 .ensures)) (c .before .before .before .constant .ensures) (c .before .before .equal .ensures) (c .before .may-pass .ensures) (c .if1 .left))
+    (λ c. branches-next (c .before .before .before .before .before .before .before .loop .inv) (c .before .before .before .before .before .before .loop-test .taken) (end-gives (c .before .before .before .before .before .field-end .ensures)) (end-gives (c .before .before .before .before .field-end2 .ensures)) (c .before .before .before .constant .ensures) (equal-both (c .before .before .equal .ensures)) (c .before .may-pass .ensures) (c .if1 .left))
     (λ c κs. let q = c .before .before .before .before .pre .0 in (omega arith, tt))
     (λ c. branches-end (c .before .before .loop .inv) (c .before .loop-test .left) (c .constant-else .ensures)))
     (λ t. constant-case-lts.spec (constant-case-calls t) (constant-case-at t) constant-case.Post
@@ -205,7 +207,7 @@ pub +constant+constant-base+constant-branches+constant-case+constant-else+consta
     (λ c. else-none (c .if1 .taken))
     (λ c κs. let q = c .before .before .before .pre .0 in (omega arith, tt))
     (λ c κs. tt)
-    (λ c. else-some (c .before .before .if1 .left) (c .before .constant .ensures) (c .try-cast .ensures)))
+    (λ c. else-some (c .before .before .if1 .left) (c .before .constant .ensures) (tryCast-gives _ _ (c .try-cast .ensures))))
     (λ t. constant-node-lts.spec (constant-node-calls t) (constant-node-at t) constant-node.Post
     (λ c. within-behind (c .if1 .taken))
     (λ c. omega arith)
