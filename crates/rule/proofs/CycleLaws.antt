@@ -20,8 +20,8 @@ use Rattle.scalar.specs.declared.types.DataType.{DataType}
 use Rattle.scalar.specs.declared.types.DataType.the-variants.{Boolean}
 use Rattle.scalar.specs.Types.{sameType, typeNumbered}
 use Rattle.scalar.specs.Cast.{listed}
-use Rattle.rule.specs.declared.types.TypeAnswer.{TypeAnswer}
-use Rattle.rule.specs.declared.types.TypeAnswer.the-variants.{Known, Unknown}
+use Rattle.scalar.specs.declared.types.TypeAnswer.{TypeAnswer}
+use Rattle.scalar.specs.declared.types.TypeAnswer.the-variants.{Known, Unknown}
 use Rattle.rule.specs.declared.node.RuleFound.{RuleFound}
 use Rattle.rule.specs.declared.node.FieldFound.{FieldFound}
 use Rattle.rule.specs.declared.node.BranchesRead.{BranchesRead}

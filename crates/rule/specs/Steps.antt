@@ -12,8 +12,8 @@ use Rattle.scalar.specs.declared.types.DataType.the-variants.{Boolean}
 use Rattle.scalar.specs.Types.{sameType, markNumbered}
 use Rattle.scalar.specs.Entry.{Entry, isNull}
 use Rattle.scalar.specs.Cast.{listed}
-use Rattle.rule.specs.declared.types.TypeAnswer.{TypeAnswer}
-use Rattle.rule.specs.declared.types.TypeAnswer.the-variants.{Known, Unknown}
+use Rattle.scalar.specs.declared.types.TypeAnswer.{TypeAnswer}
+use Rattle.scalar.specs.declared.types.TypeAnswer.the-variants.{Known, Unknown}
 use Rattle.rule.specs.declared.node.RuleFound.{RuleFound}
 use Rattle.rule.specs.declared.read.RuleReading.{RuleReading}
 use Rattle.rule.specs.declared.node.FieldFound.{FieldFound}
@@ -25,11 +25,6 @@ use Rattle.rule.specs.Nullable.{nullable}
 use Rattle.rule.specs.Reading.{Read, Reader, unlikeEarlier, markedValue, readColumn, readLiteral, readUnary, readCast, readBinary, readBranches, readLimitedCase}
 use Rattle.rule.specs.declared.seen.Seen.{Seen}
 use Rattle.rule.specs.Seen.{SeenIs, Marked}
-
--- the type of a number, or its refusal
-abbrev pub typeResult : TypeAnswer → Result DataType
-typeResult (Known t) = ok t
-typeResult Unknown = refused 3
 
 -- a type that is known, or else another
 abbrev pub typeOr : TypeAnswer → DataType → DataType

@@ -2,11 +2,11 @@
 use crate::node::FieldFound;
 use crate::node::accept;
 use crate::node::refuse;
-use crate::types::TypeAnswer;
 use crate::types::type_number;
-use crate::types::type_numbered;
 use layout::number::byte_at;
 use scalar::types::DataType;
+use scalar::types::TypeAnswer;
+use scalar::types::type_numbered;
 ghost use lib.ListN.{drop};
 ghost use Rattle.rule.specs.Reading.{readColumn, readLiteral};
 ghost use Rattle.rule.specs.Steps.{NodeGives, meetColumn, valueOf, ValueGives};

@@ -1,11 +1,11 @@
 // What reading a field found, and a node behind its children.
 use crate::seen::Seen;
-use crate::types::TypeAnswer;
 use crate::types::is_listed;
 use crate::types::is_number;
 use crate::types::same_type;
 use crate::types::type_or;
 use scalar::types::DataType;
+use scalar::types::TypeAnswer;
 ghost use mathlib.Core.Path.{_≡_};
 ghost use mathlib.Core.Bool.{_&&_, _||_};
 ghost use Rattle.scalar.specs.Types.{sameType};

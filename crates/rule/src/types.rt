@@ -1,30 +1,11 @@
 // Types by their numbers, and which types fit.
 use scalar::types::DataType;
+use scalar::types::TypeAnswer;
 ghost use mathlib.Core.Path.{_≡_};
-ghost use Rattle.scalar.specs.Types.{typeNumber, sameType, typeNumbered};
+ghost use Rattle.scalar.specs.Types.{typeNumber, sameType};
 ghost use Rattle.scalar.specs.Cast.{whole, listed};
 ghost use Rattle.rule.specs.Typing.{isNumber};
-ghost use Rattle.rule.specs.Steps.{typeResult, typeOr};
-
-// The type of a number, or that it has none.
-pub(crate) enum TypeAnswer {
-    Known(DataType),
-    Unknown,
-}
-
-// The type of a number.
-pub(crate) fn type_numbered(n: u8) -> TypeAnswer
-    ensures { λ r. ⌜ typeNumbered 3 n ≡ typeResult r ⌝ }
-{
-    match n {
-        1 => TypeAnswer::Known(DataType::Boolean),
-        2 => TypeAnswer::Known(DataType::Int32),
-        3 => TypeAnswer::Known(DataType::Int64),
-        4 => TypeAnswer::Known(DataType::Float64),
-        5 => TypeAnswer::Known(DataType::Utf8),
-        _ => TypeAnswer::Unknown,
-    }
-}
+ghost use Rattle.rule.specs.Steps.{typeOr};
 
 // The number of a type.
 pub fn type_number(t: DataType) -> u8

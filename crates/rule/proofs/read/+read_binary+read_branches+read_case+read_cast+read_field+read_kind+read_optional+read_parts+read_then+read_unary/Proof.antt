@@ -6,7 +6,8 @@ use denote.Ref.{now}
 use borrow.Author.Needs.{needs}
 use Rattle.rule.specs.declared.node.FieldFound.{FieldFound}
 use Rattle.rule.specs.Reading.{readField}
-use Rattle.rule.specs.Steps.{typeResult}
+use Rattle.scalar.specs.Types.{typeMeans}
+use Rattle.scalar.proofs.TypeLaws.{type-means}
 use Rattle.rule.proofs.CycleLaws.{unary-gives, binary-refused, binary-gives, cast-short, cast-untyped, cast-gives, optional-there, optional-absent, branches-none, branches-refused, branches-give, then-refused, then-gives, parts-unbased, parts-unbranched, parts-give, case-none, case-short, case-flags, case-unbranched, case-many, case-gives, kind-column, kind-literal, kind-unary, kind-cast, kind-binary, kind-case, field-cut, field-unknown, field-deep, field-gives, tag-low, tag-high}
 use borrow.Fn.Kinds.{In}
 use borrow.Fn.PlainCycle.{Measures, is, falls, and}
@@ -55,7 +56,7 @@ use Rattle.rule.proofs.node.unary_fits.Reads as unary-fits-reads
 use Rattle.rule.proofs.node.unary_type.Reads as unary-type-reads
 use Rattle.rule.proofs.types.is_listed.Reads as is-listed-reads
 use Rattle.rule.proofs.types.same_type.Reads as same-type-reads
-use Rattle.rule.proofs.types.type_numbered.Reads as type-numbered-reads
+use Rattle.scalar.proofs.types.type_numbered.Reads as type-numbered-reads
 use Rattle.rule.proofs.types.type_or.Reads as type-or-reads
 use Rattle.rule.proofs.read.+read_binary+read_branches+read_case+read_cast+read_field+read_kind+read_optional+read_parts+read_then+read_unary.{
   statement,
@@ -243,8 +244,8 @@ pub +read-binary+read-branches+read-case+read-cast+read-field+read-kind+read-opt
     (λ c κs. tt)
     (λ c. search needs)
     (λ c κs. tt)
-    (λ c. λ cols outer s. cast-gives (readField (c .before .before .before .before .before .before .before .before .before .before .before .args .depth) (c .before .before .before .before .before .before .before .before .before .before .before .args .cases)) cols outer (c .before .before .before .before .before .before .before .before .before .before .before .args .end) (c .before .before .before .before .before .before .before .before .before .before .before .args .tag) (now (c .before .before .before .before .before .before .before .before .before .before .before .args .content)) _ (c .before .before .read-field .result) _ _ (c .before .before .before .before .before .before .before .before .before .if1 .left) (c .before .before .before .before .before .before .before .type-numbered .ensures ∙ ap typeResult (c .before .before .before .before .before .t .given .1)) (c .before .before .read-field .ensures cols s) (c .before .is-listed .ensures) (c .close .ensures))
-    (λ c. λ cols outer s. cast-untyped (readField (c .before .before .before .before .before .before .before .args .depth) (c .before .before .before .before .before .before .before .args .cases)) cols outer (c .before .before .before .before .before .before .before .args .end) (c .before .before .before .before .before .before .before .args .tag) (now (c .before .before .before .before .before .before .before .args .content)) (c .before .before .before .before .before .if1 .left) (c .before .before .before .type-numbered .ensures ∙ ap typeResult (c .before .enum-told .given .1)) (ap (λ (x : FieldFound). x .refused) (c .refuse2 .ensures))))
+    (λ c. λ cols outer s. cast-gives (readField (c .before .before .before .before .before .before .before .before .before .before .before .args .depth) (c .before .before .before .before .before .before .before .before .before .before .before .args .cases)) cols outer (c .before .before .before .before .before .before .before .before .before .before .before .args .end) (c .before .before .before .before .before .before .before .before .before .before .before .args .tag) (now (c .before .before .before .before .before .before .before .before .before .before .before .args .content)) _ (c .before .before .read-field .result) _ _ (c .before .before .before .before .before .before .before .before .before .if1 .left) (sym (type-means 3 _ (c .before .before .before .before .before .before .before .type-numbered .ensures)) ∙ ap (typeMeans 3) (c .before .before .before .before .before .t .given .1)) (c .before .before .read-field .ensures cols s) (c .before .is-listed .ensures) (c .close .ensures))
+    (λ c. λ cols outer s. cast-untyped (readField (c .before .before .before .before .before .before .before .args .depth) (c .before .before .before .before .before .before .before .args .cases)) cols outer (c .before .before .before .before .before .before .before .args .end) (c .before .before .before .before .before .before .before .args .tag) (now (c .before .before .before .before .before .before .before .args .content)) (c .before .before .before .before .before .if1 .left) (sym (type-means 3 _ (c .before .before .before .type-numbered .ensures)) ∙ ap (typeMeans 3) (c .before .enum-told .given .1)) (ap (λ (x : FieldFound). x .refused) (c .refuse2 .ensures))))
     (λ t. read-field-lts.spec (field-at-reads.Asked, field-at-reads.Learnt, refuse-reads.Asked, refuse-reads.Learnt, part-of-reads.Asked, part-of-reads.Learnt, read-kind-below t, read-kind.Post)
     (read-field-at t)
     read-field.Post
