@@ -16,7 +16,7 @@ use Rattle.layout.proofs.FieldLaws.{header-field, length-field}
 use Rattle.scalar.specs.declared.types.DataType.{DataType}
 use Rattle.scalar.specs.declared.types.DataType.the-variants.{Boolean, Int32, Int64, Float64, Utf8}
 use Rattle.scalar.specs.Types.{typeNumber, markNumber, markNumbered}
-use Rattle.scalar.proofs.TypeLaws.{has-type, markNumbered-back}
+use Rattle.scalar.proofs.TypeLaws.{typeNumbered-back, markNumbered-back}
 use Rattle.table.specs.Column.{TableColumn, offsetAt}
 use Rattle.table.specs.Reading.{tagged, taggedPair, readValidity, readTextOffsets, readOffsets, valuesLength, readValues, readBody, readParts, readColumn, readColumns, bytesMost, rowsMost, columnsMost, readTable}
 use Rattle.table.specs.TableBytes.{offsetsField, columnBytes, columnsBytes, tableBytes, OffsetsWithin, PartsWithin, ColumnWithin, EachWithin, TableReadsBack}
@@ -72,7 +72,7 @@ unfolding readParts readBody columnBytes
 parts-back rows c rest h k w = simp append-assoc
     (rw (
       pair-back 2 (typeNumber (c .type) ∷ markNumber (c .nullable) ∷ []) (fieldBytes 3 (c .validity) ++ (offsetsField (c .type) (c .offsets) ++ (fieldBytes 4 (c .values) ++ rest))) refl,
-      sym (has-type (typeNumber (c .type)) (c .type) refl .says 11),
+      typeNumbered-back 11 (c .type),
       markNumbered-back 11 (c .nullable),
       validity-back rows (c .validity) (offsetsField (c .type) (c .offsets) ++ (fieldBytes 4 (c .values) ++ rest)) h (w .validity),
       offsets-back (c .type) rows (c .offsets) (fieldBytes 4 (c .values) ++ rest) h (w .offsets),

@@ -1,4 +1,6 @@
 -- `apply_one` hands each operation on to its own function.
+use Rattle.scalar.proofs.CastLaws.{cast-gives}
+use Rattle.scalar.proofs.OperationLaws.{not-gives, isNotNull-gives, negative-gives, tryCast-gives}
 use Rattle.case.proofs.RowsLaws.{operation-gives}
 use borrow.Author.Needs.{needs}
 use Rattle.case.proofs.rows.apply_one.Statement.{statement}
@@ -18,8 +20,8 @@ apply-one-spec =
     (λ c κs. search needs)
     (λ c. search needs)
     (λ c κs. search needs)
-    (λ c. operation-gives (c .before .enum-told .given .1) (c .not-value .ensures))
-    (λ c. operation-gives (c .before .enum-told2 .given .1) (c .negative .ensures))
-    (λ c. operation-gives (c .before .enum-told3 .given .1) (c .is-not-null .ensures))
-    (λ c. operation-gives (c .before .before .op .given .1) (c .cast .ensures))
-    (λ c. operation-gives (c .before .before .op2 .given .1) (c .try-cast .ensures)))
+    (λ c. operation-gives (c .before .enum-told .given .1) (not-gives (c .not-value .ensures)))
+    (λ c. operation-gives (c .before .enum-told2 .given .1) (negative-gives _ (c .negative .ensures .0) (c .negative .ensures .1)))
+    (λ c. operation-gives (c .before .enum-told3 .given .1) (isNotNull-gives (c .is-not-null .ensures)))
+    (λ c. operation-gives (c .before .before .op .given .1) (cast-gives _ _ (c .cast .ensures)))
+    (λ c. operation-gives (c .before .before .op2 .given .1) (tryCast-gives _ _ (c .try-cast .ensures))))
