@@ -1,8 +1,8 @@
 #!/usr/bin/env python3
 """promises.py [ROOT]: the public functions of crates/*/src, by the form of their promise.
 
-A promise is outright where it is an equation for the result, or a record each of whose fields is one (the result, and each buffer that is
-lent). The others are listed: a record or an abbreviation that has an implication, or that says what the result means and not which it is. Also
+A promise is outright where it is an equation for the result (perhaps with a law of it behind a ×), or a record each of whose fields is one (the
+result, and each buffer that is lent). The others are listed: a record or an abbreviation that has an implication, or that says what the result means and not which it is. Also
 listed: a public function with a `requires`, or without an `ensures`. Last, how many there are of each. It reads text, not meaning: docs/CONTRACTS.md
 says of each that is listed why it is so.
 """
@@ -63,7 +63,7 @@ def outright(promise, text, specs):
     """Whether a promise is an equation, or a record of equations and of such records."""
     body = re.sub(r"^λ \S+\. ⌜ ?|⌝$", "", promise)
     if text is None:
-        return re.match(r"\s*(now )?(\w+|\(\w+ \.exit\)) ≡", body) is not None
+        return re.match(r"\s*\(?(now )?(\w+|\(\w+ \.exit\)) ≡", body) is not None
     if not text.startswith("pub record"):
         return False
     fields = [l.strip().split(" : ", 1)[1] for l in text.split("\n")[1:] if l.strip().startswith("pub ")]

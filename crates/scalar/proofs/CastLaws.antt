@@ -32,17 +32,17 @@ cast-to v e p = p ∙ ap (λ (t : DataType). castValue t v) (sym e)
 
 -- an Int32's float is its cast
 pub floated-cast : {to : DataType} (n : ℕ) {f : Float} → to ≡ type.Float64 → f ≡ ofInt binary64 (signed 31 n) → Float64 f ≡ castValue to (Int32 n)
-unfolding castEntry
+unfolding castEntry castValue
 floated-cast n e p = cast-to (Int32 n) e (ap Float64 p ∙ sym (float-back (ofInt binary64 (signed 31 n)) (ofInt-fits binary64 (signed 31 n)) (ofInt-no-nan binary64 (signed 31 n))))
 
 -- an Int64's Int32, or what doesn't fit, is its cast
 pub narrowed-cast : (n : ℕ) {r : Value} → r ≡ valueSaying (Int64 n) (narrowed n) → r ≡ castValue type.Int32 (Int64 n)
-unfolding castEntry
+unfolding castEntry castValue
 narrowed-cast n p = p
 
 -- an Int64 is cast to no float and no text
 pub whole-lost : (to : DataType) (n : ℕ) → OneOf (3 ∷ 4 ∷ []) (tagOf data-type.the-type to) → Failed ≡ castValue to (Int64 n)
-unfolding castEntry
+unfolding castEntry castValue
 whole-lost type.Float64 n h = refl
 whole-lost type.Utf8 n h = refl
 whole-lost type.Boolean n h = absurd (miss (3 ∷ 4 ∷ []) 0 tt h)
@@ -78,7 +78,7 @@ no-whole Failed h = refl
 
 -- a Boolean is cast as the Int64 1 or 0 is
 boolean-cast : (to : DataType) (b : Bool) → castValue to (Int64 (cond b 1 0)) ≡ castValue to (Boolean b)
-unfolding castEntry bitsOf
+unfolding castEntry bitsOf castValue
 boolean-cast type.Boolean true = refl
 boolean-cast type.Boolean false = refl
 boolean-cast type.Int32 true = refl
@@ -119,6 +119,7 @@ whole-cast to v {r = r} h e p = p ∙ ap (λ (n : ℕ). castValue to (Int64 n)) 
 
 -- a float is cast to its own type alone
 pub float-cast : (to : DataType) (v : Value) → IsFloat v → keptAs type.Float64 to v ≡ castValue to v
+unfolding castValue
 float-cast to (Float64 f) h = refl
 float-cast to (Nan n) h = refl
 float-cast to Null h = absurd (miss (4 ∷ 5 ∷ []) 0 tt h)
@@ -131,7 +132,7 @@ float-cast to Failed h = absurd (miss (4 ∷ 5 ∷ []) 8 tt h)
 
 -- and so is a text
 pub text-cast : (to : DataType) (v : Value) → IsText v → keptAs type.Utf8 to v ≡ castValue to v
-unfolding castEntry
+unfolding castEntry castValue
 text-cast to (RuleText s n) h = elim to [ type.Boolean ↦ refl | type.Int32 ↦ refl | type.Int64 ↦ refl | type.Float64 ↦ refl | type.Utf8 ↦ refl ]
 text-cast to (TableText s n) h = elim to [ type.Boolean ↦ refl | type.Int32 ↦ refl | type.Int64 ↦ refl | type.Float64 ↦ refl | type.Utf8 ↦ refl ]
 text-cast to Null h = absurd (miss (6 ∷ 7 ∷ []) 0 tt h)
@@ -144,7 +145,7 @@ text-cast to Failed h = absurd (miss (6 ∷ 7 ∷ []) 8 tt h)
 
 -- null is cast to null, and what has failed stays so
 pub none-cast : (to : DataType) (v : Value) → IsNone v → v ≡ castValue to v
-unfolding castEntry
+unfolding castEntry castValue
 none-cast to Null h = elim to [ type.Boolean ↦ refl | type.Int32 ↦ refl | type.Int64 ↦ refl | type.Float64 ↦ refl | type.Utf8 ↦ refl ]
 none-cast to Failed h = refl
 none-cast to (Boolean b) h = absurd (miss (0 ∷ 8 ∷ []) 1 tt h)
@@ -176,7 +177,7 @@ narrowed-stores n = go (inRange 31 (signed 63 n))
     go false = tt
 
 cast-means : (to : DataType) (v : Value) (rule table : List ℕ) → meaning rule table (castValue to v) ≡ onEntry (castEntry to) (meaning rule table v)
-unfolding castEntry
+unfolding castEntry castValue
 cast-means to Null rule table = elim to [ type.Boolean ↦ refl | type.Int32 ↦ refl | type.Int64 ↦ refl | type.Float64 ↦ refl | type.Utf8 ↦ refl ]
 cast-means to (Boolean b) rule table = elim to [ type.Boolean ↦ refl | type.Int32 ↦ refl | type.Int64 ↦ refl | type.Float64 ↦ refl | type.Utf8 ↦ refl ]
 cast-means to (Int32 n) rule table =
@@ -189,7 +190,7 @@ cast-means to (TableText s n) rule table = elim to [ type.Boolean ↦ refl | typ
 cast-means to Failed rule table = refl
 
 cast-stores : (to : DataType) (v : Value) → Storable v → Storable (castValue to v)
-unfolding castEntry
+unfolding castEntry castValue
 cast-stores to Null h = elim to [ type.Boolean ↦ tt | type.Int32 ↦ tt | type.Int64 ↦ tt | type.Float64 ↦ tt | type.Utf8 ↦ tt ]
 cast-stores to (Boolean b) h = elim to [ type.Boolean ↦ tt | type.Int32 ↦ flag-small b (lit< tt) | type.Int64 ↦ flag-small b (lit< tt) | type.Float64 ↦ tt | type.Utf8 ↦ tt ]
 cast-stores to (Int32 n) h =

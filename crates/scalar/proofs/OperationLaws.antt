@@ -129,12 +129,19 @@ is-entry (RuleText start size) h rule table = refl
 is-entry (TableText start size) h rule table = refl
 is-entry Failed h rule table = absurd (false≢true (sym h))
 
+-- what has failed stays so
+pub try-failed : (to : DataType) {v : Value} → v ≡ Failed → Failed ≡ tryCastValue to v
+unfolding tryCastValue
+try-failed to e = value-at (tryCastValue to) e refl
+
 -- null, where the cast fails
 pub try-null : (to : DataType) (v : Value) {r : Value} → NotFailed v → r ≡ Failed → r ≡ castValue to v → Null ≡ tryCastValue to v
+unfolding tryCastValue
 try-null to v h e p = simp (not-failed v h, ap failed (sym p ∙ e))
 
 -- the cast, where it fits
 pub try-entry : (to : DataType) (v : Value) {r : Value} → NotFailed v → NotFailed r → r ≡ castValue to v → r ≡ tryCastValue to v
+unfolding tryCastValue
 try-entry to v {r} h k p = p ∙ simp (not-failed v h, ap failed (sym p) ∙ not-failed r k)
 
 -- a try-cast of a value is that of its entry
@@ -154,4 +161,5 @@ module _ (to : DataType) (v : Value) where
   by-failing false h = fitted h (castValue to v) (failed (castValue to v)) refl (cast-gives to v refl)
 
 pub tryCast-gives : (to : DataType) (v : Value) {r : Value} → r ≡ tryCastValue to v → Gives (λ e. entry (tryCastEntry to e)) v r
+unfolding tryCastValue
 tryCast-gives to v e = subst (Gives (λ e. entry (tryCastEntry to e)) v) (sym e) (by-failing to v (failed v) refl)

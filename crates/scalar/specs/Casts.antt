@@ -27,7 +27,7 @@ abbrev pub keptAs : DataType → DataType → Value → Value
 keptAs own to v = cond (sameType to own) v Failed
 
 -- a cast (01, Modules: cast.rs): a float is kept as it is held, the rest is made of the entry
-abbrev pub castValue : DataType → Value → Value
+unfoldable pub castValue : DataType → Value → Value
 castValue to v = cond (eqb (kindOf v) 4) (keptAs type.Float64 to v) (onValue (castEntry to) v)
 
 -- a value that has failed
@@ -35,5 +35,5 @@ abbrev pub failed : Value → Bool
 failed v = eqb (kindOf v) 7
 
 -- a try-cast (01, Modules: try_cast.rs): a value that doesn't fit becomes null; what failed before stays failed
-abbrev pub tryCastValue : DataType → Value → Value
+unfoldable pub tryCastValue : DataType → Value → Value
 tryCastValue to v = cond (failed v) Failed (cond (failed (castValue to v)) Null (castValue to v))

@@ -3,12 +3,13 @@ use mathlib.Core.Path.{refl, ap}
 use borrow.Author.Needs.{needs}
 use Rattle.scalar.specs.declared.value.Value.the-variants.{Int32, Int64}
 use Rattle.scalar.specs.Cast.{castEntry}
+use Rattle.scalar.specs.Casts.{castValue}
 use Rattle.scalar.proofs.CastLaws.{cast-to, floated-cast}
 use Rattle.scalar.proofs.cast.from_int32.Statement.{statement}
 use Rattle.scalar.proofs.cast.from_int32.Tie as tie
 
 pub from-int32-spec : {M : Type 1} → statement M
-unfolding castEntry
+unfolding castEntry castValue
 from-int32-spec =
     tie.close
     (tie.spec

@@ -3,12 +3,13 @@ use mathlib.Core.Path.{refl}
 use borrow.Author.Needs.{needs}
 use Rattle.scalar.specs.declared.value.Value.the-variants.{Int64}
 use Rattle.scalar.specs.Cast.{castEntry}
+use Rattle.scalar.specs.Casts.{castValue}
 use Rattle.scalar.proofs.CastLaws.{cast-to, whole-lost}
 use Rattle.scalar.proofs.cast.from_int64.Statement.{statement}
 use Rattle.scalar.proofs.cast.from_int64.Tie as tie
 
 pub from-int64-spec : {M : Type 1} → statement M
-unfolding castEntry
+unfolding castEntry castValue
 from-int64-spec =
     tie.close
     (tie.spec
