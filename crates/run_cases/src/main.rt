@@ -1,5 +1,5 @@
-// Replays the stored runs, the refused listings as runs, and the cases of document 01 that are only run, and prints of each kind how many
-// agree, with the first that doesn't.
+// Replays the stored runs, the refused listings as runs, and the cases at both ends of limits, and prints of each kind how many agree, with
+// the first that doesn't.
 mod bytes;
 mod record;
 mod run;
