@@ -49,7 +49,8 @@ def unfoldables():
         for file in sorted(os.listdir(folder)):
             text = open(os.path.join(folder, file), encoding="utf-8").read()
             found = re.findall(r"(?m)^unfoldable pub (\S+) :", text)
-            found += re.findall(r"(?m)^unfoldable mutual\n  pub (\S+) :", text)
+            found += re.findall(r"(?m)^unfoldable mutual\n(?:  --.*\n)*  pub (\S+) :", text)
+            assert len(found) == len(re.findall(r"(?m)^unfoldable ", text)), file
             names += [f"Rattle.{crate}.specs.{file[:-5]}.{n}" for n in found]
     names += ["lib.Ieee." + n for n in "span climb size odd units round ofInt toBits".split()]
     return names
