@@ -1,6 +1,6 @@
 /* bench_evaluate time|answer|once RULE TABLE: evaluates the rule of one file over the table of another through the library.
  *
- * time    prints the median nanoseconds of a whole call, of reading the rule, of reading the table and of clearing the work buffer
+ * time    prints the strategy and the median nanoseconds of a whole call, of reading the rule, of reading the table and of clearing the work buffer
  * answer  prints the answer's bytes in hex, or `refused` and the number
  * once    only evaluates, for counting instructions and measuring the stack
  *
@@ -76,7 +76,8 @@ int main(int argc, char **argv) {
     if (!strcmp(argv[1], "answer")) print_answer(answer);
     if (!strcmp(argv[1], "time")) {
         double times[] = {median(whole, 1), median(read_rule, 0.2), median(read_table, 0.2), median(clear, 0.2)};
-        printf("%.0f %.0f %.0f %.0f\n", times[0], times[1], times[2], times[3]);
+        unsigned strategy = tembalku_rule_strategy(rule, rule_length) - TEMBALKU_RULE_ACCEPTED;
+        printf("%u %.0f %.0f %.0f %.0f\n", strategy, times[0], times[1], times[2], times[3]);
     }
     return answer < TEMBALKU_ANSWERED;
 }

@@ -11,10 +11,11 @@ WORDS    only the rules whose names hold them
 For each rule of bench_rules.py: the strategy; the whole call of the library and how much of it reading the rule, reading the table and
 clearing the work buffer take ("fixed"); the Rust's `evaluate` and `into_array` on an expression and a batch that are there already; the
 Rust's whole way from bytes to bytes (reading rule and table, nullability, evaluate, writing); and the library's call divided by either. A time
-is the median of samples of about 50 microseconds, the lowest of the turns. Before, the answers of both are compared. --markdown prints rows for
-docs/ARCHITECTURE.md; --count adds instructions a call, by valgrind's callgrind.
+is the median of samples of about 50 microseconds, the lowest of the turns. Before, the answers of both are compared. At the end: in how many
+rules the call is below either. --markdown prints the table for docs/ARCHITECTURE.md; --count adds instructions a call, by valgrind's callgrind.
 """
 import argparse
+import math
 import os
 import re
 import subprocess
@@ -56,10 +57,10 @@ def compare_answers(program, oracle, name, files):
 
 
 def rust_times(oracle, files):
-    """The strategy, and the nanoseconds of evaluate with into_array and of the whole way from bytes to bytes."""
+    """The nanoseconds of evaluate with into_array and of the whole way from bytes to bytes."""
     text = said(oracle, "--bench", *files)
     time = lambda name: int(re.search(rf"(?m)^{re.escape(name)} median_ns (\d+)", text).group(1))
-    return re.search(r"strategy (\d)", text).group(1), time("evaluate+into_array"), time("rule+table+evaluate+write")
+    return time("evaluate+into_array"), time("rule+table+evaluate+write")
 
 
 def instructions(program, files):
@@ -70,13 +71,13 @@ def instructions(program, files):
 
 def measure(program, oracle, files, turns):
     """The lowest times of the turns: strategy, whole call, fixed part, the Rust's evaluate, the Rust's whole."""
-    ours, fixed, evaluates, wholes, strategy = [], [], [], [], ""
+    ours, fixed, evaluates, wholes = [], [], [], []
     for _ in range(turns):
-        whole, *parts = map(int, said(program, "time", *files).split())
+        strategy, whole, *parts = map(int, said(program, "time", *files).split())
         ours.append(whole)
         fixed.append(sum(parts))
         if oracle:
-            strategy, evaluate, rust = rust_times(oracle, files)
+            evaluate, rust = rust_times(oracle, files)
             evaluates.append(evaluate)
             wholes.append(rust)
     return strategy, min(ours), min(fixed), min(evaluates, default=0), min(wholes, default=0)
@@ -88,13 +89,22 @@ HEADS = ["rule", "strategy", "whole call", "fixed", "the Rust's evaluate", "the 
 def cells(name, strategy, ours, fixed, evaluate, whole):
     micro = lambda ns: f"{ns / 1000:.1f} µs" if ns >= 1000 else f"{ns / 1000:.2f} µs"
     rust = [micro(evaluate), micro(whole), f"{ours / evaluate:.2f}", f"{ours / whole:.2f}"] if evaluate else []
-    return [name, strategy, micro(ours), micro(fixed)] + rust
+    return [name, str(strategy), micro(ours), micro(fixed)] + rust
 
 
 def line(words, markdown):
     if markdown:
         return "| " + " | ".join(words) + " |"
     return f"{words[0]:52}" + "".join(f"{w:>20}" for w in words[1:])
+
+
+def summary(ratios):
+    """Of (call / evaluate, call / whole): how many are below 1, and the geometric means."""
+    words = []
+    for name, column in zip(("evaluate", "whole"), zip(*ratios)):
+        mean = math.exp(sum(map(math.log, column)) / len(column))
+        words.append(f"below the Rust's {name} in {sum(r < 1 for r in column)} of {len(column)} rules (geometric mean {mean:.2f})")
+    return "The call is " + " and ".join(words) + "."
 
 
 def arguments():
@@ -114,6 +124,7 @@ def main():
     print(line(heads, args.markdown))
     if args.markdown:
         print("|" + "---|" * len(heads))
+    ratios = []
     with tempfile.TemporaryDirectory() as folder:
         program = build(folder, args.library)
         for name, rule, table in measured():
@@ -122,10 +133,15 @@ def main():
             files = put(folder, rule, table)
             if args.oracle:
                 compare_answers(program, args.oracle, name, files)
-            row = cells(name, *measure(program, args.oracle, files, args.turns))
+            times = measure(program, args.oracle, files, args.turns)
+            row = cells(name, *times)
+            if args.oracle:
+                ratios.append((times[1] / times[3], times[1] / times[4]))
             if args.count:
                 row.append(f"{instructions(program, files):,}")
             print(line(row, args.markdown), flush=True)
+    if ratios:
+        print("\n" + summary(ratios))
 
 
 if __name__ == "__main__":
