@@ -7,7 +7,7 @@ crates/run_cases/data/runs.bin      all of runs.txt
 crates/run_cases/data/refusals.bin  the refused cases of listing.txt as runs, since runs.txt has no 1 to 8, 12, 15 and 16: what they leave in memory
 crates/run_cases/data/limits.bin    listings at both ends of limits: no rows, 512 and 513 rows, 32 and 33 branches, which document 01 says are run
                                     only; rules of 4,096 and 4,097 bytes, tables of 65,536 and 65,537 bytes
-crates/run_cases/stdout             how many of each of its files there are
+crates/run_cases/stdout             how many of each of its files there are; rust.bin, the Rust's answers, is made by compare_rust.py and counted here
 
 A file is records of: the lengths of the rule, the table, the work buffer, the output and what is wanted (4 bytes each, little-endian),
 the rule, the table, what is wanted. Of a listing that is its text, of a run its refusal number, or 0 and the answer's bytes.
@@ -194,7 +194,7 @@ def main():
     for name, records in (("runs", stored_runs()), ("refusals", refusals()), ("limits", limits())):
         store("run_cases", name, records)
     lines = ""
-    for name in ("runs", "refusals", "limits"):
+    for name in ("runs", "refusals", "limits", "rust"):
         with open(path("run_cases", "data", name + ".bin"), "rb") as source:
             count = len(list(records_in(source.read())))
         lines += f"{name}: {count} of {count} agree\n"
