@@ -99,7 +99,7 @@ def line(words, markdown):
 
 
 def summary(ratios):
-    """Of (call / evaluate, call / whole): how many are below 1, and the geometric means."""
+    """Of call / evaluate and of call / whole: how many are below 1, and the geometric means."""
     words = []
     for name, column in zip(("evaluate", "whole"), zip(*ratios)):
         mean = math.exp(sum(map(math.log, column)) / len(column))

@@ -82,10 +82,10 @@ def table(rows, *columns):
     return field(1, number(rows, 2)) + b"".join(columns)
 
 
-def answered(rule, rows, kind, nullable, entries):
-    """The case of a rule that answers with these entries."""
+def answered(rule, data, kind, nullable, entries):
+    """The case of a rule and a table whose answer has these entries."""
     lines = [f"rows {len(entries)} type {kind} nullable {nullable}"]
-    return listed(rule, rows, lines + [f"{i} {e}" for i, e in enumerate(entries)])
+    return listed(rule, data, lines + [f"{i} {e}" for i, e in enumerate(entries)])
 
 
 def rows_case(kind, rows):
