@@ -14,7 +14,7 @@ Numbers are little-endian. No file is longer than 65,536 bytes.
 """
 import os
 
-from stored_cases import HERE, fields_of, listed_runs, number, rules, runs
+from stored_cases import CRATES, fields_of, listed_runs, number, rules, runs
 
 MOST = 65536
 BEHIND_ROOT = 10
@@ -22,7 +22,7 @@ ACCEPTED_TABLES = 100
 
 
 def path(crate, *names):
-    return os.path.join(HERE, "crates", crate, *names)
+    return os.path.join(CRATES, crate, *names)
 
 
 def write(crate, name, records):
@@ -165,6 +165,10 @@ def make_tables():
     print(f"{len(both)} tables in {files} file{'' if files == 1 else 's'}")
 
 
-if __name__ == "__main__":
+def main():
     make_rules()
     make_tables()
+
+
+if __name__ == "__main__":
+    main()

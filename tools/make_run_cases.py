@@ -14,7 +14,7 @@ the rule, the table, what is wanted. Of a listing that is its text, of a run its
 """
 import os
 
-from stored_cases import FULL, HERE, bitmap, field, listed_runs, listings, number, offsets, runs
+from stored_cases import CRATES, FULL, bitmap, field, listed_runs, listings, number, offsets, runs
 
 MOST_FILE, MOST_WORK, MOST_OUTPUT = 524287, 70000, 65536
 HEAD = 20
@@ -171,7 +171,7 @@ def wanted(record):
 
 
 def path(crate, *names):
-    return os.path.join(HERE, "crates", crate, *names)
+    return os.path.join(CRATES, crate, *names)
 
 
 def store(crate, name, records):

@@ -7,6 +7,7 @@ import os
 
 HERE = os.path.dirname(os.path.dirname(os.path.abspath(__file__)))
 CASES = os.path.join(HERE, "tools", "cases")
+CRATES = os.path.join(HERE, "crates")
 FULL = 65536
 
 
