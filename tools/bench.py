@@ -10,28 +10,8 @@ import subprocess
 import sys
 import tempfile
 
-HERE = os.path.dirname(os.path.dirname(os.path.abspath(__file__)))
-
-
-def number(n, k):
-    return (n % 256 ** k).to_bytes(k, "little")
-
-
-def field(tag, content):
-    return bytes([tag]) + number(len(content), 2) + content
-
-
-def column(index, kind, nullable=0):
-    return field(16, bytes([index, kind, nullable]))
-
-
-def int32(n):
-    return field(17, bytes([2, 0]) + number(n, 4))
-
-
-def case(base, branches, els):
-    flags = (1 if base else 0) + (2 if els else 0)
-    return field(25, bytes([flags, len(branches)]) + (base or b"") + b"".join(w + t for w, t in branches) + (els or b""))
+from bench_rules import case, column, int32
+from stored_cases import HERE, field, number
 
 
 def flat():

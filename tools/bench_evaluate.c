@@ -1,16 +1,25 @@
-/* bench_evaluate FOLDER NAME [ONCE]: evaluates FOLDER/NAME.rule over FOLDER/NAME.table through the library and prints nanoseconds a table, and
- * beside them what reading the rule, reading the table and a memset of the work buffer take in the same run, and the rest, which is the evaluation itself; with ONCE only one evaluation, for counting instructions. */
+/* bench_evaluate time|answer|once RULE TABLE: evaluates the rule of one file over the table of another through the library.
+ *
+ * time    prints the strategy and the median nanoseconds of a whole call, of reading the rule, of reading the table and of clearing the work buffer
+ * answer  prints the answer's bytes in hex, or `refused` and the number
+ * once    only evaluates, for counting instructions and measuring the stack
+ *
+ * The exit status is 1 for a refusal.
+ */
 #include <stdio.h>
 #include <stdlib.h>
 #include <string.h>
 #include <time.h>
 #include "tembalku.h"
 
-static uint8_t rule[5000], table[70000], work[65536], output[70000];
+#define SAMPLES 20000
 
-static size_t load(const char *folder, const char *name, const char *end, uint8_t *to, size_t most) {
-    char path[4096];
-    snprintf(path, sizeof path, "%s/%s.%s", folder, name, end);
+static uint8_t rule[5000], table[70000], work[TEMBALKU_WORK_BYTES], output[TEMBALKU_OUTPUT_MOST];
+static size_t rule_length, table_length;
+static volatile size_t said;
+static double samples[SAMPLES];
+
+static size_t load(const char *path, uint8_t *to, size_t most) {
     FILE *f = fopen(path, "rb");
     if (!f) exit(2);
     size_t n = fread(to, 1, most, f);
@@ -24,34 +33,51 @@ static double now(void) {
     return t.tv_sec * 1e9 + t.tv_nsec;
 }
 
-static size_t rule_length, table_length;
-static volatile size_t said;
-
 static void whole(void) { said = tembalku_evaluate(rule, rule_length, table, table_length, work, sizeof work, output, sizeof output); }
 static void read_rule(void) { said = tembalku_rule_read(rule, rule_length); }
 static void read_table(void) { said = tembalku_table_read(table, table_length); }
 static void clear(void) { memset(work, 0, sizeof work); __asm__ volatile("" ::"r"(work) : "memory"); }
 
-/* The best of seven rounds of 2,000 calls. */
-static double best(void (*call)(void)) {
-    double least = 1e18;
-    for (int k = 0; k < 7; k++) {
-        int n = 2000;
-        double from = now();
-        for (int i = 0; i < n; i++) call();
-        double took = (now() - from) / n;
-        if (took < least) least = took;
+static int rising(const void *a, const void *b) {
+    double x = *(const double *)a, y = *(const double *)b;
+    return (x > y) - (x < y);
+}
+
+/* The median of samples of about 50 microseconds, after a fifth of the time for warming up. */
+static double median(void (*call)(void), double seconds) {
+    long warm = 0, count = 0;
+    double from = now();
+    while (now() - from < seconds * 2e8) call(), warm++;
+    long calls = (long)(warm * 5e4 / (seconds * 2e8));
+    if (calls < 1) calls = 1;
+    for (from = now(); count < SAMPLES && now() - from < seconds * 1e9; count++) {
+        double start = now();
+        for (long i = 0; i < calls; i++) call();
+        samples[count] = (now() - start) / calls;
     }
-    return least;
+    qsort(samples, count, sizeof samples[0], rising);
+    return samples[count / 2];
+}
+
+static void print_answer(size_t answer) {
+    if (answer < TEMBALKU_ANSWERED) {
+        printf("refused %zu\n", answer);
+        return;
+    }
+    for (size_t i = 0; i < answer - TEMBALKU_ANSWERED; i++) printf("%02x", output[i]);
+    printf("\n");
 }
 
 int main(int argc, char **argv) {
-    if (argc < 3) return 2;
-    rule_length = load(argv[1], argv[2], "rule", rule, sizeof rule), table_length = load(argv[1], argv[2], "table", table, sizeof table);
+    if (argc != 4) return 2;
+    rule_length = load(argv[2], rule, sizeof rule), table_length = load(argv[3], table, sizeof table);
     whole();
-    if (argc > 3) return said < 256;
-    double all = best(whole), rules = best(read_rule), tables = best(read_table), clears = best(clear);
-    printf("%-28s %8.0f ns a table; reading the rule %5.0f, the table %4.0f, clearing %5.0f, the evaluation %6.0f\n", argv[2], all, rules, tables, clears,
-           all - rules - tables - clears);
-    return 0;
+    size_t answer = said;
+    if (!strcmp(argv[1], "answer")) print_answer(answer);
+    if (!strcmp(argv[1], "time")) {
+        double times[] = {median(whole, 1), median(read_rule, 0.2), median(read_table, 0.2), median(clear, 0.2)};
+        unsigned strategy = tembalku_rule_strategy(rule, rule_length) - TEMBALKU_RULE_ACCEPTED;
+        printf("%u %.0f %.0f %.0f %.0f\n", strategy, times[0], times[1], times[2], times[3]);
+    }
+    return answer < TEMBALKU_ANSWERED;
 }

@@ -1,111 +1,148 @@
 #!/usr/bin/env python3
-"""bench_evaluate.py [--count]: evaluates tables of 512 rows through the static library, outside of the gate.
+"""bench_evaluate.py [--oracle BINARY] [--library ARCHIVE] [--turns N] [--only WORDS] [--markdown] [--count]
 
-Builds tools/bench_evaluate.c with target/staticlib/libtembalku.a (made by `rt staticlib tembalku`) and prints nanoseconds a table for eight
-rules; with --count also instructions a table, by valgrind's callgrind, collected within one call.
+Times whole evaluations through the static library, and the Rust beside them, in turns, outside of the gate.
+
+BINARY   the Rust over the stand-in for Arrow's kernels (tools/rust_oracle, built); without it only the library is timed
+ARCHIVE  target/staticlib/libtembalku.a unless said, which `rt staticlib tembalku` makes
+N        how often each rule is timed, the library and the Rust in turn (default 3; a turn takes about 7 seconds with the Rust)
+WORDS    only the rules whose names hold them
+
+For each rule of bench_rules.py: the strategy; the whole call of the library and how much of it reading the rule, reading the table and
+clearing the work buffer take ("fixed"); the Rust's `evaluate` and `into_array` on an expression and a batch that are there already; the
+Rust's whole way from bytes to bytes (reading rule and table, nullability, evaluate, writing); and the library's call divided by either. A time
+is the median of samples of about 50 microseconds, the lowest of the turns. Before, the answers of both are compared. At the end: in how many
+rules the call is below either. --markdown prints the table for docs/ARCHITECTURE.md; --count adds instructions a call, by valgrind's callgrind.
 """
+import argparse
+import math
 import os
-import random
+import re
 import subprocess
 import sys
 import tempfile
 
-HERE = os.path.dirname(os.path.dirname(os.path.abspath(__file__)))
+from bench_rules import measured
+from stored_cases import HERE, answer
+
+ARCHIVE = os.path.join(HERE, "target", "staticlib", "libtembalku.a")
 
 
-def number(n, k):
-    return (n % 256 ** k).to_bytes(k, "little")
+def said(*words):
+    return subprocess.run(words, capture_output=True, text=True, check=True).stdout
 
 
-def field(tag, content):
-    return bytes([tag]) + number(len(content), 2) + content
+def build(folder, archive):
+    """The program of bench_evaluate.c, with the static library."""
+    program = os.path.join(folder, "bench")
+    said("gcc", "-O2", "-Wall", "-Wextra", "-I", os.path.join(HERE, "include"), os.path.join(HERE, "tools", "bench_evaluate.c"), archive, "-o", program)
+    return program
 
 
-def column(index, kind, nullable):
-    return field(16, bytes([index, kind, nullable]))
+def put(folder, rule, table):
+    """The files of a rule and a table."""
+    paths = [os.path.join(folder, name) for name in ("rule.bin", "table.bin")]
+    for path, data in zip(paths, (rule, table)):
+        with open(path, "wb") as out:
+            out.write(data)
+    return paths
 
 
-def int32(n):
-    return field(17, bytes([2, 0]) + number(n, 4))
+def compare_answers(program, oracle, name, files):
+    """Ends the program where the Rust answers something else."""
+    ours, lines = said(program, "answer", *files).strip(), said(oracle, *files).splitlines()
+    theirs = answer(lines[0], lines[1:]).hex() if lines[0].startswith("rows") else lines[0]
+    if ours != theirs:
+        sys.exit(f"{name}: the Rust answers something else")
 
 
-def text(s):
-    return field(17, bytes([5, 0]) + s)
+def rust_times(oracle, files):
+    """The nanoseconds of evaluate with into_array and of the whole way from bytes to bytes."""
+    text = said(oracle, "--bench", *files)
+    time = lambda name: int(re.search(rf"(?m)^{re.escape(name)} median_ns (\d+)", text).group(1))
+    return time("evaluate+into_array"), time("rule+table+evaluate+write")
 
 
-def less(a, b):
-    return field(24, a + b)
+def instructions(program, files):
+    run = subprocess.run(["valgrind", "--tool=callgrind", "--toggle-collect=tembalku_evaluate", "--callgrind-out-file=/dev/null",
+                          program, "once", *files], capture_output=True, text=True, check=True)
+    return int(re.search(r"Collected : (\d+)", run.stderr).group(1))
 
 
-def case(base, branches, els):
-    flags = (1 if base else 0) + (2 if els else 0)
-    return field(25, bytes([flags, len(branches)]) + (base or b"") + b"".join(w + t for w, t in branches) + (els or b""))
+def measure(program, oracle, files, turns):
+    """The lowest times of the turns: strategy, whole call, fixed part, the Rust's evaluate, the Rust's whole."""
+    ours, fixed, evaluates, wholes = [], [], [], []
+    for _ in range(turns):
+        strategy, whole, *parts = map(int, said(program, "time", *files).split())
+        ours.append(whole)
+        fixed.append(sum(parts))
+        if oracle:
+            evaluate, rust = rust_times(oracle, files)
+            evaluates.append(evaluate)
+            wholes.append(rust)
+    return strategy, min(ours), min(fixed), min(evaluates, default=0), min(wholes, default=0)
 
 
-def steps(count, nullable):
-    return case(None, [(less(column(0, 2, nullable), int32(1000 // count * (i + 1))), int32(i)) for i in range(count)], int32(99))
+HEADS = ["rule", "strategy", "whole call", "fixed", "the Rust's evaluate", "the Rust's whole", "call / evaluate", "call / whole"]
 
 
-def bitmap(bits):
-    out = bytearray((len(bits) + 7) // 8)
-    for i, b in enumerate(bits):
-        out[i // 8] |= b << (i % 8)
-    return bytes(out)
+def cells(name, strategy, ours, fixed, evaluate, whole):
+    micro = lambda ns: f"{ns / 1000:.1f} µs" if ns >= 1000 else f"{ns / 1000:.2f} µs"
+    rust = [micro(evaluate), micro(whole), f"{ours / evaluate:.2f}", f"{ours / whole:.2f}"] if evaluate else []
+    return [name, str(strategy), micro(ours), micro(fixed)] + rust
 
 
-def int32_column(values, nulls=None):
-    validity = bitmap([0 if n else 1 for n in nulls]) if nulls else b""
-    return field(2, bytes([2, 1 if nulls else 0])) + field(3, validity) + field(4, b"".join(number(v, 4) for v in values))
+def line(words, markdown):
+    if markdown:
+        return "| " + " | ".join(words) + " |"
+    return f"{words[0]:52}" + "".join(f"{w:>20}" for w in words[1:])
 
 
-def numbers(values, nulls=None):
-    return field(1, number(len(values), 2)) + int32_column(values, nulls)
+def summary(ratios):
+    """Of call / evaluate and of call / whole: how many are below 1, and the geometric means."""
+    words = []
+    for name, column in zip(("evaluate", "whole"), zip(*ratios)):
+        mean = math.exp(sum(map(math.log, column)) / len(column))
+        words.append(f"below the Rust's {name} in {sum(r < 1 for r in column)} of {len(column)} rules (geometric mean {mean:.2f})")
+    return "The call is " + " and ".join(words) + "."
 
 
-def texts(values):
-    offsets, at = [0], 0
-    for v in values:
-        at += len(v)
-        offsets.append(at)
-    return (field(1, number(len(values), 2)) + field(2, bytes([5, 0])) + field(3, b"") +
-            field(5, b"".join(number(o, 4) for o in offsets)) + field(4, b"".join(values)))
+def arguments():
+    a = argparse.ArgumentParser(usage=__doc__)
+    a.add_argument("--oracle")
+    a.add_argument("--library", default=ARCHIVE)
+    a.add_argument("--turns", type=int, default=3)
+    a.add_argument("--only", default="")
+    a.add_argument("--markdown", action="store_true")
+    a.add_argument("--count", action="store_true")
+    return a.parse_args()
 
 
-def cases():
-    rng = random.Random(7)
-    values = [rng.randrange(1000) for _ in range(512)]
-    nulls = [rng.random() < 0.1 for _ in range(512)]
-    keys = [rng.randrange(12) for _ in range(512)]
-    words = [b"class%d" % k for k in range(12)]
-    col = column(0, 2, 0)
-    two = lambda a: case(None, [(less(col, int32(a)), int32(1)), (less(col, int32(a + 150)), int32(2))], int32(3))
-    yield "10 branches", steps(10, 0), numbers(values)
-    yield "10 branches, 10% nulls", steps(10, 1), numbers(values, nulls)
-    yield "32 branches", steps(32, 0), numbers(values)
-    yield "10 Int32 keys", case(col, [(int32(k), int32(k * 10)) for k in range(10)], int32(-1)), numbers(keys)
-    yield "10 text keys", case(column(0, 5, 0), [(text(words[k]), int32(k)) for k in range(10)], int32(-1)), texts([words[k] for k in keys])
-    yield "CASE in THEN (5 over 4)", case(None, [(less(col, int32(500)), case(None, [(less(col, int32(250)), int32(1))], int32(2)))], int32(3)), numbers(values)
-    yield "three CASEs of two", case(None, [(less(col, int32(300 * (i + 1))), two(300 * i)) for i in range(3)], int32(9)), numbers(values)
-    four = [[rng.randrange(1000) for _ in range(512)] for _ in range(4)]
-    turns = case(None, [(less(column(i % 4, 2, 0), int32(25 * (i + 1))), int32(i)) for i in range(10)], int32(99))
-    yield "10 branches, four columns", turns, field(1, number(512, 2)) + b"".join(int32_column(v) for v in four)
-
-
-def main(count):
-    scratch = tempfile.mkdtemp()
-    program = os.path.join(scratch, "bench")
-    subprocess.run(["gcc", "-O2", "-I", os.path.join(HERE, "include"), os.path.join(HERE, "tools", "bench_evaluate.c"),
-                    os.path.join(HERE, "target", "staticlib", "libtembalku.a"), "-o", program], check=True)
-    for name, rule, table in cases():
-        for end, data in (("rule", rule), ("table", table)):
-            open(os.path.join(scratch, f"{name}.{end}"), "wb").write(data)
-        print(subprocess.run([program, scratch, name], capture_output=True, text=True, check=True).stdout, end="", flush=True)
-        if count:
-            run = subprocess.run(["valgrind", "--tool=callgrind", "--toggle-collect=tembalku_evaluate", "--callgrind-out-file=/dev/null",
-                                  program, scratch, name, "once"], capture_output=True, text=True)
-            counts = [l.split(":")[-1].strip() for l in run.stderr.splitlines() if "Collected" in l]
-            print("  ", " ".join(counts), "instructions", flush=True)
+def main():
+    args = arguments()
+    heads = HEADS[:None if args.oracle else 4] + ["instructions"] * args.count
+    print(line(heads, args.markdown))
+    if args.markdown:
+        print("|" + "---|" * len(heads))
+    ratios = []
+    with tempfile.TemporaryDirectory() as folder:
+        program = build(folder, args.library)
+        for name, rule, table in measured():
+            if args.only not in name:
+                continue
+            files = put(folder, rule, table)
+            if args.oracle:
+                compare_answers(program, args.oracle, name, files)
+            times = measure(program, args.oracle, files, args.turns)
+            row = cells(name, *times)
+            if args.oracle:
+                ratios.append((times[1] / times[3], times[1] / times[4]))
+            if args.count:
+                row.append(f"{instructions(program, files):,}")
+            print(line(row, args.markdown), flush=True)
+    if ratios:
+        print("\n" + summary(ratios))
 
 
 if __name__ == "__main__":
-    main("--count" in sys.argv[1:])
+    main()

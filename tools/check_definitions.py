@@ -1,13 +1,13 @@
 #!/usr/bin/env python3
-"""check_definitions.py CASES SCRATCH [--listing N] [--runs N] [--most BYTES] [--part K]
+"""check_definitions.py SCRATCH [--cases FOLDER] [--listing N] [--runs N] [--most BYTES] [--part K]
 
 Has the checker compute the definitions of specs/ on stored cases, each by `refl`, in a scratch crate outside of the tree.
 
-CASES    the folder with rules.txt, listing.txt and runs.txt
 SCRATCH  a folder to make; it must not lie in this repository
+FOLDER   the folder with rules.txt, listing.txt and runs.txt; tools/cases unless said
 rules.txt is taken whole: strategy, nullability and projection. Of listing.txt and runs.txt N cases each are taken (default
-300), refusals and strategies in turn so that each kind is among them, those of at most BYTES bytes of rule and table first.
-Prints how many agreed, by kind, and the first that did not.
+300; `--listing 618 --runs 250` takes all), refusals and strategies in turn so that each kind is among them, those of at most BYTES
+bytes of rule and table first. Prints how many agreed, by kind, and the first that did not.
 """
 import argparse
 import collections
@@ -16,68 +16,9 @@ import re
 import subprocess
 import sys
 
-HERE = os.path.dirname(os.path.dirname(os.path.abspath(__file__)))
+from stored_cases import CASES, HERE, listed_runs, rules, runs
+
 CRATES = ["layout", "scalar", "rule", "table", "builder", "writer", "case"]
-
-
-def blocks(path):
-    """Paragraphs of `key value` lines."""
-    for text in open(path, encoding="utf-8").read().split("\n\n"):
-        lines = [l for l in text.splitlines() if l.strip()]
-        if lines:
-            yield lines
-
-
-def fields(lines):
-    return dict((l.split(" ", 1) + [""])[:2] for l in lines)
-
-
-def number(n, k):
-    return n.to_bytes(k, "little")
-
-
-def field(tag, content):
-    return bytes([tag]) + number(len(content), 2) + content
-
-
-def bitmap(bits):
-    return bytes(sum(b << i for i, b in enumerate(bits[j:j + 8])) for j in range(0, len(bits), 8))
-
-
-def answer(head, rows):
-    """The answer's bytes, from document 01's listing."""
-    _, count, _, kind, _, nullable = head.split()
-    kind, entries = int(kind), [r.split(" ", 1)[1] for r in rows]
-    assert int(count) == len(entries)
-    valid = [e != "null" for e in entries]
-    out = field(2, bytes([kind, int(nullable)])) + field(3, b"" if all(valid) else bitmap(valid))
-    if kind == 1:
-        values = bitmap([e == "true" for e in entries])
-    elif kind == 5:
-        texts = [bytes.fromhex(e[1:]) if v else b"" for e, v in zip(entries, valid)]
-        offsets = [sum(map(len, texts[:i])) for i in range(len(texts) + 1)]
-        out += field(5, b"".join(number(o, 4) for o in offsets))
-        values = b"".join(texts)
-    else:
-        width = 4 if kind == 2 else 8
-        base = 16 if kind == 4 else 10
-        values = b"".join(number((int(e, base) if v else 0) % 256 ** width, width) for e, v in zip(entries, valid))
-    return out + field(4, values)
-
-
-def listing(path):
-    for lines in blocks(path):
-        f = fields(lines[:3])
-        result = lines[3:-1]
-        want = ("refused", int(result[0].split()[1])) if result[0].startswith("refused") else ("ok", answer(result[0], result[1:]))
-        yield "listing " + f["case"], bytes.fromhex(f["rule"]), bytes.fromhex(f["table"]), 65536, 65536, want
-
-
-def runs(path):
-    for i, lines in enumerate(blocks(path)):
-        f = fields(lines)
-        want = ("refused", int(f["refused"])) if "refused" in f else ("ok", bytes.fromhex(f["answer"]))
-        yield f"runs {i + 1}", bytes.fromhex(f["rule"]), bytes.fromhex(f["table"]), int(f["work"]), int(f["output"]), want
 
 
 def chosen(cases, strategies, n, most):
@@ -108,7 +49,8 @@ def unfoldables():
         for file in sorted(os.listdir(folder)):
             text = open(os.path.join(folder, file), encoding="utf-8").read()
             found = re.findall(r"(?m)^unfoldable pub (\S+) :", text)
-            found += re.findall(r"(?m)^unfoldable mutual\n  pub (\S+) :", text)
+            found += re.findall(r"(?m)^unfoldable mutual\n(?:  --.*\n)*  pub (\S+) :", text)
+            assert len(found) == len(re.findall(r"(?m)^unfoldable ", text)), file
             names += [f"Rattle.{crate}.specs.{file[:-5]}.{n}" for n in found]
     names += ["lib.Ieee." + n for n in "span climb size odd units round ofInt toBits".split()]
     return names
@@ -162,47 +104,67 @@ def write(folder, parts):
     open(os.path.join(folder, "crates.txt"), "w", encoding="utf-8").write("".join(lines))
 
 
-def main():
+def of_rules(folder):
+    """The statements about rules.txt, and the strategy of each rule."""
+    statements, strategies = [], {}
+    for i, (rule, strategy, nullable, columns) in enumerate(rules(folder)):
+        strategies[rule] = strategy
+        listed = "".join(f"{c} ∷ " for c in columns)
+        mark = "true" if nullable else "false"
+        statements.append((f"rules {i + 1}", f"answers {literal(rule)}",
+                           f"ok (record {{ number = {strategy}; null = {mark}; columns = {listed}[] }})"))
+    return statements, strategies
+
+
+def of_runs(args, strategies, count):
+    """The statements about the cases that are run, counted by kind."""
+    statements = []
+    for name, source, n in (("listing", listed_runs, args.listing), ("runs", runs, args.runs)):
+        for kind, (label, rule, table, work, output, want) in chosen(source(args.cases), strategies, n, args.most):
+            right = f"refused {want[1]}" if want[0] == "refused" else f"ok {literal(want[1])}"
+            statements.append((label, f"run {literal(rule)} {literal(table)} {work} {output}", right))
+            count[f"{name} {kind}"] += 1
+    return statements
+
+
+def check(scratch, parts):
+    """Whether the checker accepts the statements, its words, and the labels of those that it refuses."""
+    done = subprocess.run(["rt", "check"] + [f"cases{k}" for k in range(len(parts))], cwd=scratch, capture_output=True, text=True)
+    said, bad = done.stdout + done.stderr, []
+    for m in re.finditer(r"cases(\d+)/specs/Cases.antt:\d+:\d+: error: (?:in )?`case-(\d+)`", said):
+        bad.append(parts[int(m.group(1))][int(m.group(2))][0])
+    return done.returncode, said, list(dict.fromkeys(bad))
+
+
+def arguments():
     a = argparse.ArgumentParser(usage=__doc__)
-    a.add_argument("cases")
     a.add_argument("scratch")
+    a.add_argument("--cases", default=CASES)
     a.add_argument("--listing", type=int, default=300)
     a.add_argument("--runs", type=int, default=300)
     a.add_argument("--most", type=int, default=1500)
     a.add_argument("--part", type=int, default=100)
-    args = a.parse_args()
+    return a.parse_args()
+
+
+def main():
+    args = arguments()
     if os.path.commonpath([HERE, os.path.abspath(args.scratch)]) == HERE:
         sys.exit("the scratch folder must not lie in this repository")
-    statements, strategies, count = [], {}, collections.Counter()
-    for i, lines in enumerate(blocks(os.path.join(args.cases, "rules.txt"))):
-        f = fields(lines)
-        rule = bytes.fromhex(f["rule"])
-        strategies[rule] = f["strategy"]
-        columns = "" if f["projection"] == "none" else "".join(c + " ∷ " for c in f["projection"].split())
-        mark = "true" if f["nullable"] == "1" else "false"
-        statements.append((f"rules {i + 1}", f"answers {literal(rule)}",
-                           f"ok (record {{ number = {f['strategy']}; null = {mark}; columns = {columns}[] }})"))
-        count["rules"] += 1
-    for name, source, n in (("listing", listing, args.listing), ("runs", runs, args.runs)):
-        for kind, (label, rule, table, work, output, want) in chosen(source(os.path.join(args.cases, name + ".txt")), strategies, n, args.most):
-            right = f"refused {want[1]}" if want[0] == "refused" else f"ok {literal(want[1])}"
-            statements.append((label, f"run {literal(rule)} {literal(table)} {work} {output}", right))
-            count[f"{name} {kind}"] += 1
+    statements, strategies = of_rules(args.cases)
+    count = collections.Counter(rules=len(statements))
+    statements += of_runs(args, strategies, count)
     parts = [statements[i:i + args.part] for i in range(0, len(statements), args.part)]
     write(args.scratch, parts)
-    done = subprocess.run(["rt", "check"] + [f"cases{k}" for k in range(len(parts))], cwd=args.scratch, capture_output=True, text=True)
-    bad = []
-    for m in re.finditer(r"cases(\d+)/specs/Cases.antt:\d+:\d+: error: (?:in )?`case-(\d+)`", done.stdout + done.stderr):
-        bad.append(parts[int(m.group(1))][int(m.group(2))][0])
-    bad = list(dict.fromkeys(bad))
+    status, said, bad = check(args.scratch, parts)
     for kind, n in sorted(count.items()):
         print(f"{n:5} {kind}")
     print(f"{len(statements)} cases, {len(bad)} disagree")
     for b in bad[:20]:
         print("disagrees:", b)
-    if done.returncode != 0 and not bad:
-        print((done.stdout + done.stderr)[-3000:])
-    sys.exit(done.returncode)
+    if status != 0 and not bad:
+        print(said[-3000:])
+    sys.exit(status)
 
 
 if __name__ == "__main__":

@@ -1,5 +1,5 @@
-// Replays the stored runs, the refused listings as runs, and the cases of document 01 that are only run, and prints of each kind how many
-// agree, with the first that doesn't.
+// Replays the stored runs, the refused listings as runs, the cases at both ends of limits, and runs with the Rust's answers, and prints of
+// each kind how many agree, with the first that doesn't.
 mod bytes;
 mod record;
 mod run;
@@ -85,4 +85,5 @@ fn main() {
     replay_file(b"runs", b"runs.bin", Kind::Run);
     replay_file(b"refusals", b"refusals.bin", Kind::Run);
     replay_file(b"limits", b"limits.bin", Kind::Listing);
+    replay_file(b"rust", b"rust.bin", Kind::Run);
 }

@@ -2,10 +2,10 @@
 use Prim.Native.Nat.{_-_, _+_, _≤_, _<_}
 use native.Mathlib.Omega.{arith}
 use lib.ListN.{length}
-use Rattle.rule_cases.proofs.columns_agree.Statement.{statement}
-use Rattle.rule_cases.proofs.columns_agree.Tie as tie
-use Rattle.rule_cases.proofs.columns_agree.Reads as reads
-use Rattle.rule_cases.proofs.columns_agree.Lts as lts
+use Rattle.rule_cases.proofs.answers.columns_agree.Statement.{statement}
+use Rattle.rule_cases.proofs.answers.columns_agree.Tie as tie
+use Rattle.rule_cases.proofs.answers.columns_agree.Reads as reads
+use Rattle.rule_cases.proofs.answers.columns_agree.Lts as lts
 
 abbrev Inv-loop : tie.InvT-loop
 Inv-loop columns p i₀ i = i ≤ 256

@@ -1,0 +1,99 @@
+#!/usr/bin/env python3
+"""Tests of make_cases.py and make_run_cases.py: the programs' data is what they write from tools/cases, and the limits are met exactly."""
+import contextlib
+import io
+import os
+import shutil
+import sys
+import tempfile
+import unittest
+
+sys.dont_write_bytecode = True
+sys.path.insert(0, os.path.dirname(os.path.abspath(__file__)))
+import make_cases  # noqa: E402
+import make_run_cases  # noqa: E402
+from stored_cases import CRATES, answer, field, listings, number, runs  # noqa: E402
+
+PROGRAMS = ["caserun", "rule_cases", "run_cases", "table_cases"]
+NOT_MADE = ("rule.bin", "batch.bin", "rust")
+
+
+def made_files(folder):
+    """The files of the programs that the tools make, by their path below the crates."""
+    found = {}
+    for program in PROGRAMS:
+        for base, _, names in os.walk(os.path.join(folder, program)):
+            for name in names:
+                path = os.path.join(base, name)
+                data = os.path.basename(base) == "data" and not name.startswith(NOT_MADE)
+                if data or name == "stdout" or (program, name) == ("rule_cases", "args"):
+                    with open(path, "rb") as source:
+                        found[os.path.relpath(path, folder)] = source.read()
+    return found
+
+
+def make_again(folder):
+    """The made files, written anew in a copy of the crates."""
+    for program in PROGRAMS:
+        shutil.copytree(os.path.join(CRATES, program), os.path.join(folder, program))
+    for path in made_files(folder):
+        os.remove(os.path.join(folder, path))
+    for tool in (make_cases, make_run_cases):
+        tool.CRATES = folder
+        with contextlib.redirect_stdout(io.StringIO()):
+            tool.main()
+        tool.CRATES = CRATES
+    return made_files(folder)
+
+
+class Data(unittest.TestCase):
+    def test_made_again(self):
+        with tempfile.TemporaryDirectory() as folder:
+            again = make_again(folder)
+        committed = made_files(CRATES)
+        self.assertEqual(sorted(again), sorted(committed))
+        for path, data in committed.items():
+            self.assertTrue(data == again[path], path)
+
+    def test_counts(self):
+        with open(os.path.join(CRATES, "run_cases", "stdout"), encoding="utf-8") as source:
+            counts = [int(l.split()[1]) for l in source]
+        self.assertEqual(counts[0], len(list(runs())))
+        self.assertGreaterEqual(counts[3], 3000)
+
+
+class Limits(unittest.TestCase):
+    def sizes(self, record):
+        return [int.from_bytes(record[k:k + 4], "little") for k in (0, 4)]
+
+    def test_rule(self):
+        for size, want in ((4096, b"rows 34 type 5 nullable 0\n"), (4097, b"refused 1\n")):
+            record = make_run_cases.long_rule_case(size)
+            self.assertEqual(self.sizes(record)[0], size)
+            self.assertTrue(make_run_cases.wanted(record).startswith(want))
+
+    def test_table(self):
+        for size, want in ((65536, b"rows 512 type 5 nullable 1\n"), (65537, b"refused 9\n")):
+            record = make_run_cases.long_table_case(size)
+            self.assertEqual(self.sizes(record)[1], size)
+            self.assertTrue(make_run_cases.wanted(record).startswith(want))
+
+
+class Types(unittest.TestCase):
+    def test_each_node(self):
+        flag, long = field(16, bytes([0, 1, 0])), field(17, bytes([3, 0]) + number(7, 8))
+        whole = lambda base, *parts: field(25, bytes([base, 1]) + b"".join(parts))
+        nodes = {flag: 1, long: 3, field(18, flag): 1, field(19, long): 3, field(20, long): 1, field(21, b"\2" + long): 2,
+                 field(22, b"\1" + long): 1, field(23, long + long): 1, field(24, long + long): 1, whole(0, flag, long): 3, whole(1, long, long, flag): 1}
+        for node, kind in nodes.items():
+            self.assertEqual(make_cases.type_of(node), kind)
+
+    def test_listing_to_answer(self):
+        """The answer's bytes of document 01's listing."""
+        lines = next(lines for _, _, lines in listings() if not lines[0].startswith("refused"))
+        self.assertEqual(answer(lines[0], lines[1:])[3], int(lines[0].split()[3]))
+        self.assertEqual(answer("rows 2 type 2 nullable 1", ["0 -1", "1 null"]).hex(), "020200020103010001040800ffffffff00000000")
+
+
+if __name__ == "__main__":
+    unittest.main()
