@@ -217,7 +217,7 @@ class Targets(unittest.TestCase):
         self.assertTrue(all(e[0] == "literal" and e[2] is not None for e in [t for _, t in self.rule[2]] + [self.rule[3]]))
         lines = [f"rows {self.table[0]} type 5 nullable 0"] + listed(rule_bytes(self.rule), table_bytes(self.table))
         self.assertIn("```\n" + "\n".join(lines) + "\n```", readme)
-        speeds, sizes = (["null" if v is None else str(v) for v in c[3]] for c in self.table[1])
+        speeds, sizes = (["null" if v is None else str(v) for v in c[3]] for c in self.table[1][:2])
         for i, line in enumerate(lines[1:]):
             self.assertIn(f"| {i} | {speeds[i]} | {sizes[i]} | {bytes.fromhex(line.split(' t')[1]).decode()} |", readme)
 
