@@ -49,10 +49,10 @@ from dealer.layout import rule_bytes, table_bytes  # noqa: E402
 from dealer.library import Library, archive_path  # noqa: E402
 from dealer.plan import drawn  # noqa: E402
 from dealer.reading import Refused, read_rule, read_table  # noqa: E402
-from dealer.report import compare_report, counted, run_report  # noqa: E402
+from dealer.report import compare_report, run_report  # noqa: E402
 from dealer.source import NAMES_FILE, SourceRefused, from_folder, from_texts, load  # noqa: E402
 from dealer.text import FileError, TextError, load_bytes, parse  # noqa: E402
-from dealer.tree import WORDS, type_of  # noqa: E402
+from dealer.tree import WORDS, counted, type_of  # noqa: E402
 from dealer.words import explanation, text_of  # noqa: E402
 
 
@@ -116,7 +116,7 @@ def explain(options):
 def parser():
     out = argparse.ArgumentParser(prog="casetext.py", description=__doc__, formatter_class=argparse.RawDescriptionHelpFormatter,
                                   usage="casetext.py check|run|compare|make|show|explain .. (casetext.py --help)")
-    commands = out.add_subparsers(dest="command", required=True, metavar="COMMAND")
+    commands = out.add_subparsers(dest="command", required=True, metavar="COMMAND", prog="casetext.py")
     places = {check: ["text", "table?"], run: ["text", "table?"], compare: ["rule1", "rule2", "table"], make: ["text", "folder"],
               show: ["folder"], explain: ["folder"]}
     made = {}

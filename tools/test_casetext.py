@@ -226,13 +226,13 @@ class Errors(unittest.TestCase):
     def test_text(self):
         rule = "rule\n(case (when (boolean true) (then (int32 1))))"
         for text, line, words in [
-                ("", 1, "rows or rule is expected"),
+                ("", 1, "there is nothing in it"),
                 ("rows x\n" + rule, 1, "no row count"),
                 ("rows 1\ncolum a int32 1\n" + rule, 2, "column or rule is expected"),
                 ("rows 1\ncolumn 1 int32 1\n" + rule, 2, "no name"),
                 ("rows 1\ncolumn a int16 1\n" + rule, 2, "no type"),
                 ("rows 1\ncolumn a int32 1\n\ncolumn a int32 1\n" + rule, 4, "second column a"),
-                ("rows 2\ncolumn a int32 1\n" + rule, 2, "1 values for 2 rows"),
+                ("rows 2\ncolumn a int32 1\n" + rule, 2, "1 value for 2 rows"),
                 ("rows 1\ncolumn a int32 2147483648\n" + rule, 2, "outside of int32"),
                 ("rows 1\ncolumn a int64 -9223372036854775809\n" + rule, 2, "outside of int64"),
                 ("rows 1\ncolumn a int64 " + "9" * 5000 + "\n" + rule, 2, "outside of int64"),
@@ -252,7 +252,7 @@ class Errors(unittest.TestCase):
                 ("rows 1\nrule\n(case\n (when (and) (then (int32 1))))", 4, "and is no expression"),
                 ("rows 1\nrule\n(case\n (when (boolean true) (int32 1)))", 4, "then is expected"),
                 ("rows 1\nrule\n(case\n (else (int32 1))\n (when (boolean true) (then (int32 1))))", 5, "when out of place"),
-                ("rows 1\nrule\n(case\n (when (not (boolean true)", 4, "the end where ) is expected"),
+                ("rows 1\nrule\n(case\n (when (not (boolean true)", 4, "the text ends, but the bracket of line 4 isn't closed"),
                 ("rows 1\nrule\n(case\n (when " + "(not " * 200, 4, "nested more than"),
                 ("rows 1\nrule\n(case\n" + " (when (null boolean) (then (null int32)))\n" * 256 + ")", 3, "256 branches: at most 32, 6"),
                 ('rows 1\nrule\n(case\n (when (boolean true) (then (utf8 "' + "a" * 65536 + '"))))', 4, "at most 4096 bytes, 1"),

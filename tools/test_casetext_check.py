@@ -6,6 +6,7 @@ import sys
 import tempfile
 import unittest
 import xml.etree.ElementTree as ElementTree
+from unittest import mock
 
 sys.dont_write_bytecode = True
 sys.path.insert(0, os.path.dirname(os.path.abspath(__file__)))
@@ -127,7 +128,7 @@ class Refusals(InFolder):
         self.assertEqual(run("check", rule, table)[2], f"{rule}: line 3: int64 < int32: types don't go together, 7 (speed < 5)\n")
         self.write("table.txt", "rows 1\ncolumn speed int32 null")
         self.assertEqual(run("check", rule, table)[2],
-                         f"{table}: line 2: column speed has 0 values for 1 rows; the first null is the column's mark, not a value\n")
+                         f"{table}: line 2: column speed has 0 values for 1 row; the first null is the column's mark, not a value\n")
         self.write("table.txt", "rows 2\ncolumn speed int32 1 null")
         self.assertEqual(run("check", rule, table)[2], f"{table}: line 2: column speed: row 1 is null, but the column isn't marked null, 12\n")
 
@@ -191,6 +192,32 @@ class Files(InFolder):
         self.assertEqual(run("check", rule, rule)[2], f"{rule}: there is no table in it\n")
 
 
+class Disagreeing(InFolder):
+    def test_loud(self):
+        """A library that says something else than the rule read row by row: exit status 3, both answers, and no table of classes."""
+        path = self.write("a.txt", when("(less (col speed) (int32 5))"))
+        for said, words in [((None, (2, [1, None, 1])), "row 2: the library says 1, the rule read row by row says null"),
+                            ((None, (5, [b"a", None, None])), "the library's answer has type 5, the rule's result 2"),
+                            ((15, None), "the library refuses with 15, but the check finds nothing to refuse")]:
+            code, out, err = self.with_library(said, "run", path)
+            self.assertEqual((code, out), (3, ""))
+            self.assertEqual(err.splitlines(), [LOUD, words])
+        path = self.write("b.txt", when("(less (col speed) (col far))"))
+        code, out, err = self.with_library((None, (2, [1, 1, 1])), "run", path)
+        self.assertEqual((code, out), (3, ""))
+        self.assertIn("the library answers, but the check says: ", err)
+        self.assertEqual(self.with_library((7, None), "run", path)[0], 1)
+
+    def with_library(self, said, *args):
+        """Runs a command with a library that says one thing."""
+        library = mock.Mock(**{"entries.return_value": said})
+        with mock.patch("casetext.Library", return_value=library), mock.patch("casetext.archive_path"):
+            return run(*args)
+
+
+LOUD = "DISAGREEMENT: the library and this tool don't say the same. Don't trust the classes, and report this."
+
+
 class Mistakes(InFolder):
     def test_sql(self):
         for text, line in [("CASE WHEN speed < 5 THEN 'slow' END", 1), ("-- my rule\nSELECT 1", 1), ("case when speed < 5 then 1 end", 1),
@@ -223,6 +250,18 @@ class Mistakes(InFolder):
             with self.subTest(words):
                 self.assertEqual(self.said(when(words)), want)
 
+    def test_text_hints(self):
+        for text, want in [
+                ("", "line 1: there is nothing in it: a table begins with the number of its targets, `rows 8`, a rule with `rule`"),
+                ("speed;size\n12;3", "line 1: speed;size where rows or rule is expected: a table begins with the number of its targets, "
+                 "`rows 8`, a rule with `rule`"),
+                ("rows 1\ncolumn a int32 5\n(case)", "line 3: ( is no int32: is the line `rule` missing before it?"),
+                ("rows 1\ncolumn a float64 5,5", "line 2: 5,5 is no float64: a number has a point, not a comma, and is float64 then"),
+                (HEAD + "(case (when (boolean true)\n(int32 1)))", "line 6: int32 where then is expected: a result stands in brackets of its own, (then E)"),
+                (HEAD + "(case\n(when (boolean true) (then (int32 1)))\n", "line 7: the text ends, but the bracket of line 5 isn't closed")]:
+            with self.subTest(text):
+                self.assertEqual(self.said(text), want)
+
     def test_and_or(self):
         """The hints for AND and OR say true exactly where SQL does."""
         values = {"true": True, "false": False, "null": None}
@@ -242,7 +281,7 @@ class Names(InFolder):
         self.assertIn("column speed int32 null 4 null 9\ncolumn far int64", run("show", self.folder)[1])
         self.assertIn("(less (col speed) (int32 5))", run("show", self.folder)[1])
         self.assertIn("column a int32 null 4 null 9\ncolumn b int64", run("show", self.folder, "--names", "a,b")[1])
-        self.assertEqual(run("show", self.folder, "--names", "a"), (1, "", "--names: 1 names for 2 columns\n"))
+        self.assertEqual(run("show", self.folder, "--names", "a"), (1, "", "--names: 1 name for 2 columns\n"))
         os.remove(self.path("names.txt"))
         self.assertIn("column c0 int32 null 4 null 9\ncolumn c1 int64", run("show", self.folder)[1])
 

@@ -252,6 +252,16 @@ class Run(InFolder):
             self.assertIn("```\n" + out + "```", f.read())
         self.assertEqual(self.ran("run", TARGETS), out)
 
+    def test_readme(self):
+        """README's text gives the table under it, and the refusal for the slip that it names."""
+        with open(os.path.join(os.path.dirname(os.path.dirname(TARGETS)), "README.md"), encoding="utf-8") as f:
+            readme = f.read()
+        blocks = readme[readme.index("## For display makers and dealers"):].split("```\n")
+        text, table, refusal = blocks[1], blocks[3], blocks[5]
+        self.assertEqual(self.ran("run", self.write("harbour.txt", text)), table)
+        slip = text.replace("(col length) (float64 3.0)", "(col speed) (float64 3.0)")
+        self.assertEqual(run("check", self.write("harbour.txt", slip)), (1, "", self.path(refusal)))
+
     def test_branches(self):
         """A base, a nested CASE, a branch that decides nothing, and no ELSE."""
         path = self.write("a.txt", """rows 4

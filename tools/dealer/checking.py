@@ -2,7 +2,7 @@
 from dealer.layout import places
 from dealer.reading import Refused, marks, read_rule, read_table
 from dealer.rows import Unfit, at_row, row_of
-from dealer.tree import TEXT_MOST, UTF8, WORDS, columns_of, type_of
+from dealer.tree import TEXT_MOST, UTF8, WORDS, columns_of, counted, type_of
 from dealer.words import sql
 
 
@@ -12,7 +12,7 @@ def check_fit(rule, table, names):
     for e in columns_of(rule):
         _, index, kind, nullable = e
         if index >= len(columns):
-            said = f"column {index}, counted from 0, isn't there: the table has {len(columns)} columns"
+            said = f"column {index}, counted from 0, isn't there: the table has {counted(len(columns), 'column')}"
         elif columns[index][1] != kind:
             said = f"column {names[index]} is {WORDS[kind]} in the rule and {WORDS[columns[index][1]]} in the table"
         elif columns[index][2] > nullable:

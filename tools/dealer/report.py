@@ -2,7 +2,7 @@
 from collections import Counter
 
 from dealer.evaluation import all_paths, path_words
-from dealer.tree import UTF8, columns_of
+from dealer.tree import UTF8, columns_of, counted
 from dealer.words import value_text
 
 
@@ -28,10 +28,6 @@ def cells(table, shown, i):
 def to_the_right(table, shown):
     """The row and the columns of numbers."""
     return {0} | {n for n, c in enumerate(shown, 1) if table[1][c][1] != UTF8}
-
-
-def counted(n, word):
-    return f"{n} {word}" if n == 1 else f"{n} {word}s"
 
 
 def run_report(evaluation):

@@ -4,6 +4,7 @@ import os
 from dealer.checking import check_bytes, sentence
 from dealer.layout import rule_bytes, table_bytes
 from dealer.reading import Refused, read_rule, read_table
+from dealer.tree import counted
 from dealer.text import NAME, FileError, TextError, load_bytes, load_text, parse
 
 NAMES_FILE = "names.txt"
@@ -74,7 +75,7 @@ def names_of(folder, given, count):
     else:
         return [f"c{i}" for i in range(count)]
     if len(names) != count:
-        raise FileError(f"{whence}: {len(names)} names for {count} columns")
+        raise FileError(f"{whence}: {counted(len(names), 'name')} for {counted(count, 'column')}")
     for i, name in enumerate(names):
         if not NAME.match(name) or name in names[:i]:
             raise FileError(f"{whence}: {name!r} is no name, or there twice: letters, digits and _")

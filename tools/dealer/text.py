@@ -8,13 +8,14 @@ import struct
 from dealer.layout import column_bytes, rule_bytes
 from dealer.mistakes import hint, sql_sentence
 from dealer.tree import (BOOLEAN, BRANCHES_MOST, CASTS, FLOAT64, INT32, INT64, NESTED_MOST, PLAIN, ROWS_MOST, RULE_MOST, TABLE_MOST, TYPES, UTF8,
-                         WORDS, Node)
+                         WORDS, Node, counted)
 
 TOKEN = re.compile(r'[ \t\r]+|#[^\n]*|(?P<end>\n)|(?P<mark>[()])|(?P<text>x?"(?:[^"\\\n]|\\.)*")|(?P<word>[^\s()"#]+)')
 NAME = re.compile(r"[A-Za-z_][A-Za-z0-9_]*\Z")
 COUNT = re.compile(r"[0-9]{1,5}\Z")
 DECIMAL = re.compile(r"[+-]?[0-9]+\Z")
 FLOAT = re.compile(r"[+-]?([0-9]+\.?[0-9]*|\.[0-9]+)([eE][+-]?[0-9]+)?\Z")
+COMMA = re.compile(r"[+-]?[0-9]+,[0-9]+\Z")
 BITS = re.compile(r"0x[0-9a-fA-F]{16}\Z")
 
 
@@ -111,10 +112,20 @@ def value_of(kind, token, line):
         return int(token, 16)
     if kind == FLOAT64 and FLOAT.match(token):
         return float_bits(token, line)
-    extra = ': text stands in double quotes, "boat"' if kind == UTF8 and token else ""
+    raise TextError(line, f"{token or 'the end'} is no {WORDS[kind]}{value_hint(kind, token)}")
+
+
+def value_hint(kind, token):
+    """What to write in place of a token that is no value of the type, or nothing."""
+    if token == "(":
+        return ": is the line `rule` missing before it?"
+    if kind == UTF8 and token:
+        return ': text stands in double quotes, "boat"'
     if kind in (INT32, INT64) and FLOAT.match(token):
-        extra = ": a number with a point is float64"
-    raise TextError(line, f"{token or 'the end'} is no {WORDS[kind]}{extra}")
+        return ": a number with a point is float64"
+    if COMMA.match(token):
+        return ": a number has a point, not a comma, and is float64 then"
+    return ""
 
 
 class Parser:
@@ -139,9 +150,15 @@ class Parser:
     def expect(self, *words):
         token, line = self.take()
         if token not in words:
-            names = [c[0] for c in self.known()]
-            raise TextError(line, f"{token or 'the end'} where {' or '.join(words)} is expected{hint(token, names)}")
+            said = ": a result stands in brackets of its own, (then E)" if "then" in words else hint(token, [c[0] for c in self.known()])
+            raise TextError(line, f"{token or 'the end'} where {' or '.join(words)} is expected{said}")
         return token
+
+    def close(self, opened):
+        """The bracket that closes the one of a line."""
+        if not self.peek():
+            raise TextError(self.line(), f"the text ends, but the bracket of line {opened} isn't closed")
+        self.expect(")")
 
     def kind(self):
         token, line = self.take()
@@ -165,7 +182,8 @@ class Parser:
         if sql:
             raise TextError(self.line(), sql)
         if self.peek() not in ("rows", "rule"):
-            self.expect("rows", "rule")
+            said = self.peek() + " where rows or rule is expected" if self.peek() else "there is nothing in it"
+            raise TextError(self.line(), f"{said}: a table begins with the number of its targets, `rows 8`, a rule with `rule`")
         if self.peek() == "rows":
             self.table()
         e = self.rule() if self.peek() == "rule" else None
@@ -202,7 +220,7 @@ class Parser:
             values.append(None if token == "null" else value_of(kind, token, at))
         if len(values) != self.rows:
             first = "; the first null is the column's mark, not a value" if nullable and len(values) + 1 == self.rows else ""
-            raise TextError(line, f"column {name} has {len(values)} values for {self.rows} rows{first}")
+            raise TextError(line, f"column {name} has {counted(len(values), 'value')} for {counted(self.rows, 'row')}{first}")
         try:
             column_bytes(kind, nullable, values)
         except OverflowError:
@@ -240,7 +258,7 @@ class Parser:
             parts = (word,) + tuple(self.expr(depth + 1) for _ in range(PLAIN[word][1]))
         else:
             raise TextError(at, f"{word or 'the end'} is no expression{hint(word, [c[0] for c in self.known()])}")
-        self.expect(")")
+        self.close(line)
         return self.sized(Node(parts, line))
 
     @staticmethod
@@ -269,6 +287,7 @@ class Parser:
     def case(self, depth, line):
         base, branches, other = None, [], None
         while self.peek() == "(":
+            opened = self.line()
             self.take()
             word, at = self.take()
             if word == "base" and base is None and not branches and other is None:
@@ -278,12 +297,12 @@ class Parser:
                 self.expect("(")
                 self.expect("then")
                 branches.append((when, self.expr(depth + 1)))
-                self.expect(")")
+                self.close(opened)
             elif word == "else" and other is None:
                 other = self.expr(depth + 1)
             else:
                 raise TextError(at, f"{word or 'the end'} out of place in a case{hint(word)}")
-            self.expect(")")
+            self.close(opened)
         if len(branches) > 255:
             raise TextError(line, f"{len(branches)} branches: at most {BRANCHES_MOST}, 6")
         return ("case", base, branches, other)

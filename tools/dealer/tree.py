@@ -71,3 +71,8 @@ def type_of(e):
     if word == "case":
         return type_of(e[2][0][1])
     return type_of(e[1]) if word == "neg" else BOOLEAN
+
+
+def counted(n, word):
+    """`1 row`, `2 rows`."""
+    return f"{n} {word}" if n == 1 else f"{n} {word}s"
