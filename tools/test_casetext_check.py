@@ -354,9 +354,19 @@ rule (case (when (equal (col kind) (utf8 "c")) (then (utf8 "c & d"))) (else (utf
         self.assertEqual(colours(self.TEXT.replace('"c" "a<b" "c" "c"', '"a<b" "a<b" "a<b" "a<b"'))["a<b"], both["a<b"])
 
     def test_rings(self):
-        for most, want in [(0, 1), (1, 0.2), (1.3, 0.5), (9, 2), (10, 2), (12, 2), (13, 5), (40, 10), (99, 20), (1e9, 2e8), (0.003, 0.0005)]:
+        for most, want in [(0, 1), (1, 0.2), (1.3, 0.5), (9, 2), (10, 2), (12, 2), (13, 5), (40, 10), (99, 20), (1e9, 2e8), (0.003, 0.0005), (5e-324, 0)]:
             self.assertAlmostEqual(ring_step(most), want)
         self.assertEqual(tuple(round(v, 6) for v in point(-90, 1)), (60, 360))
+
+    def test_odd_places(self):
+        """Floats that are no place are not drawn; far bearings and ranges are."""
+        for bits in ("0x7ff8000000000000", "0x7ff0000000000000", "0xfff0000000000000", "null"):
+            text = f"rows 1\ncolumn bearing int32 5\ncolumn range float64 null {bits}\nrule " + OK
+            self.assertEqual(self.marks(ElementTree.fromstring(drawn(evaluation(text), "bearing", "range"))), {}, bits)
+        for bearing, far in (("-1e200", "1e299"), ("720.0", "5e-324"), ("0.0", "0.0")):
+            text = f"rows 1\ncolumn bearing float64 {bearing}\ncolumn range float64 {far}\nrule " + OK
+            (x, y), = self.marks(ElementTree.fromstring(drawn(evaluation(text), "bearing", "range"))).values()
+            self.assertTrue(60 <= x <= 660 and 60 <= y <= 660)
 
     def test_no_targets(self):
         text = "rows 0\ncolumn bearing int32\ncolumn range int32\nrule " + OK

@@ -13,6 +13,9 @@ LEGEND_X = 730
 # colours that the colour-blind can tell apart (Okabe and Ito), without the yellow, which is pale on white
 COLOURS = ["#0072b2", "#d55e00", "#009e73", "#cc79a7", "#e69f00", "#56b4e9", "#000000"]
 SHAPES = ["circle", "square", "triangle", "diamond"]
+# no place: infinite, no number, or beyond what rings can be drawn for
+FAR = 1e300
+LABELS_MOST, NAME_MOST = 100, 24
 CARDINALS = ((0, "N"), (90, "E"), (180, "S"), (270, "W"))
 
 
@@ -31,7 +34,7 @@ def as_float(kind, v):
     if v is None:
         return None
     f = struct.unpack("<d", number(v, 8))[0] if kind == FLOAT64 else float(v)
-    return f if math.isfinite(f) else None
+    return f if abs(f) < FAR else None
 
 
 def placed(table, bearing, distance):
@@ -44,7 +47,7 @@ def ring_step(most):
     """1, 2 or 5 times a power of ten, so that three to six rings hold the farthest target."""
     if most <= 0:
         return 1.0
-    power = 10.0 ** math.floor(math.log10(most))
+    power = max(10.0 ** math.floor(math.log10(most)), 1 / FAR)
     return next(power * m for m in (0.2, 0.5, 1.0, 2.0) if most / (power * m) <= 6)
 
 
@@ -102,7 +105,8 @@ def targets(evaluation, points, indexes, most):
         x, y = point(bearing, r / most)
         title = f"row {i}: {evaluation.class_of(i)}, {evaluation.decided_by(i)}"
         lines.append(shape(indexes[evaluation.class_of(i)], x, y, title))
-        lines.append(label(x + 10, y + 4, str(i), font_size=12))
+        if len(points) <= LABELS_MOST:
+            lines.append(label(x + 10, y + 4, str(i), font_size=12))
     return lines
 
 
@@ -112,15 +116,19 @@ def legend(evaluation, points, indexes):
     y = 70
     for name, n in indexes.items():
         lines.append(shape(n, LEGEND_X, y, name))
-        lines.append(label(LEGEND_X + 18, y + 5, f"{name}: {seen.count(name)}"))
+        short = name if len(name) <= NAME_MOST else name[:NAME_MOST - 2] + ".."
+        lines.append(label(LEGEND_X + 18, y + 5, f"{short}: {seen.count(name)}"))
         y += 26
     missing = len(seen) - len(points)
     if missing:
         lines.append(label(LEGEND_X - 8, y + 12, f"not drawn: {missing}", fill="#777777"))
         lines.append(label(LEGEND_X - 8, y + 30, "(no bearing or no range)", fill="#777777"))
         y += 44
-    lines.append(label(LEGEND_X - 8, y + 22, "north up, own ship in the middle", fill="#777777", font_size=12))
-    return lines, y + 40
+    notes = ["north up, own ship in the middle", "rings: range, as in the table"]
+    for said in notes + ["numbers beside the marks: rows"] * (len(points) <= LABELS_MOST):
+        lines.append(label(LEGEND_X - 8, y + 22, said, fill="#777777", font_size=12))
+        y += 18
+    return lines, y + 22
 
 
 def drawn(evaluation, bearing, distance):
