@@ -45,15 +45,20 @@ import sys
 
 sys.dont_write_bytecode = True
 from dealer.evaluation import Disagreement, evaluated  # noqa: E402
-from dealer.layout import rule_bytes, table_bytes  # noqa: E402
 from dealer.library import Library, archive_path  # noqa: E402
 from dealer.plan import drawn  # noqa: E402
-from dealer.reading import Refused, read_rule, read_table  # noqa: E402
+from dealer.reading import Refused, read_rule  # noqa: E402
 from dealer.report import compare_report, run_report  # noqa: E402
 from dealer.source import NAMES_FILE, SourceRefused, from_folder, from_texts, load  # noqa: E402
-from dealer.text import FileError, TextError, load_bytes, parse  # noqa: E402
+from dealer.text import FileError, load_bytes  # noqa: E402
 from dealer.tree import WORDS, counted, type_of  # noqa: E402
 from dealer.words import explanation, text_of  # noqa: E402
+# not used here: other tools take the layout from casetext
+from dealer.layout import bitmap, column_bytes, field, number, rule_bytes, table_bytes  # noqa: E402, F401
+from dealer.reading import read_table  # noqa: E402, F401
+from dealer.text import parse  # noqa: E402, F401
+from dealer.tree import CASTS, PLAIN, TYPES, WIDTHS  # noqa: E402, F401
+from dealer.words import value_text  # noqa: E402, F401
 
 
 def write(path, data):

@@ -15,11 +15,14 @@ sys.dont_write_bytecode = True
 HERE = os.path.dirname(os.path.abspath(__file__))
 sys.path.insert(0, HERE)
 import casetext  # noqa: E402
-from casetext import Refused, TextError, explanation, load_bytes, parse, read_rule, read_table, rule_bytes, table_bytes, text_of  # noqa: E402
 from dealer import tree  # noqa: E402
 from dealer.checking import check_bytes  # noqa: E402
+from dealer.layout import rule_bytes, table_bytes  # noqa: E402
+from dealer.reading import Refused, read_rule, read_table  # noqa: E402
 from dealer.rows import at_row, row_of  # noqa: E402
+from dealer.text import TextError, load_bytes, parse  # noqa: E402
 from dealer.tree import type_of  # noqa: E402
+from dealer.words import explanation, text_of  # noqa: E402
 
 TARGETS = os.path.join(os.path.dirname(HERE), "examples", "targets")
 

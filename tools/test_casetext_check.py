@@ -112,11 +112,13 @@ class Refusals(InFolder):
             (when("(isnotnull (col speed int32))"), "line 6: column speed is int32 in the rule and int32 null in the table, 13"),
             (then("(cast int32 (col far))").replace("(when (boolean true) (then (int32 1)))", "(when (boolean false) (then (int32 1)))"),
              "line 7: row 0: 3000000000 doesn't fit int32, 15 (CAST(far AS int32))"),
-            ("rows 17\nrule " + OK.replace("(int32 1)", f"(utf8 \"{'a' * 4000}\")"), "the classes' texts have 68000 bytes in all: at most 65535, 16")])
+            ("rows 17\nrule " + OK.replace("(int32 1)", f"(utf8 \"{'a' * 4000}\")"),
+             "the classes' texts have 68000 bytes in all: at most 65535, 16")])
 
     def test_accepted(self):
         path = self.write("a.txt", when("(less (col speed) (int32 5))"))
-        self.assertEqual(run("check", path), (0, f"{path}: accepted: a rule of 32 bytes, whose classes are int32; a table of 3 rows and 2 columns\n", ""))
+        said = f"{path}: accepted: a rule of 32 bytes, whose classes are int32; a table of 3 rows and 2 columns\n"
+        self.assertEqual(run("check", path), (0, said, ""))
 
     def test_two_texts(self):
         """A rule's names are those of the table's text; what is wrong names the text that it stands in."""
@@ -257,7 +259,8 @@ class Mistakes(InFolder):
                  "`rows 8`, a rule with `rule`"),
                 ("rows 1\ncolumn a int32 5\n(case)", "line 3: ( is no int32: is the line `rule` missing before it?"),
                 ("rows 1\ncolumn a float64 5,5", "line 2: 5,5 is no float64: a number has a point, not a comma, and is float64 then"),
-                (HEAD + "(case (when (boolean true)\n(int32 1)))", "line 6: int32 where then is expected: a result stands in brackets of its own, (then E)"),
+                (HEAD + "(case (when (boolean true)\n(int32 1)))",
+                 "line 6: int32 where then is expected: a result stands in brackets of its own, (then E)"),
                 (HEAD + "(case\n(when (boolean true) (then (int32 1)))\n", "line 7: the text ends, but the bracket of line 5 isn't closed")]:
             with self.subTest(text):
                 self.assertEqual(self.said(text), want)
@@ -354,7 +357,8 @@ rule (case (when (equal (col kind) (utf8 "c")) (then (utf8 "c & d"))) (else (utf
         self.assertEqual(colours(self.TEXT.replace('"c" "a<b" "c" "c"', '"a<b" "a<b" "a<b" "a<b"'))["a<b"], both["a<b"])
 
     def test_rings(self):
-        for most, want in [(0, 1), (1, 0.2), (1.3, 0.5), (9, 2), (10, 2), (12, 2), (13, 5), (40, 10), (99, 20), (1e9, 2e8), (0.003, 0.0005), (5e-324, 0)]:
+        for most, want in [(0, 1), (1, 0.2), (1.3, 0.5), (9, 2), (10, 2), (12, 2), (13, 5), (40, 10), (99, 20), (1e9, 2e8), (0.003, 0.0005),
+                           (5e-324, 0)]:
             self.assertAlmostEqual(ring_step(most), want)
         self.assertEqual(tuple(round(v, 6) for v in point(-90, 1)), (60, 360))
 
