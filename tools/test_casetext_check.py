@@ -120,6 +120,12 @@ class Refusals(InFolder):
         said = f"{path}: accepted: a rule of 32 bytes, whose classes are int32; a table of 3 rows and 2 columns\n"
         self.assertEqual(run("check", path), (0, said, ""))
 
+    def test_line_ends(self):
+        """Lines may end as on other systems."""
+        path = self.write("a.txt", when("(less (col speed) (int32 5))").replace("\n", "\r\n"))
+        self.assertEqual(run("check", path)[0], 0)
+        self.assertEqual(self.said(when("(col speed)").replace("\n", "\r\n"))[:8], "line 6: ")
+
     def test_two_texts(self):
         """A rule's names are those of the table's text; what is wrong names the text that it stands in."""
         rule = self.write("rule.txt", "rule\n(case\n (when (less (col speed) (int32 5)) (then (int32 1))))")
@@ -258,6 +264,8 @@ class Mistakes(InFolder):
                 ("speed;size\n12;3", "line 1: speed;size where rows or rule is expected: a table begins with the number of its targets, "
                  "`rows 8`, a rule with `rule`"),
                 ("rows 1\ncolumn a int32 5\n(case)", "line 3: ( is no int32: is the line `rule` missing before it?"),
+                ('rows 1\ncolumn a utf8 "boat\n"', "line 2: can't read '\"boat': a text has a quote at both ends, in one line"),
+                ("rows 1\ncolumn a\u00a0int32 5", "line 2: can't read '\\xa0int32 5'"),
                 ("rows 1\ncolumn a float64 5,5", "line 2: 5,5 is no float64: a number has a point, not a comma, and is float64 then"),
                 (HEAD + "(case (when (boolean true)\n(int32 1)))",
                  "line 6: int32 where then is expected: a result stands in brackets of its own, (then E)"),

@@ -67,7 +67,8 @@ def tokens(text):
     while at < len(text):
         m = TOKEN.match(text, at)
         if not m:
-            raise TextError(line, f"can't read {text[at:at + 10].splitlines()[0]!r}: a text has a quote at both ends")
+            quote = ": a text has a quote at both ends, in one line" if '"' in text[at:at + 2] else ""
+            raise TextError(line, f"can't read {text[at:at + 10].splitlines()[0]!r}{quote}")
         if m.group("end"):
             line += 1
         elif m.lastgroup:
