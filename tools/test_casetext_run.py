@@ -246,11 +246,14 @@ class Run(InFolder):
         return out
 
     def test_targets(self):
-        """The example's README has what run prints, from the text and from the bytes."""
-        out = self.ran("run", os.path.join(TARGETS, "targets.txt"))
+        """The example's README has what run and compare print; run prints the same from the bytes."""
         with open(os.path.join(TARGETS, "README.md"), encoding="utf-8") as f:
-            self.assertIn("```\n" + out + "```", f.read())
+            readme = f.read()
+        targets, other = (os.path.join(TARGETS, name) for name in ("targets.txt", "size_first.txt"))
+        out = self.ran("run", targets)
+        self.assertIn("```\n" + out + "```", readme)
         self.assertEqual(self.ran("run", TARGETS), out)
+        self.assertIn("```\n" + self.ran("compare", targets, other, targets).replace(TARGETS, "examples/targets") + "```", readme)
 
     def test_readme(self):
         """README's text gives the table under it, and the refusal for the slip that it names."""
