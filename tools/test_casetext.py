@@ -1,5 +1,9 @@
 #!/usr/bin/env python3
-"""Tests of casetext.py: bytes of document 01, each expression and type, round trips, errors, and the example of examples/targets."""
+"""test_casetext.py: tests of casetext.py; runs those of test_casetext_check.py and test_casetext_run.py too.
+
+Here: the bytes, each expression and type, round trips, what can't be read, and the example of examples/targets.
+TEMBALKU_LIBRARY names the static library. Without it the tests that need it are not run, and a line says so.
+"""
 import contextlib
 import io
 import os
@@ -11,7 +15,14 @@ sys.dont_write_bytecode = True
 HERE = os.path.dirname(os.path.abspath(__file__))
 sys.path.insert(0, HERE)
 import casetext  # noqa: E402
-from casetext import BytesError, TextError, explanation, parse, read_rule, read_table, rule_bytes, table_bytes, text_of  # noqa: E402
+from dealer import tree  # noqa: E402
+from dealer.checking import check_bytes  # noqa: E402
+from dealer.layout import rule_bytes, table_bytes  # noqa: E402
+from dealer.reading import Refused, read_rule, read_table  # noqa: E402
+from dealer.rows import at_row, row_of  # noqa: E402
+from dealer.text import TextError, load_bytes, parse  # noqa: E402
+from dealer.tree import type_of  # noqa: E402
+from dealer.words import explanation, text_of  # noqa: E402
 
 TARGETS = os.path.join(os.path.dirname(HERE), "examples", "targets")
 
@@ -28,94 +39,8 @@ rule
 LISTING = ["0 1", "1 0", "2 0", "3 1"]
 
 
-# ---- one row, by document 01 ----
-
-class Unfit(Exception):
-    """A cast on the path doesn't fit."""
-
-
-def type_of(e):
-    word = e[0]
-    if word == "col":
-        return e[2]
-    if word in ("literal", "cast", "trycast"):
-        return e[1]
-    if word == "case":
-        return type_of(e[2][0][1])
-    return type_of(e[1]) if word == "neg" else 1
-
-
-def key(kind, v):
-    """Goes with the order of two values; floats by totalOrder."""
-    if kind == 4:
-        return v ^ (1 << 64) - 1 if v >> 63 else v | 1 << 63
-    return v
-
-
-def cast(kind, to, v):
-    if v is None or kind == to:
-        return v
-    if to == 1:
-        return v != 0
-    if to == 4:
-        return int.from_bytes(casetext.struct.pack("<d", v), "little")
-    if to == 2 and not -2 ** 31 <= v < 2 ** 31:
-        raise Unfit
-    return int(v)
-
-
-def try_cast(kind, to, v):
-    try:
-        return cast(kind, to, v)
-    except Unfit:
-        return None
-
-
-def negated(kind, v):
-    if kind == 4:
-        return v ^ 1 << 63
-    low = -2 ** (31 if kind == 2 else 63)
-    return v if v == low else -v
-
-
-def at_row(e, row):
-    """The entry of a rule at a row."""
-    word = e[0]
-    if word == "col":
-        return row[e[1]]
-    if word == "literal":
-        return e[2]
-    if word == "case":
-        return case_at_row(e, row)
-    v = at_row(e[-1] if word in casetext.CASTS else e[1], row)
-    if word == "not":
-        return None if v is None else not v
-    if word == "neg":
-        return None if v is None else negated(type_of(e[1]), v)
-    if word == "isnotnull":
-        return v is not None
-    if word in casetext.CASTS:
-        return (cast if word == "cast" else try_cast)(type_of(e[2]), e[1], v)
-    other = at_row(e[2], row)
-    if v is None or other is None:
-        return None
-    a, b = key(type_of(e[1]), v), key(type_of(e[1]), other)
-    return a == b if word == "equal" else a < b
-
-
-def case_at_row(e, row):
-    _, base, branches, other = e
-    value = True if base is None else at_row(base, row)
-    if value is not None:
-        for when, then in branches:
-            if at_row(when, row) == value:
-                return at_row(then, row)
-    if other is None or other[0] == "literal" and other[2] is None:
-        return None
-    return try_cast(type_of(other), type_of(e), at_row(other, row))
-
-
 def shown(kind, v):
+    """An entry as a listing has it."""
     if v is None:
         return "null"
     if kind == 1:
@@ -123,23 +48,14 @@ def shown(kind, v):
     return f"{v:016x}" if kind == 4 else "t" + v.hex() if kind == 5 else str(v)
 
 
-def listed(e, table):
-    """The lines of a listing behind its head."""
-    rows, columns = table
-    for index, kind, nullable in columns_of(e):
-        if index >= len(columns) or columns[index][1] != kind or columns[index][2] > nullable:
-            return ["refused 13"]
+def listed(rule, data):
+    """The lines of a listing behind its head, from the bytes of a rule and a table."""
     try:
-        return [f"{i} {shown(type_of(e), at_row(e, [c[3][i] for c in columns]))}" for i in range(rows)]
-    except Unfit:
-        return ["refused 15"]
-
-
-def columns_of(e):
-    if e[0] == "col":
-        return [e[1:]]
-    parts = [e[1], e[3]] + [x for b in e[2] for x in b] if e[0] == "case" else e[1:]
-    return [c for x in parts if isinstance(x, tuple) for c in columns_of(x)]
+        check_bytes(rule, data)
+    except Refused as refused:
+        return [f"refused {refused.number}"]
+    e, table = read_rule(rule), read_table(data)
+    return [f"{i} {shown(type_of(e), at_row(e, row_of(table, i)))}" for i in range(table[0])]
 
 
 def stored():
@@ -165,7 +81,7 @@ class Bytes(unittest.TestCase):
         self.assertEqual(rule_bytes(e), RULE)
         self.assertEqual(table_bytes(table), TABLE)
         self.assertEqual(text_of(read_rule(RULE), read_table(TABLE)), TEXT)
-        self.assertEqual(listed(e, table), LISTING)
+        self.assertEqual(listed(RULE, TABLE), LISTING)
 
     def test_columns_and_literals(self):
         for text, want in [
@@ -176,7 +92,7 @@ class Bytes(unittest.TestCase):
                 ("(float64 0x7ff8000000000001)", "110a000400010000000000f87f"), ('(utf8 "slow")', "1106000500736c6f77"),
                 ('(utf8 "")', "1102000500"), ('(utf8 x"00ff")', "110400050000ff"), ('(utf8 "a\\"\\\\#")', "110600050061225c23")]:
             self.assertEqual(in_case(text), want, text)
-        for number, word in casetext.WORDS.items():
+        for number, word in tree.WORDS.items():
             self.assertEqual(in_case(f"(null {word})"), f"110200{number:02x}01")
 
     def test_operators(self):
@@ -230,13 +146,12 @@ class RoundTrips(unittest.TestCase):
         self.assertEqual(count, 76)
 
     def test_one_row_agrees(self):
-        """The evaluator of this file gives the stored entries."""
+        """The row-by-row evaluator gives the stored entries."""
         for name, rule, data, head, lines in stored():
             with self.subTest(name):
-                e = read_rule(rule)
-                self.assertEqual(listed(e, read_table(data)), lines)
+                self.assertEqual(listed(rule, data), lines)
                 if head[0] == "rows":
-                    self.assertEqual(str(type_of(e)), head[3])
+                    self.assertEqual(str(type_of(read_rule(rule))), head[3])
 
     def test_values(self):
         for kind, values in [(1, [True, False]), (2, [0, -1, -2 ** 31, 2 ** 31 - 1]), (3, [0, -2 ** 63, 2 ** 63 - 1]),
@@ -270,11 +185,11 @@ class RoundTrips(unittest.TestCase):
                 with open(path, "w", encoding="utf-8") as f:
                     f.write(text)
                 self.assertEqual(run("make", path, folder), (0, "", ""))
-                made.append((casetext.load(folder, "rule.bin"), casetext.load(folder, "batch.bin")))
+                made.append(tuple(load_bytes(os.path.join(folder, name)) for name in ("rule.bin", "batch.bin")))
                 code, text, _ = run("show", folder)
                 self.assertEqual(code, 0)
             self.assertEqual(made[0], made[1])
-            self.assertIn("column c0 int32 null 124", text)
+            self.assertIn("column speed int32 null 124", text)
 
 
 def run(*args):
@@ -303,9 +218,9 @@ class Targets(unittest.TestCase):
         self.assertIn("```\n" + explanation(self.rule) + "```", readme)
         # no base, no THEN is nullable, and neither is ELSE
         self.assertTrue(all(e[0] == "literal" and e[2] is not None for e in [t for _, t in self.rule[2]] + [self.rule[3]]))
-        lines = [f"rows {self.table[0]} type 5 nullable 0"] + listed(self.rule, self.table)
+        lines = [f"rows {self.table[0]} type 5 nullable 0"] + listed(rule_bytes(self.rule), table_bytes(self.table))
         self.assertIn("```\n" + "\n".join(lines) + "\n```", readme)
-        speeds, sizes = (["null" if v is None else str(v) for v in c[3]] for c in self.table[1])
+        speeds, sizes = (["null" if v is None else str(v) for v in c[3]] for c in self.table[1][:2])
         for i, line in enumerate(lines[1:]):
             self.assertIn(f"| {i} | {speeds[i]} | {sizes[i]} | {bytes.fromhex(line.split(' t')[1]).decode()} |", readme)
 
@@ -314,26 +229,24 @@ class Errors(unittest.TestCase):
     def test_text(self):
         rule = "rule\n(case (when (boolean true) (then (int32 1))))"
         for text, line, words in [
-                ("", 1, "rows is expected"),
+                ("", 1, "there is nothing in it"),
                 ("rows x\n" + rule, 1, "no row count"),
-                ("rows 65536\n" + rule, 1, "no row count"),
                 ("rows 1\ncolum a int32 1\n" + rule, 2, "column or rule is expected"),
                 ("rows 1\ncolumn 1 int32 1\n" + rule, 2, "no name"),
                 ("rows 1\ncolumn a int16 1\n" + rule, 2, "no type"),
                 ("rows 1\ncolumn a int32 1\n\ncolumn a int32 1\n" + rule, 4, "second column a"),
-                ("rows 2\ncolumn a int32 1\n" + rule, 2, "1 values for 2 rows"),
-                ("rows 1\ncolumn a int32 1 null\n" + rule, 2, "isn't nullable"),
-                ("rows 1\ncolumn a int32 2147483648\n" + rule, 2, "outside of Int32"),
-                ("rows 1\ncolumn a int64 -9223372036854775809\n" + rule, 2, "outside of Int64"),
-                ("rows 1\ncolumn a int64 " + "9" * 5000 + "\n" + rule, 2, "outside of Int64"),
-                ("rows 1\ncolumn a float64 1e999\n" + rule, 2, "outside of Float64"),
-                ("rows 1\ncolumn a float64 nan\n" + rule, 2, "no Float64"),
-                ("rows 1\ncolumn a boolean 1\n" + rule, 2, "no Boolean"),
-                ("rows 1\ncolumn a utf8 boat\n" + rule, 2, "no Utf8"),
+                ("rows 2\ncolumn a int32 1\n" + rule, 2, "1 value for 2 rows"),
+                ("rows 1\ncolumn a int32 2147483648\n" + rule, 2, "outside of int32"),
+                ("rows 1\ncolumn a int64 -9223372036854775809\n" + rule, 2, "outside of int64"),
+                ("rows 1\ncolumn a int64 " + "9" * 5000 + "\n" + rule, 2, "outside of int64"),
+                ("rows 1\ncolumn a float64 1e999\n" + rule, 2, "outside of float64"),
+                ("rows 1\ncolumn a float64 nan\n" + rule, 2, "no float64"),
+                ("rows 1\ncolumn a boolean 1\n" + rule, 2, "no boolean"),
+                ("rows 1\ncolumn a utf8 boat\n" + rule, 2, "no utf8"),
                 ('rows 1\ncolumn a utf8 "boat\n' + rule, 2, "can't read"),
                 ('rows 1\ncolumn a utf8 "\\n"\n' + rule, 2, "no escape"),
                 ('rows 1\ncolumn a utf8 x"0g"\n' + rule, 2, "not hex"),
-                ("rows 1", 1, "rule is expected"),
+                ("rows 1\nrulr", 2, "column or rule is expected"),
                 ("rows 1\nrule", 2, "( is expected"),
                 ("rows 1\nrule\n(int32 1)", 3, "a rule is a (case"),
                 (rule.replace("rule", "rows 1\nrule") + "\n)", 4, "behind the rule"),
@@ -342,11 +255,11 @@ class Errors(unittest.TestCase):
                 ("rows 1\nrule\n(case\n (when (and) (then (int32 1))))", 4, "and is no expression"),
                 ("rows 1\nrule\n(case\n (when (boolean true) (int32 1)))", 4, "then is expected"),
                 ("rows 1\nrule\n(case\n (else (int32 1))\n (when (boolean true) (then (int32 1))))", 5, "when out of place"),
-                ("rows 1\nrule\n(case\n (when (not (boolean true)", 4, "the end where ) is expected"),
+                ("rows 1\nrule\n(case\n (when (not (boolean true)", 4, "the text ends, but the bracket of line 4 isn't closed"),
                 ("rows 1\nrule\n(case\n (when " + "(not " * 200, 4, "nested more than"),
-                ("rows 1\nrule\n(case\n" + " (when (null boolean) (then (null int32)))\n" * 256 + ")", 3, "256 branches"),
-                ('rows 1\nrule\n(case\n (when (boolean true) (then (utf8 "' + "a" * 65536 + '"))))', 4, "65535 fit"),
-                ('rows 1\ncolumn a utf8 "' + "a" * 65536 + '"\n' + rule, 2, "65535 fit")]:
+                ("rows 1\nrule\n(case\n" + " (when (null boolean) (then (null int32)))\n" * 256 + ")", 3, "256 branches: at most 32, 6"),
+                ('rows 1\nrule\n(case\n (when (boolean true) (then (utf8 "' + "a" * 65536 + '"))))', 4, "at most 4096 bytes, 1"),
+                ('rows 1\ncolumn a utf8 "' + "a" * 65536 + '"\n' + rule, 2, "at most 65536 bytes, 9")]:
             with self.subTest(words + " " + text[:60]):
                 with self.assertRaises(TextError) as caught:
                     parse(text)
@@ -358,25 +271,36 @@ class Errors(unittest.TestCase):
     def test_cut(self):
         """No beginning of the two files is taken, but for a table cut behind its rows."""
         for n in range(len(RULE)):
-            self.assertRaises(BytesError, read_rule, RULE[:n])
+            self.assertRaises(Refused, read_rule, RULE[:n])
         for n in range(len(TABLE)):
             if n == 5:
                 self.assertEqual(read_table(TABLE[:n]), (4, []))
             else:
-                self.assertRaises(BytesError, read_table, TABLE[:n])
+                self.assertRaises(Refused, read_table, TABLE[:n])
 
-    def test_changed(self):
+    def test_changed_rule(self):
         """Any byte changed to any other is read or refused, and what is read is written again as it was."""
-        for data, read, written in [(RULE, read_rule, rule_bytes), (TABLE, read_table, None)]:
-            for i in range(len(data)):
-                for b in range(256):
-                    changed = data[:i] + bytes([b]) + data[i + 1:]
-                    try:
-                        got = read(changed)
-                    except BytesError:
-                        continue
-                    if written:
-                        self.assertEqual(written(got), changed)
+        for changed in each_change(RULE):
+            with contextlib.suppress(Refused):
+                self.assertEqual(rule_bytes(read_rule(changed)), changed)
+
+    def test_changed_table(self):
+        """Of the table's bytes the row count, the mark, the validity and the values may change, and are read bit by bit."""
+        taken = 0
+        for changed in each_change(TABLE):
+            try:
+                got = read_table(changed)
+            except Refused:
+                continue
+            taken += 1
+            rows, nullable, valid, values = changed[3], changed[9], changed[13], changed[17]
+            bits = [(valid >> i & 1, values >> i & 1) for i in range(rows)]
+            self.assertEqual(got, (rows, [("c0", 1, nullable, [bool(value) if there else None for there, value in bits])]))
+            rows_only = (1 << rows) - 1
+            tag3 = bytes([3, 0, 0]) if valid & rows_only == rows_only else bytes([3, 1, 0, valid & rows_only])
+            self.assertEqual(table_bytes(got), changed[:10] + tag3 + bytes([4, 1, 0, values & valid & rows_only]))
+        # 1 to 8 rows but 4, the other mark, the other bytes of validity and of values
+        self.assertEqual(taken, 7 + 1 + 255 + 255)
 
     def test_commands(self):
         with tempfile.TemporaryDirectory() as folder:
@@ -387,12 +311,33 @@ class Errors(unittest.TestCase):
             self.assertEqual((code, out), (1, ""))
             self.assertEqual(err, f"{path}: line 2: bad where column or rule is expected\n")
             code, out, err = run("show", folder)
-            self.assertEqual((code, out, err.count("\n")), (1, "", 1))
+            self.assertEqual((code, out, err), (1, "", f"{os.path.join(folder, 'rule.bin')}: there is no such file\n"))
             with open(os.path.join(folder, "rule.bin"), "wb") as f:
                 f.write(RULE[:-1])
-            self.assertEqual(run("explain", folder), (1, "", "rule.bin: byte 0: the field runs past its end\n"))
+            self.assertEqual(run("explain", folder), (1, "", "rule.bin: byte 0: the field runs past its end, 2\n"))
             self.assertEqual(run()[0], 2)
 
 
+def each_change(data):
+    """The bytes with each byte set to each other value."""
+    for i in range(len(data)):
+        for b in set(range(256)) - {data[i]}:
+            yield data[:i] + bytes([b]) + data[i + 1:]
+
+
+def run_all():
+    """Runs the tests of the three files; those that need the library only if there is one."""
+    names = ["__main__", "test_casetext_check"]
+    loader = unittest.defaultTestLoader
+    with_library = loader.loadTestsFromName("test_casetext_run")
+    suite = loader.loadTestsFromNames(names)
+    if os.environ.get("TEMBALKU_LIBRARY"):
+        suite.addTest(with_library)
+    result = unittest.TextTestRunner().run(suite)
+    if not os.environ.get("TEMBALKU_LIBRARY"):
+        print(f"not run: {with_library.countTestCases()} tests of run and compare (TEMBALKU_LIBRARY doesn't name the static library)")
+    return not result.wasSuccessful()
+
+
 if __name__ == "__main__":
-    unittest.main()
+    sys.exit(run_all())

@@ -1,4 +1,4 @@
-/* Evaluates document 01's example, a rule and a table held in memory, and prints the answer's entries. */
+/* Evaluates a rule over a table, both held in memory, and prints the answer's entries. Their bytes: docs/FORMAT.md. */
 #include <inttypes.h>
 #include <stdio.h>
 
@@ -26,7 +26,7 @@ static size_t size(const uint8_t *field) { return number(field + 1, 2); }
 
 static int bit(const uint8_t *map, size_t row) { return map[row / 8] >> row % 8 & 1; }
 
-/* Prints an answer as document 01's listing. */
+/* Prints an answer as the program caserun lists it. */
 static void list(const uint8_t *answer, size_t rows) {
     int type = answer[3];
     const uint8_t *valid = answer + 5;            /* tag 3, behind tag 2 */

@@ -1,4 +1,4 @@
-//! Evaluates document 01's example, a rule and a table held in memory, and prints the answer's entries.
+//! Evaluates a rule over a table, both held in memory, and prints the answer's entries. Their bytes: docs/FORMAT.md.
 
 /// The functions of include/tembalku.h that are used here.
 mod library {
@@ -57,7 +57,7 @@ fn bit(map: &[u8], row: usize) -> bool {
     map[row / 8] >> (row % 8) & 1 == 1
 }
 
-/// Prints an answer as document 01's listing.
+/// Prints an answer as the program caserun lists it.
 fn list(answer: &[u8], rows: usize) {
     let (head, rest) = field(answer);
     let (valid, rest) = field(rest);
