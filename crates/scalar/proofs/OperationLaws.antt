@@ -12,7 +12,7 @@ use Rattle.scalar.proofs.value.Value.{the-type}
 use Rattle.scalar.specs.declared.types.DataType.{DataType}
 use Rattle.scalar.specs.declared.value.Value.{Value}
 use Rattle.scalar.specs.declared.value.Value.the-variants.{Null, Boolean, Int32, Int64, Float64, Nan, RuleText, TableText, Failed}
-use Rattle.scalar.specs.Entry.{Entry, float64, Outcome, entry, onEntry}
+use Rattle.scalar.specs.Entry.{Entry, null, boolean, int32, int64, float64, utf8, Outcome, entry, onEntry}
 use Rattle.scalar.specs.Integer.{signed}
 use Rattle.scalar.specs.Float.{signTurned}
 use Rattle.scalar.specs.Not.{notEntry}
@@ -21,7 +21,7 @@ use Rattle.scalar.specs.Negative.{negativeEntry}
 use Rattle.scalar.specs.Cast.{castEntry}
 use Rattle.scalar.specs.TryCast.{orNull, tryCastEntry}
 use Rattle.scalar.specs.Casts.{castValue, failed, tryCastValue}
-use Rattle.scalar.specs.Value.{meaning, floatValue, onValue, Storable, Gives}
+use Rattle.scalar.specs.Value.{placeText, meaning, floatValue, valueSaying, onValue, Storable, Gives}
 use Rattle.scalar.proofs.IntegerLaws.{bitsOf-below}
 use Rattle.scalar.proofs.FloatLaws.{float-stores, signTurned-below}
 use Rattle.scalar.proofs.CastLaws.{cast-gives}
@@ -30,35 +30,54 @@ use Rattle.scalar.proofs.CastLaws.{cast-gives}
 pub value-at : {A : Type 0} (f : Value → A) {v w : Value} {r : A} → v ≡ w → r ≡ f w → r ≡ f v
 value-at f e p = p ∙ ap f (sym e)
 
--- NOT of a value is that of its entry
-pub not-gives : {v r : Value} → r ≡ onValue (λ e. entry (notEntry e)) v → Gives (λ e. entry (notEntry e)) v r
-not-gives {v} e = subst (Gives (λ e. entry (notEntry e)) v) (sym e) (go v)
-  where
-    go : (v : Value) → Gives (λ e. entry (notEntry e)) v (onValue (λ e. entry (notEntry e)) v)
-    go Null = record { means = λ rule table. refl; stores = λ s. tt }
-    go (Boolean b) = record { means = λ rule table. refl; stores = λ s. tt }
-    go (Int32 n) = record { means = λ rule table. refl; stores = λ s. tt }
-    go (Int64 n) = record { means = λ rule table. refl; stores = λ s. tt }
-    go (Float64 f) = record { means = λ rule table. refl; stores = λ s. tt }
-    go (Nan n) = record { means = λ rule table. refl; stores = λ s. tt }
-    go (RuleText start size) = record { means = λ rule table. refl; stores = λ s. tt }
-    go (TableText start size) = record { means = λ rule table. refl; stores = λ s. tt }
-    go Failed = record { means = λ rule table. refl; stores = λ s. tt }
+-- null or a Boolean
+abbrev Flag : Entry → Type 0
+Flag null = Unit {0}
+Flag (boolean b) = Unit {0}
+Flag (int32 n) = ⊥
+Flag (int64 n) = ⊥
+Flag (float64 n) = ⊥
+Flag (utf8 t) = ⊥
 
--- and so is IS NOT NULL
+-- an operation that gives null or a Boolean, the same for every text, is that of the entry
+module _ (f : Entry → Entry) (flag : (e : Entry) → Flag (f e)) (text : (t : List ℕ) → f (utf8 t) ≡ f (utf8 [])) where
+  flag-said : (v : Value) (e : Entry) → Flag e → ((rule table : List ℕ) → entry e ≡ onEntry (λ e. entry (f e)) (meaning rule table v)) → Gives (λ e. entry (f e)) v (valueSaying v (entry e))
+  flag-said v null h m = record { means = m; stores = λ s. tt }
+  flag-said v (boolean b) h m = record { means = m; stores = λ s. tt }
+  flag-said v (int32 n) h m = absurd h
+  flag-said v (int64 n) h m = absurd h
+  flag-said v (float64 n) h m = absurd h
+  flag-said v (utf8 t) h m = absurd h
+
+  at-value : (v : Value) → Gives (λ e. entry (f e)) v (onValue (λ e. entry (f e)) v)
+  at-value Null = flag-said Null (f null) (flag null) (λ rule table. refl)
+  at-value (Boolean b) = flag-said (Boolean b) (f (boolean b)) (flag (boolean b)) (λ rule table. refl)
+  at-value (Int32 n) = flag-said (Int32 n) (f (int32 n)) (flag (int32 n)) (λ rule table. refl)
+  at-value (Int64 n) = flag-said (Int64 n) (f (int64 n)) (flag (int64 n)) (λ rule table. refl)
+  at-value (Float64 x) = flag-said (Float64 x) (f (float64 (toBits binary64 x))) (flag (float64 (toBits binary64 x))) (λ rule table. refl)
+  at-value (Nan n) = flag-said (Nan n) (f (float64 n)) (flag (float64 n)) (λ rule table. refl)
+  at-value (RuleText start size) =
+      flag-said (RuleText start size) (f (utf8 (placeText [] start size))) (flag (utf8 (placeText [] start size))) (λ rule table. ap entry (text (placeText [] start size) ∙ sym (text (placeText rule start size))))
+  at-value (TableText start size) =
+      flag-said (TableText start size) (f (utf8 (placeText [] start size))) (flag (utf8 (placeText [] start size))) (λ rule table. ap entry (text (placeText [] start size) ∙ sym (text (placeText table start size))))
+  at-value Failed = record { means = λ rule table. refl; stores = λ s. tt }
+
+  flag-gives : {v r : Value} → r ≡ onValue (λ e. entry (f e)) v → Gives (λ e. entry (f e)) v r
+  flag-gives {v} e = subst (Gives (λ e. entry (f e)) v) (sym e) (at-value v)
+
+not-flag : (e : Entry) → Flag (notEntry e)
+not-flag null = tt
+not-flag (boolean b) = tt
+not-flag (int32 n) = tt
+not-flag (int64 n) = tt
+not-flag (float64 n) = tt
+not-flag (utf8 t) = tt
+
+pub not-gives : {v r : Value} → r ≡ onValue (λ e. entry (notEntry e)) v → Gives (λ e. entry (notEntry e)) v r
+not-gives = flag-gives notEntry not-flag (λ t. refl)
+
 pub isNotNull-gives : {v r : Value} → r ≡ onValue (λ e. entry (isNotNullEntry e)) v → Gives (λ e. entry (isNotNullEntry e)) v r
-isNotNull-gives {v} e = subst (Gives (λ e. entry (isNotNullEntry e)) v) (sym e) (go v)
-  where
-    go : (v : Value) → Gives (λ e. entry (isNotNullEntry e)) v (onValue (λ e. entry (isNotNullEntry e)) v)
-    go Null = record { means = λ rule table. refl; stores = λ s. tt }
-    go (Boolean b) = record { means = λ rule table. refl; stores = λ s. tt }
-    go (Int32 n) = record { means = λ rule table. refl; stores = λ s. tt }
-    go (Int64 n) = record { means = λ rule table. refl; stores = λ s. tt }
-    go (Float64 f) = record { means = λ rule table. refl; stores = λ s. tt }
-    go (Nan n) = record { means = λ rule table. refl; stores = λ s. tt }
-    go (RuleText start size) = record { means = λ rule table. refl; stores = λ s. tt }
-    go (TableText start size) = record { means = λ rule table. refl; stores = λ s. tt }
-    go Failed = record { means = λ rule table. refl; stores = λ s. tt }
+isNotNull-gives = flag-gives isNotNullEntry (λ e. tt) (λ t. refl)
 
 -- a float has no text, so it means the same whatever the bytes
 float-anywhere : (n : ℕ) (rule table : List ℕ) → meaning rule table (floatValue n) ≡ meaning [] [] (floatValue n)
