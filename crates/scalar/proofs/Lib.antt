@@ -6,6 +6,7 @@ pub mod FittingLaws
 pub mod ValueLaws
 pub mod CastLaws
 pub mod OperationLaws
+pub mod ValueExamples
 pub mod EntryLaws
 pub mod TextLaws
 pub mod OrderLaws
