@@ -4,7 +4,8 @@
 Makes N random rules with tables (rule_generator.py), runs the static library (`rt staticlib tembalku`, through stream_library.c) and the
 Rust (rust_oracle/README.md) on each, and compares entries and failures, strategy, projection and nullability. Prints how many agree and
 differ in each class (case_classes.py). A difference is explained when a named class holds of its input and, where the Rust can be run
-without the difference, that run agrees with the port; every other difference is shrunk and printed, and the exit status is 1.
+without the difference, that run agrees with the port; every other difference is shrunk and printed, and the exit status is 1. Then it
+compares ResultBuilder (compare_builder.py) if rt is on the path.
 
 --smallest  prints the smallest input that was found of each kind of explained difference
 --store     compares nothing; writes the Rust's answers, and none of the port's, for the programs run_cases and rule_cases:
@@ -16,12 +17,14 @@ import argparse
 import collections
 import os
 import random
+import shutil
 import subprocess
 import sys
 import tempfile
 import time
 
 import case_classes
+import compare_builder
 import rule_generator
 from case_classes import COMPARED, CONSTANT_CAST, INSIDE, LONG_TEXT, NEGATED, NO_ROWS, UNCAST_ELSE, nodes
 from casetext import WORDS, column_bytes, number, rule_bytes, text_of
@@ -295,6 +298,11 @@ def compare(args, programs):
         tally.add(list(made_cases(rng, min(left, CHUNK))))
         left -= CHUNK
     report(tally, args.cases, time.time() - begun)
+    if shutil.which("rt"):
+        built = compare_builder.compare(args.oracle, compare_builder.MOST, args.seed)
+    else:
+        built = True
+        print("ResultBuilder: not compared, rt is not on the path")
     for c, what in tally.unexplained[:20]:
         print(f"\nunexplained: {what}")
         named = ", ".join(case_classes.nullable_classes(c.rule) if what == "nullable" else case_classes.classes(c.rule, c.table))
@@ -303,7 +311,7 @@ def compare(args, programs):
         for (named, kind), c in sorted(k for k in tally.kinds.items() if "," not in k[0][0]):
             print(f"\n{named}: {kind}")
             show(shrunk(c, differs_so(programs, kind, named)), programs)
-    return 1 if tally.unexplained else 0
+    return 0 if built and not tally.unexplained else 1
 
 
 # ---- stored answers ----
