@@ -1,5 +1,6 @@
 #!/usr/bin/env python3
-"""compare_rust.py [--cases N] [--seed S] [--library ARCHIVE] [--oracle BINARY] [--smallest] [--store]: the Rust and the port on the same cases.
+"""compare_rust.py [--cases N] [--seed S] [--library ARCHIVE] [--oracle BINARY] [--smallest | --document FILE | --store]: the Rust and the
+port on the same cases.
 
 Makes N random rules with tables (rule_generator.py), runs the static library (`rt staticlib tembalku`, through stream_library.c) and the
 Rust (rust_oracle/README.md) on each, and compares entries and failures, strategy, projection and nullability. Prints how many agree and
@@ -8,6 +9,7 @@ without the difference, that run agrees with the port; every other difference is
 compares ResultBuilder (compare_builder.py) if rt is on the path.
 
 --smallest  prints the smallest input that was found of each kind of explained difference
+--document  runs the cases that a document shows as --smallest does, and tells whether both sides still say what stands there
 --store     compares nothing; writes the Rust's answers, and none of the port's, for the programs run_cases and rule_cases:
             crates/run_cases/data/rust.bin     records as make_run_cases.py describes; wanted is byte 15, or 0 and the answer's bytes
             crates/rule_cases/data/rustK.bin   records of: rule's length (2 bytes), rule, 0, strategy, nullable, result's type, number of
@@ -17,6 +19,7 @@ import argparse
 import collections
 import os
 import random
+import re
 import shutil
 import subprocess
 import sys
@@ -27,7 +30,7 @@ import case_classes
 import compare_builder
 import rule_generator
 from case_classes import COMPARED, CONSTANT_CAST, INSIDE, LONG_TEXT, NEGATED, NO_ROWS, UNCAST_ELSE, nodes
-from casetext import WORDS, column_bytes, number, rule_bytes, text_of
+from casetext import WORDS, column_bytes, field, number, read_rule, read_table, rule_bytes, text_of, value_text
 from make_run_cases import MOST_FILE, record, store
 from shrinking import shrunk
 
@@ -194,10 +197,10 @@ class Tally:
         named = case_classes.classes(c.rule, c.table)
         self.entries[named[0]][without is not None] += 1
         if without is not None:
-            if explained(named, port, rust, without):
-                self.keep((", ".join(named), kind_of_difference(port, rust)), c)
-            else:
+            if not explained(named, port, rust, without):
                 self.unexplained.append((c, "entries"))
+            elif len(named) == 1 and named[0] not in (CONSTANT_CAST, LONG_TEXT):
+                self.keep((named[0], kind_of_difference(port, rust)), c)
         if CONSTANT_CAST in named:
             return
         about = answers_agree(port, rust)
@@ -212,12 +215,13 @@ class Tally:
         self.nullable[named[0]][not same] += 1
         if not same and named == [COMPARED]:
             self.unexplained.append((c, "nullable"))
-        elif not same:
-            self.keep((", ".join(named), f"nullability: the Rust {rust.nullable}, the port {port.nullable}"), c)
+        elif not same and len(named) == 1:
+            self.keep((named[0], f"nullability: the Rust {rust.nullable}, the port {port.nullable}"), c)
 
     def keep(self, kind, c):
-        """Keeps the shortest case of a kind of difference."""
-        if kind not in self.kinds or len(frames([c])) < len(frames([self.kinds[kind]])):
+        """Keeps the shortest case of a kind of difference, one with rows if there is any."""
+        rank = (c.table[0] == 0, len(frames([c])))
+        if kind not in self.kinds or rank < (self.kinds[kind].table[0] == 0, len(frames([self.kinds[kind]]))):
             self.kinds[kind] = c
 
     def count(self, c, port):
@@ -229,7 +233,8 @@ class Tally:
 # ---- shrinking ----
 
 def differs_so(programs, what, named):
-    """A test of many cases: whether each still differs in that way, and its classes are the same."""
+    """A test of many cases: whether each still differs in that way, and its classes are the same. An explained difference of entries is
+    shown with a row, unless it is one of no rows."""
     def test(cases):
         port, rust = programs.both(cases)
         without = programs.rust(cases, "--cast-else", "--wrap-negation")
@@ -245,6 +250,8 @@ def differs_so(programs, what, named):
         classes = case_classes.classes(c.rule, c.table)
         if entries_agree(p, r) or what == "entries" and explained(classes, p, r, w):
             return None, None
+        if what != "entries" and c.table[0] == 0 and NO_ROWS not in classes:
+            return None, None
         return "entries" if what == "entries" else kind_of_difference(p, r), named if what == "entries" else ", ".join(classes)
     return test
 
@@ -254,17 +261,41 @@ def accepted(port, rust):
     return port.read > 256 and rust.entries != "unreadable" and port.entries not in [f"refused {n}" for n in (9, 10, 11, 12, 13)]
 
 
-def show(c, programs):
+def said_text(rows, said):
+    """What a side says of a case, in a line."""
+    if said.read < 256:
+        return said.entries
+    words = [said.entries]
+    if isinstance(said.entries, bytes):
+        data = bytearray(said.entries)
+        data[4] = 1
+        _, ((_, kind, _, values),) = read_table(field(1, number(rows, 2)) + bytes(data))
+        words = [WORDS[kind]] + [value_text(kind, v) for v in values]
+    return f"nullable {said.nullable}, " + " ".join(words)
+
+
+def shown(c, programs):
     """A case as text and bytes, and what both sides say of it."""
     (port,), (rust,) = programs.both([c])
-    print(text_of(c.rule, c.table), end="")
-    print("rule", rule_bytes(c.rule).hex())
-    print("table", rule_generator.table_bytes(c).hex())
-    for name, said in (("Rust", rust), ("port", port)):
-        entries = said.entries.hex() if isinstance(said.entries, bytes) else said.entries
-        about = "" if said.read < 256 else f"strategy {said.strategy} nullable {said.nullable} projection {said.projection} entries "
-        print(f"{name}: {about}{entries}")
-    print(flush=True)
+    rows = c.table[0]
+    return (f"{text_of(c.rule, c.table)}rule {rule_bytes(c.rule).hex()}\ntable {rule_generator.table_bytes(c).hex()}\n"
+            f"Rust: {said_text(rows, rust)}\nport: {said_text(rows, port)}\n")
+
+
+def check_document(args, programs):
+    """Whether each case of a document, made again from its bytes, is shown as it stands there."""
+    programs.link(args.library)
+    with open(args.document, encoding="utf-8") as f:
+        blocks = [b for b in re.findall(r"^```\n(.*?)^```$", f.read(), re.M | re.S) if re.search("^rule [0-9a-f]+$", b, re.M)]
+    wrong = 0
+    for block in blocks:
+        rule, table = (bytes.fromhex(re.search(f"^{word} ([0-9a-f]+)$", block, re.M).group(1)) for word in ("rule", "table"))
+        now = shown(rule_generator.Case(read_rule(rule), read_table(table), 0), programs)
+        if now != block:
+            wrong += 1
+            print(f"stands there:\n{block}is:\n{now}")
+    print(f"{len(blocks)} cases, {wrong} of them otherwise")
+    return 1 if wrong or not blocks else 0
 
 
 # ---- the run ----
@@ -306,11 +337,10 @@ def compare(args, programs):
     for c, what in tally.unexplained[:20]:
         print(f"\nunexplained: {what}")
         named = ", ".join(case_classes.nullable_classes(c.rule) if what == "nullable" else case_classes.classes(c.rule, c.table))
-        show(shrunk(c, differs_so(programs, what, named)), programs)
-    if args.smallest:
-        for (named, kind), c in sorted(k for k in tally.kinds.items() if "," not in k[0][0]):
-            print(f"\n{named}: {kind}")
-            show(shrunk(c, differs_so(programs, kind, named)), programs)
+        print(shown(shrunk(c, differs_so(programs, what, named)), programs), flush=True)
+    for (named, kind), c in sorted(tally.kinds.items()) if args.smallest else []:
+        print(f"\n{named}: {kind}")
+        print(shown(shrunk(c, differs_so(programs, kind, named)), programs), flush=True)
     return 0 if built and not tally.unexplained else 1
 
 
@@ -395,9 +425,10 @@ def main():
     parser.add_argument("--library", default=os.path.join(HERE, "target", "staticlib", "libtembalku.a"))
     parser.add_argument("--oracle", default=os.path.join(HERE, "tools", "rust_oracle", "target", "release", "rust-oracle"))
     parser.add_argument("--smallest", action="store_true")
+    parser.add_argument("--document")
     parser.add_argument("--store", action="store_true")
     args = parser.parse_args()
-    return (store_answers if args.store else compare)(args, Programs(args.oracle))
+    return (store_answers if args.store else check_document if args.document else compare)(args, Programs(args.oracle))
 
 
 if __name__ == "__main__":

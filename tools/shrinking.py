@@ -1,6 +1,6 @@
 """shrinking.py: shrunk(case, test) gives the smallest case that it finds by single steps. test takes a list of cases and says of each
 whether it still shows what is looked for."""
-from case_classes import children, kind_of
+from case_classes import children, kind_of, nodes
 from casetext import rule_bytes
 from rule_generator import Case, table_bytes
 
@@ -32,9 +32,13 @@ def simpler(e):
                 yield ("case", base, branches[:i] + branches[i + 1:], other)
         if other is not None:
             yield ("case", base, branches, None)
-    for x in children(e):
+    parts = children(e)
+    for i, x in enumerate(parts):
         if kind_of(x) == kind:
             yield x
+        # one level less between; where types don't allow it, the rule is refused
+        for y in children(x):
+            yield with_children(e, parts[:i] + [y] + parts[i + 1:])
     if e[0] != "literal":
         yield ("literal", kind, None)
     for v in SIMPLE[kind]:
@@ -97,10 +101,10 @@ def smaller(c):
     for e in variants(c.rule):
         if e[0] == "case":
             yield Case(e, c.table, c.junk)
-    for e in c.rule, *children(c.rule):
-        for x in children(e):
-            if x[0] == "case":
-                yield Case(x, c.table, c.junk)
+    for x in nodes(c.rule):
+        if x[0] == "case":
+            yield Case(x, c.table, c.junk)
+        yield Case(("case", None, [(("literal", 1, True), x)], None), c.table, c.junk)
 
 
 def shrunk(c, test):
