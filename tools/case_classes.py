@@ -228,9 +228,9 @@ def is_utf8(v):
         return False
 
 
-def all_utf8(rule, columns):
-    texts = [x[2] for x in nodes(rule) if x[0] == "literal" and x[1] == 5]
-    return all(map(is_utf8, texts)) and all(is_utf8(v) for c in columns if c[1] == 5 for v in c[3])
+def texts_of(rule, columns):
+    """The texts of literals and columns."""
+    return [x[2] for x in nodes(rule) if x[0] == "literal" and x[1] == 5] + [v for c in columns if c[1] == 5 for v in c[3]]
 
 
 def uncast_else(rule, table):
@@ -247,8 +247,7 @@ def long_text(rule, table):
     rows, columns = table
     if kind_of(rule) != 5:
         return False
-    longest = max([len(x[2] or b"") for x in nodes(rule) if x[0] == "literal" and x[1] == 5] + [len(v or b"") for c in columns if c[1] == 5 for v in c[3]], default=0)
-    if longest * rows <= 65535:
+    if max((len(t or b"") for t in texts_of(rule, columns)), default=0) * rows <= 65535:
         return False
     return sum(len(v) for v in Rows([c[3] for c in columns]).value(rule, list(range(rows))) if isinstance(v, bytes)) > 65535
 
@@ -266,11 +265,9 @@ def classes(rule, table):
     above = cast_above_case(rule)
     if rows == 0 and any(narrows(x) and not all(map(fits, constants(x[2]))) for x in above):
         found.append(NO_ROWS)
-    negated = negates_lowest(rule)
-    if negated:
+    if negates_lowest(rule):
         found.append(NEGATED)
-    utf8 = all_utf8(rule, columns)
-    if not utf8:
+    if not all(map(is_utf8, texts_of(rule, columns))):
         found.append(NOT_UTF8)
     if found:
         return found

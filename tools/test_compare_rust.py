@@ -153,9 +153,10 @@ rule
     def test_nullability(self):
         text = "rows 0\ncolumn a boolean\nrule\n(case (when {} (then (boolean true))) (else {}))"
         case = "(case (when (col a) (then (col a))))"
-        named = [cc.nullable_classes(made(text.format(w, e)).rule) for w, e in
-                 ((case, "(col a)"), ("(col a)", case), ("(isnotnull (neg (int32 -2147483648)))", "(col a)"), ("(col a)", "(case (when (col a) (then (col a))) (else %s))" % case))]
-        self.assertEqual(named, [[cc.CASE_IN_WHEN], [cc.COMPARED], [cc.NEGATED_IN_WHEN], [cc.COMPARED]])
+        for when, other, want in ((case, "(col a)", cc.CASE_IN_WHEN), ("(col a)", case, cc.COMPARED),
+                                  ("(isnotnull (neg (int32 -2147483648)))", "(col a)", cc.NEGATED_IN_WHEN),
+                                  ("(col a)", f"(case (when {case} (then (col a))))", cc.CASE_IN_WHEN)):
+            self.assertEqual(cc.nullable_classes(made(text.format(when, other)).rule), [want])
 
     def test_meaning(self):
         """The same values as test_casetext's meaning of one row, which was written for itself."""
