@@ -35,6 +35,85 @@ fn bits(b: &[u8], rows: usize) -> BooleanBuffer {
     BooleanBuffer::new(words, rows)
 }
 
+/// Validity of a column; `Some(None)` if nothing is null.
+fn validity(b: &[u8], rows: usize) -> Option<Option<NullBuffer>> {
+    if b.is_empty() {
+        return Some(None);
+    }
+    if b.len() != rows.div_ceil(8) {
+        return None;
+    }
+    let n = NullBuffer::new(bits(b, rows));
+    Some((n.null_count() > 0).then_some(n))
+}
+
+fn texts(o: &[u8], v: &[u8], rows: usize, nulls: Option<NullBuffer>) -> Option<ArrayRef> {
+    if o.len() != 4 * (rows + 1) {
+        return None;
+    }
+    let o: Vec<u32> = o
+        .chunks(4)
+        .map(|c| u32::from_le_bytes(c.try_into().unwrap()))
+        .collect();
+    if o[0] != 0 || o.windows(2).any(|w| w[0] > w[1]) || o[rows] as usize != v.len() {
+        return None;
+    }
+    if v.is_ascii() {
+        let o: Vec<i32> = o.iter().map(|x| *x as i32).collect();
+        return Some(Arc::new(StringArray::new(o.into(), v.to_vec().into(), nulls)));
+    }
+    let mut data = Vec::new();
+    let mut offsets = vec![0i32];
+    for w in o.windows(2) {
+        let s = text::to_str(&v[w[0] as usize..w[1] as usize]);
+        data.extend_from_slice(s.as_bytes());
+        offsets.push(data.len() as i32);
+    }
+    Some(Arc::new(StringArray::new(offsets.into(), data.into(), nulls)))
+}
+
+/// An array of Booleans or numbers.
+fn plain(t: u8, v: &[u8], rows: usize, nulls: Option<NullBuffer>) -> Option<ArrayRef> {
+    macro_rules! numbers {
+        ($array:ident, $n:ty) => {{
+            let v: Vec<$n> = v
+                .chunks_exact(size_of::<$n>())
+                .map(|c| <$n>::from_le_bytes(c.try_into().unwrap()))
+                .collect();
+            Arc::new($array::new(v.into(), nulls))
+        }};
+    }
+    let width = if t == 2 { 4 } else { 8 };
+    if v.len() != if t == 1 { rows.div_ceil(8) } else { rows * width } {
+        return None;
+    }
+    Some(match t {
+        1 => Arc::new(BooleanArray::new(bits(v, rows), nulls)),
+        2 => numbers!(Int32Array, i32),
+        3 => numbers!(Int64Array, i64),
+        _ => numbers!(Float64Array, f64),
+    })
+}
+
+/// The next column: type, nullable mark and entries.
+fn column(c: &mut Cursor, rows: usize) -> Option<(u8, bool, ArrayRef)> {
+    let &[t, nullable] = c.field(2)? else {
+        return None;
+    };
+    type_of(t)?;
+    let nulls = validity(c.field(3)?, rows)?;
+    if nullable > 1 || nullable == 0 && nulls.is_some() {
+        return None;
+    }
+    let array = if t == 5 {
+        let offsets = c.field(5)?;
+        texts(offsets, c.field(4)?, rows, nulls)?
+    } else {
+        plain(t, c.field(4)?, rows, nulls)?
+    };
+    Some((t, nullable == 1, array))
+}
+
 /// The table as a batch, with the rule's nullable marks on the columns that it
 /// names; `None` if the bytes aren't a table or the table doesn't fit.
 pub fn read(bytes: &[u8], rule: &Rule) -> Option<RecordBatch> {
@@ -49,97 +128,18 @@ pub fn read(bytes: &[u8], rule: &Rule) -> Option<RecordBatch> {
     let mut fields = Vec::new();
     let mut columns: Vec<ArrayRef> = Vec::new();
     while !c.0.is_empty() {
-        if columns.len() == 16 {
-            return None;
-        }
-        let &[t, nullable] = c.field(2)? else {
-            return None;
-        };
-        let data_type = type_of(t)?;
-        if nullable > 1 {
-            return None;
-        }
-        let mut nullable = nullable == 1;
-        let validity = c.field(3)?;
-        let nulls = match validity.len() {
-            0 => None,
-            n if n == rows.div_ceil(8) => {
-                let n = NullBuffer::new(bits(validity, rows));
-                (n.null_count() > 0).then_some(n)
-            }
-            _ => return None,
-        };
-        let offsets = if t == 5 { Some(c.field(5)?) } else { None };
-        let v = c.field(4)?;
-        let array: ArrayRef = match t {
-            1 => {
-                if v.len() != rows.div_ceil(8) {
-                    return None;
-                }
-                Arc::new(BooleanArray::new(bits(v, rows), nulls.clone()))
-            }
-            5 => {
-                let o = offsets?;
-                if o.len() != 4 * (rows + 1) {
-                    return None;
-                }
-                let o: Vec<u32> = o
-                    .chunks(4)
-                    .map(|c| u32::from_le_bytes(c.try_into().unwrap()))
-                    .collect();
-                if o[0] != 0
-                    || o.windows(2).any(|w| w[0] > w[1])
-                    || o[rows] as usize != v.len()
-                {
-                    return None;
-                }
-                if v.is_ascii() {
-                    let o: Vec<i32> = o.iter().map(|x| *x as i32).collect();
-                    Arc::new(StringArray::new(o.into(), v.to_vec().into(), nulls.clone()))
-                } else {
-                    let mut data = Vec::new();
-                    let mut offsets = vec![0i32];
-                    for w in o.windows(2) {
-                        data.extend_from_slice(
-                            text::to_str(&v[w[0] as usize..w[1] as usize]).as_bytes(),
-                        );
-                        offsets.push(data.len() as i32);
-                    }
-                    Arc::new(StringArray::new(offsets.into(), data.into(), nulls.clone()))
-                }
-            }
-            t => {
-                let width = if t == 2 { 4 } else { 8 };
-                if v.len() != rows * width {
-                    return None;
-                }
-                macro_rules! numbers {
-                    ($array:ident, $n:ty) => {{
-                        let v: Vec<$n> = v
-                            .chunks_exact(width)
-                            .map(|c| <$n>::from_le_bytes(c.try_into().unwrap()))
-                            .collect();
-                        Arc::new($array::new(v.into(), nulls.clone()))
-                    }};
-                }
-                match t {
-                    2 => numbers!(Int32Array, i32),
-                    3 => numbers!(Int64Array, i64),
-                    _ => numbers!(Float64Array, f64),
-                }
-            }
-        };
-        if !nullable && nulls.is_some() {
-            return None;
-        }
         let i = columns.len();
-        if let Some((rt, mark)) = rule.columns.get(&i) {
-            if *rt != t || nullable && !mark {
+        if i == 16 {
+            return None;
+        }
+        let (t, mut nullable, array) = column(&mut c, rows)?;
+        if let Some((rule_type, mark)) = rule.columns.get(&i) {
+            if *rule_type != t || nullable && !mark {
                 return None;
             }
             nullable = *mark;
         }
-        fields.push(Field::new(format!("c{i}"), data_type, nullable));
+        fields.push(Field::new(format!("c{i}"), type_of(t)?, nullable));
         columns.push(array);
     }
     if rule.columns.keys().any(|i| *i >= columns.len()) {
