@@ -36,6 +36,7 @@ from shrinking import shrunk
 
 HERE = os.path.dirname(os.path.dirname(os.path.abspath(__file__)))
 CHUNK = 10000
+SHRUNK_MOST = 100
 RECORD_MOST = 200
 RULES_MOST = 65536
 
@@ -275,7 +276,7 @@ def said_text(rows, said):
 
 
 def shown(c, programs):
-    """A case as text and bytes, and what both sides say of it."""
+    """A case as text and bytes, and what both sides say of it, as docs/DIFFERENCES.md has it."""
     (port,), (rust,) = programs.both([c])
     rows = c.table[0]
     return (f"{text_of(c.rule, c.table)}rule {rule_bytes(c.rule).hex()}\ntable {rule_generator.table_bytes(c).hex()}\n"
@@ -318,7 +319,8 @@ def report(tally, count, seconds):
         if table is tally.entries:
             print(f"{'strategy and projection':45} {tally.answers[0]:8} {tally.answers[1]:8}\nnullability")
     print("spread: " + ", ".join(f"{k} {tally.spread[k]}" for k in sorted(tally.spread)))
-    print(f"unexplained differences: {len(tally.unexplained)}")
+    more = f", the first {SHRUNK_MOST} below" if len(tally.unexplained) > SHRUNK_MOST else ""
+    print(f"unexplained differences: {len(tally.unexplained)}{more}")
 
 
 def compare(args, programs):
@@ -334,7 +336,7 @@ def compare(args, programs):
     else:
         built = True
         print("ResultBuilder: not compared, rt is not on the path")
-    for c, what in tally.unexplained[:20]:
+    for c, what in tally.unexplained[:SHRUNK_MOST]:
         print(f"\nunexplained: {what}")
         named = ", ".join(case_classes.nullable_classes(c.rule) if what == "nullable" else case_classes.classes(c.rule, c.table))
         print(shown(shrunk(c, differs_so(programs, what, named)), programs), flush=True)
@@ -428,6 +430,9 @@ def main():
     parser.add_argument("--document")
     parser.add_argument("--store", action="store_true")
     args = parser.parse_args()
+    for path in [args.oracle] + ([] if args.store else [args.library]):
+        if not os.path.exists(path):
+            parser.error(f"{path} isn't there: tools/rust_oracle/README.md says how the Rust is built, rt staticlib tembalku builds the library")
     return (store_answers if args.store else check_document if args.document else compare)(args, Programs(args.oracle))
 
 
