@@ -1,0 +1,257 @@
+#!/usr/bin/env python3
+"""Tests of what compare_rust.py is made of, without the Rust and the library: the answer's layout, the stored records, what counts as
+agreeing and as explained, the classes, the generator, shrinking and the builder's sequences."""
+import os
+import random
+import sys
+import unittest
+
+sys.dont_write_bytecode = True
+HERE = os.path.dirname(os.path.abspath(__file__))
+sys.path.insert(0, HERE)
+import case_classes as cc  # noqa: E402
+import compare_builder  # noqa: E402
+import compare_rust as cr  # noqa: E402
+import rule_generator as rg  # noqa: E402
+from casetext import parse, read_rule, read_table, rule_bytes  # noqa: E402
+from shrinking import children, shrunk, with_children  # noqa: E402
+from test_casetext import Unfit, at_row  # noqa: E402
+
+
+def made(text):
+    return rg.Case(*parse(text), 0)
+
+
+def classes(text):
+    c = made(text)
+    return cc.classes(c.rule, c.table)
+
+
+def said(entries, read=258, strategy=5, nullable="0", projection=()):
+    return cr.Said(read, strategy, nullable, list(projection), entries)
+
+
+def random_cases(count, seed=5):
+    rng = random.Random(seed)
+    return [rg.case(rng, theme, False) for theme in ("inside",) + rg.THEMES for _ in range(count)]
+
+
+class Layout(unittest.TestCase):
+    """Listings as the answer's bytes, by hand from document 01."""
+
+    def answer(self, text, nullable=1):
+        return cr.answer(text.split("\n"), nullable).hex(" ")
+
+    def test_numbers(self):
+        self.assertEqual(self.answer("rows 2 type 2 nullable 0\n0 1\n1 -2", 0), "02 02 00 02 00 03 00 00 04 08 00 01 00 00 00 fe ff ff ff")
+        self.assertEqual(self.answer("rows 1 type 3 nullable 0\n0 -9223372036854775808", 0),
+                         "02 02 00 03 00 03 00 00 04 08 00 00 00 00 00 00 00 00 80")
+        self.assertEqual(self.answer("rows 2 type 4 nullable 1\n0 8000000000000000\n1 null"),
+                         "02 02 00 04 01 03 01 00 01 04 10 00 00 00 00 00 00 00 00 80 00 00 00 00 00 00 00 00")
+
+    def test_booleans(self):
+        lines = ["rows 9 type 1 nullable 1"] + [f"{i} {w}" for i, w in enumerate("true null false true true false false true true".split())]
+        self.assertEqual(cr.answer(lines, 1).hex(" "), "02 02 00 01 01 03 02 00 fd 01 04 02 00 99 01")
+
+    def test_text(self):
+        self.assertEqual(self.answer("rows 3 type 5 nullable 1\n0 t6162\n1 null\n2 t"),
+                         "02 02 00 05 01 03 01 00 05 05 10 00 00 00 00 00 02 00 00 00 02 00 00 00 02 00 00 00 04 02 00 61 62")
+        self.assertEqual(self.answer("rows 0 type 5 nullable 0", 0), "02 02 00 05 00 03 00 00 05 04 00 00 00 00 00 04 00 00")
+
+    def test_too_long(self):
+        self.assertEqual(cr.answer(["rows 1 type 5 nullable 0", "0 t" + "61" * 65536], 0), "long")
+
+    def test_records(self):
+        c = made("rows 1\ncolumn a boolean true\ncolumn b int32 7\nrule\n(case (when (col a) (then (col b))))")
+        rust = said(bytes.fromhex("0202000200030000040400") + b"\7\0\0\0", strategy=3, nullable="1", projection=[0, 1])
+        rule, table = rule_bytes(c.rule), rg.table_bytes(c)
+        lengths = [int.from_bytes(cr.run_record(c, rust)[i:i + 4], "little") for i in range(0, 20, 4)]
+        self.assertEqual(lengths, [len(rule), len(table), 65536, 65536, 16])
+        self.assertEqual(cr.run_record(c, rust)[20:], rule + table + bytes.fromhex("00 0202000201030000040400 07000000"))
+        self.assertEqual(cr.run_record(c, said("failed"))[20:], rule + table + b"\x0f")
+        self.assertEqual(cr.rule_record(c, rust), len(rule).to_bytes(2, "little") + rule + bytes([0, 3, 1, 2, 2, 0, 1]))
+
+
+class Comparing(unittest.TestCase):
+    def test_answers_are_read(self):
+        rust = cr.rust_answers("strategy 5|nullable 1|projection 0 3|rows 1 type 2 nullable 1|0 5|.|strategy 3|nullable 0|projection|failed|.".split("|"))
+        port = cr.port_answers(["258 261 257 258 0 3", "0202000201030000040400" + "05000000", "259 259 256 256", "refused 15"])
+        self.assertEqual([r._replace(read=0) for r in rust[:1]], [p._replace(read=0) for p in port[:1]])
+        self.assertTrue(cr.entries_agree(port[1], rust[1]) and cr.answers_agree(port[1], rust[1]))
+        self.assertEqual((rust[1].strategy, rust[1].nullable, rust[1].projection), (3, "0", []))
+
+    def test_nullable_byte(self):
+        with self.assertRaises(RuntimeError):
+            cr.port_answers(["258 261 256 256", "0202000201030000040400" + "05000000"])
+
+    def test_failures(self):
+        self.assertTrue(cr.entries_agree(said("refused 15"), said("failed")))
+        for port, rust in (("refused 15", "panicked"), ("refused 16", "failed"), (b"", "failed"), ("refused 15", b""), (b"a", b"b")):
+            self.assertFalse(cr.entries_agree(said(port), said(rust)))
+
+    def test_explained(self):
+        port, other, failed = said(b"aaaaa"), said(b"bbbbb"), said("failed")
+        self.assertTrue(cr.explained([cc.UNCAST_ELSE], port, other, port))
+        self.assertTrue(cr.explained([cc.NEGATED], port, failed, port))
+        self.assertTrue(cr.explained([cc.NO_ROWS], port, failed, failed))
+        self.assertTrue(cr.explained([cc.CONSTANT_CAST], said("refused 8"), other, other))
+        # the Rust without the difference must agree with the port
+        self.assertFalse(cr.explained([cc.UNCAST_ELSE], port, other, other))
+        self.assertFalse(cr.explained([cc.NEGATED], said("refused 15"), port, port))
+        for name in (cc.INSIDE, cc.OUTSIDE, cc.NOT_UTF8):
+            self.assertFalse(cr.explained([name], port, other, port))
+        self.assertFalse(cr.explained([cc.NO_ROWS], port, other, other))
+        self.assertFalse(cr.explained([cc.CONSTANT_CAST], port, other, port))
+
+
+class Classes(unittest.TestCase):
+    def test_uncast_else(self):
+        rule = "rule\n(case (when (col a) (then (not (col a)))) (else (int32 5)))"
+        self.assertEqual(classes("rows 2\ncolumn a boolean null false null\n" + rule), [cc.UNCAST_ELSE])
+        self.assertEqual(classes("rows 2\ncolumn a boolean null false true\n" + rule), [cc.OUTSIDE])
+        self.assertEqual(classes("rows 0\ncolumn a boolean\n" + rule), [cc.UNCAST_ELSE])
+        # strategies 4 and 1 cast
+        self.assertEqual(classes("rows 1\nrule\n(case (when (boolean false) (then (boolean true))) (else (int32 5)))"), [cc.OUTSIDE])
+
+    def test_rows_that_reach(self):
+        """Rows whose base is null reach the ELSE apart from the rows that no WHEN equals."""
+        text = """rows 2
+column a int32 null {0} 2
+column b boolean {1} false
+rule
+(case (base (col a)) (when (int32 1) (then (boolean true)))
+  (else (case (when (col b) (then (not (col b)))) (else (int32 5)))))"""
+        self.assertEqual(classes(text.format("3", "true")), [cc.OUTSIDE])
+        self.assertEqual(classes(text.format("null", "true")), [cc.UNCAST_ELSE])
+        self.assertEqual(classes(text.format("1", "true")), [cc.UNCAST_ELSE])
+
+    def test_no_rows(self):
+        text = "rows {}\ncolumn a boolean{}\nrule\n(case (when (boolean true) (then (cast int32 (case (when (col a) (then (int64 {}))))))))"
+        self.assertEqual(classes(text.format(0, "", 2 ** 31)), [cc.NO_ROWS])
+        self.assertEqual(classes(text.format(0, "", 2 ** 31 - 1)), [cc.OUTSIDE])
+        self.assertEqual(classes(text.format(1, " true", 2 ** 31)), [cc.OUTSIDE])
+
+    def test_negated(self):
+        text = "rows 1\ncolumn a int32 -2147483648\nrule\n(case (when (boolean true) (then {})))"
+        self.assertEqual(classes(text.format("(neg (int32 -2147483648))")), [cc.NEGATED])
+        self.assertEqual(classes(text.format("(neg (cast int32 (neg (int64 2147483648))))")), [cc.NEGATED])
+        self.assertEqual(classes(text.format("(neg (case (when (boolean true) (then (int32 -2147483648)))))")), [cc.NEGATED])
+        self.assertEqual(classes(text.format("(neg (int64 -2147483648))")), [cc.INSIDE])
+        self.assertEqual(classes(text.format("(neg (col a))")), [cc.INSIDE])
+
+    def test_refused(self):
+        text = "rows {}\nrule\n(case (when (boolean false) (then {})))"
+        self.assertEqual(classes(text.format(1, "(cast int32 (int64 2147483648))")), [cc.CONSTANT_CAST])
+        self.assertEqual(classes(text.format(1, "(trycast int32 (int64 2147483648))")), [cc.INSIDE])
+        long = "rows {}\nrule\n(case (when (boolean true) (then (utf8 \"%s\"))))" % ("z" * 257)
+        self.assertEqual((classes(long.format(255)), classes(long.format(256))), ([cc.INSIDE], [cc.LONG_TEXT]))
+
+    def test_text(self):
+        text = "rows 1\ncolumn a utf8 {}\nrule\n(case (when (boolean true) (then (col a))))"
+        self.assertEqual((classes(text.format('x"c3a9"')), classes(text.format('x"c3"'))), ([cc.INSIDE], [cc.NOT_UTF8]))
+
+    def test_nullability(self):
+        text = "rows 0\ncolumn a boolean\nrule\n(case (when {} (then (boolean true))) (else {}))"
+        case = "(case (when (col a) (then (col a))))"
+        for when, other, want in ((case, "(col a)", cc.CASE_IN_WHEN), ("(col a)", case, cc.COMPARED),
+                                  ("(isnotnull (neg (int32 -2147483648)))", "(col a)", cc.NEGATED_IN_WHEN),
+                                  ("(col a)", f"(case (when {case} (then (col a))))", cc.CASE_IN_WHEN)):
+            self.assertEqual(cc.nullable_classes(made(text.format(when, other)).rule), [want])
+
+    def test_meaning(self):
+        """The same values as test_casetext's meaning of one row, which was written for itself."""
+        failed = 0
+        for c in random_cases(150):
+            rows, columns = c.table
+            for i, v in enumerate(cc.Rows([col[3] for col in columns]).value(c.rule, list(range(rows)))):
+                try:
+                    want = at_row(c.rule, [col[3][i] for col in columns])
+                except Unfit:
+                    want, failed = cc.FAILED, failed + 1
+                self.assertEqual((v, type(v)), (want, type(want)))
+        self.assertGreater(failed, 20)
+
+
+class Generator(unittest.TestCase):
+    def depth(self, e):
+        return 1 + max(map(self.depth, children(e)), default=0)
+
+    def cases(self, e):
+        return (e[0] == "case") + max(map(self.cases, children(e)), default=0)
+
+    def test_limits(self):
+        rng = random.Random(9)
+        for c in random_cases(200) + [rg.limit(rng) for _ in range(100)]:
+            self.assertLessEqual(self.depth(c.rule), 8)
+            self.assertLessEqual(self.cases(c.rule), 3)
+            self.assertLessEqual(len(rule_bytes(c.rule)), 4096)
+            self.assertLessEqual(len(rg.table_bytes(c)), 65536)
+            self.assertLessEqual(len(c.table[1]), 16)
+
+    def test_ends(self):
+        rng = random.Random(3)
+        rules, tables, rows, deep = (set() for _ in range(4))
+        for _ in range(150):
+            c = rg.limit(rng)
+            rules.add(len(rule_bytes(c.rule)))
+            tables.add(len(rg.table_bytes(c)))
+            rows.add((c.table[0], len(c.table[1])))
+            deep.add((self.depth(c.rule), self.cases(c.rule)))
+        self.assertTrue(4096 in rules and 65536 in tables and (512, 16) in rows and (8, 3) in deep)
+
+    def test_inside(self):
+        rng, seen = random.Random(4), set()
+        for _ in range(1500):
+            c = rg.case(rng, "inside", True)
+            named = cc.classes(c.rule, c.table)
+            self.assertIn(named, ([cc.INSIDE], [cc.CONSTANT_CAST]))
+            seen.add((cc.strategy(c.rule), cc.kind_of(c.rule)))
+        self.assertEqual(len(seen), 30)
+
+    def test_junk(self):
+        """Spare bits, and what stands under nulls, change the bytes and not the table."""
+        changed = 0
+        for c in random_cases(60):
+            plain, junk = (rg.table_bytes(c._replace(junk=n)) for n in (0, 77))
+            self.assertEqual(read_table(plain), read_table(junk))
+            self.assertEqual(read_rule(rule_bytes(c.rule)), c.rule)
+            changed += plain != junk
+        self.assertGreater(changed, 100)
+
+
+class Shrinking(unittest.TestCase):
+    def test_children(self):
+        for c in random_cases(50):
+            for e in cc.nodes(c.rule):
+                self.assertEqual(with_children(e, children(e)), e)
+
+    def test_smallest(self):
+        """A rule that negates a column at a row where it is 7."""
+        def shows(c):
+            found = [e for e in cc.nodes(c.rule) if e[0] == "neg" and e[1][0] == "col"]
+            return any(7 in c.table[1][e[1][1]][3] for e in found)
+        c = next(c for c in random_cases(400) if shows(c) and c.table[0] > 3 and len(c.table[1]) > 2)
+        small = shrunk(c, lambda cases: [shows(d) for d in cases])
+        self.assertTrue(shows(small))
+        self.assertEqual((small.table[0], len(small.table[1]), len(small.rule[2]), small.rule[3]), (1, 1, 1, None))
+        self.assertLess(len(rule_bytes(small.rule)), 25)
+
+
+class Builder(unittest.TestCase):
+    def test_refusals(self):
+        for want, sequence in ((0, (3, [([0, 2], [1, 0]), ([], [])])), (19, (3, [([5, 2], [1])])), (18, (3, [([0, 3], [1, 1])])),
+                               (18, (3, [([1, 1], [1, 1])])), (18, (2, [([1, 0], [1, 1])])), (21, (2, [([0], [1]), ([0, 1], [1, 1])])),
+                               (21, (2, [([0, 1], [1, 1]), ([], [])])), (20, (3, [([0, 1], [1, 1]), ([1], [1])])), (10, (513, [])), (0, (512, []))):
+            self.assertEqual(compare_builder.first_refusal(sequence), want)
+
+    def test_sequences(self):
+        rng = random.Random(2)
+        found = {compare_builder.first_refusal(compare_builder.sequence(rng)) for _ in range(3000)}
+        self.assertEqual(found, {0, 10, 18, 19, 20, 21})
+
+    def test_bytes(self):
+        self.assertEqual(compare_builder.sequence_bytes((3, [([0, 2], [7, 256])])).hex(" "), "03 00 01 00 02 00 02 00 00 00 02 00 07 00 00 01")
+
+
+if __name__ == "__main__":
+    unittest.main()
