@@ -14,8 +14,8 @@ import compare_builder  # noqa: E402
 import compare_rust as cr  # noqa: E402
 import rule_generator as rg  # noqa: E402
 from casetext import parse, read_rule, read_table, rule_bytes  # noqa: E402
+from dealer.rows import Unfit, at_row  # noqa: E402
 from shrinking import children, shrunk, with_children  # noqa: E402
-from test_casetext import Unfit, at_row  # noqa: E402
 
 
 def made(text):
@@ -159,7 +159,7 @@ rule
             self.assertEqual(cc.nullable_classes(made(text.format(when, other)).rule), [want])
 
     def test_meaning(self):
-        """The same values as test_casetext's meaning of one row, which was written for itself."""
+        """The same values as casetext.py's meaning of one row, which was written apart from it."""
         failed = 0
         for c in random_cases(150):
             rows, columns = c.table
