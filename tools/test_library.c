@@ -342,6 +342,42 @@ static void test_other_bytes(const uint8_t *bytes, size_t len, size_t rows) {
     }
 }
 
+static void check_none(int line, input bytes, size_t rows) {
+    struct tembalku_answer a;
+    check(!tembalku_answer_read(&a, bytes.bytes, bytes.len, rows) && a.type == 0 && a.rows == 0, line, "bytes that are no answer, rows", rows);
+    touch(&a);
+}
+
+#define NO_ANSWER(bytes, rows) check_none(__LINE__, bytes, rows)
+
+/* Bytes that are almost an answer. */
+static void test_no_answers(void) {
+    INPUT(byte_behind, 2, 2, 0, 2, 0, 3, 0, 0, 4, 4, 0, 7, 0, 0, 0, 0);
+    INPUT(type_0, 2, 2, 0, 0, 0, 3, 0, 0, 4, 8, 0, 7, 0, 0, 0, 0, 0, 0, 0);
+    INPUT(type_6, 2, 2, 0, 6, 0, 3, 0, 0, 4, 8, 0, 7, 0, 0, 0, 0, 0, 0, 0);
+    INPUT(mark_2, 2, 2, 0, 2, 2, 3, 0, 0, 4, 4, 0, 7, 0, 0, 0);
+    INPUT(head_of_3, 2, 3, 0, 2, 0, 0, 3, 0, 0, 4, 4, 0, 7, 0, 0, 0);
+    INPUT(long_validity, 2, 2, 0, 2, 1, 3, 2, 0, 1, 0, 4, 4, 0, 7, 0, 0, 0);
+    INPUT(short_validity, 2, 2, 0, 1, 1, 3, 1, 0, 1, 4, 2, 0, 7, 1);
+    INPUT(first_offset_1, 2, 2, 0, 5, 0, 3, 0, 0, 5, 8, 0, 1, 0, 0, 0, 2, 0, 0, 0, 4, 2, 0, 'a', 'b');
+    INPUT(last_offset_1, 2, 2, 0, 5, 0, 3, 0, 0, 5, 8, 0, 0, 0, 0, 0, 1, 0, 0, 0, 4, 2, 0, 'a', 'b');
+    INPUT(offsets_of_number, 2, 2, 0, 2, 0, 3, 0, 0, 5, 8, 0, 0, 0, 0, 0, 4, 0, 0, 0, 4, 4, 0, 7, 0, 0, 0);
+    static const uint8_t many_bytes[11 + 65] = {2, 2, 0, 1, 0, 3, 0, 0, 4, 65, 0};
+    const input many = {many_bytes, sizeof many_bytes};
+    NO_ANSWER(byte_behind, 1);
+    NO_ANSWER(type_0, 1);
+    NO_ANSWER(type_6, 1);
+    NO_ANSWER(mark_2, 1);
+    NO_ANSWER(head_of_3, 1);
+    NO_ANSWER(long_validity, 1);
+    NO_ANSWER(short_validity, 9);
+    NO_ANSWER(first_offset_1, 1);
+    NO_ANSWER(last_offset_1, 1);
+    NO_ANSWER(offsets_of_number, 1);
+    NO_ANSWER(many, 513);
+    NO_ANSWER(many, (size_t)-1);
+}
+
 static void test_helpers(void) {
     struct tembalku_answer a;
     const input r = {column_rule, sizeof column_rule};
@@ -373,6 +409,7 @@ int main(void) {
     test_tables();
     test_evaluate();
     test_helpers();
+    test_no_answers();
     test_sentences();
     printf("%u checks of the library, %u failed\n", checks, failures);
     return failures != 0;
