@@ -45,4 +45,9 @@ fi
 sed -n 's/^\(uint32_t\|size_t\) \(tembalku_[a-z_]*\)(.*/\2/p' include/tembalku.h | sort > "$scratch/declared"
 nm -D --defined-only "$scratch/prefix/lib/libtembalku.so" | sed 's/.* //' | sort | diff "$scratch/declared" -
 [ "$(pkg-config --modversion tembalku)" = "$(sed -n 's/^#define TEMBALKU_VERSION "\(.*\)"$/\1/p' include/tembalku.h)" ]
+if (PATH=$scratch; /bin/sh tools/install.sh "$scratch/none" "$library") 2> "$scratch/said"; then
+    echo "install.sh does without gcc"
+    exit 1
+fi
+grep -q "^install.sh: gcc isn't there" "$scratch/said"
 echo "installed: the example runs with the static library and with the shared object, which has the header's functions and no others"
