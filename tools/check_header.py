@@ -2,8 +2,8 @@
 """check_header.py [ROOT]: compares include/tembalku.h and docs/REFUSALS.md with the specifications and the code.
 
 Compared: the refusals' numbers and sentences, the limits, the types, the strategies, what answers count from, the functions and their
-arguments, the version, and the limits that docs/FORMAT.md and the example in Rust have. Prints each difference, and how much was compared;
-fails where there is a difference, or where something to compare isn't found.
+arguments, the version, and the numbers that docs/FORMAT.md and the example in Rust repeat. Prints each difference, and how much was
+compared; fails where there is a difference, or where something to compare isn't found.
 """
 import os
 import re
@@ -39,8 +39,13 @@ def spec_list(path, name):
     return [int(n) for n in re.findall(r"(\d+) ∷", found(rf"^{name} = ((?:\d+ ∷ )+)\[\]$", f"crates/{path}"))]
 
 
+def numbered(function, path):
+    """The equations `function Name = number` of a definition."""
+    return {name: int(n) for name, n in re.findall(rf"^{function} (\w+) = (\d+)$", text(path), re.M)}
+
+
 def upper(name):
-    """NoExpression: NO_EXPRESSION."""
+    """NoExpression: NO_EXPRESSION; Utf8: UTF8."""
     return re.sub(r"(?<=[a-z])(?=[A-Z])", "_", name).upper()
 
 
@@ -70,6 +75,12 @@ def header_functions():
     """Name, result and arguments of each function that isn't inline."""
     declared = re.findall(r"^(uint32_t|size_t) (tembalku_\w+)\(([^;{]*)\);$", text(HEADER), re.M)
     return {name: (result, re.sub(r"\s+", " ", arguments)) for result, name, arguments in declared}
+
+
+def header_refusals():
+    """The refusals `refusal (1 to 8)` that a function's comment names."""
+    commented = re.findall(r"/\*((?:(?!\*/)[\s\S])*)\*/\n(?:uint32_t|size_t) (tembalku_\w+)\(", text(HEADER))
+    return {name: set(re.findall(r"refusal \((\d+) to (\d+)\)", comment)) for comment, name in commented}
 
 
 # ---- the code ----
@@ -103,11 +114,9 @@ def refusals():
         yield f"the sentence of refusal {n}", header_sentences().get(n), paper.get(n)
     for about, specified in (("rule", of_rule), ("table", of_table), ("builder", of_builder[1:])):
         yield f"docs/REFUSALS.md: about the {about}", [int(n) for n, a, _ in rows if a == about], specified
-    said = {name: set(re.findall(r"refusal \((\d+) to (\d+)\)", comment)) for comment, name in
-            re.findall(r"/\*((?:(?!\*/)[\s\S])*)\*/\n(?:uint32_t|size_t) (tembalku_\w+)\(", text(HEADER))}
     for name in header_functions():
         which = of_table if "table" in name else of_rule if "rule" in name else of_rule + of_table + of_run
-        yield f"{name}: its refusals", said.get(name), {(str(which[0]), str(which[-1]))}
+        yield f"{name}: its refusals", header_refusals().get(name), {(str(which[0]), str(which[-1]))}
 
 
 def limits():
@@ -132,10 +141,8 @@ def numbers():
     for name, codes in (("RULE_ACCEPTED", ("rule", "strategy", "nullable", "projection")), ("TABLE_ACCEPTED", ("table",)), ("ANSWERED", ("run",))):
         for code in codes:
             yield f"TEMBALKU_{name}, {code}Code", macro(name), int(found(rf"^{code}Code \(ok \w+\) = (\d+) \+", "crates/tembalku/specs/Codes.antt"))
-    types = re.findall(r"^typeNumber (\w+) = (\d+)$", text("crates/scalar/specs/Types.antt"), re.M)
-    yield "the types", enum("type"), {upper(name) if name != "Utf8" else "UTF8": int(n) for name, n in types}
-    strategies = re.findall(r"^strategyNumber (\w+) = (\d+)$", text("crates/rule/specs/Strategy.antt"), re.M)
-    yield "the strategies", enum("strategy"), {upper(name): int(n) for name, n in strategies}
+    yield "the types", enum("type"), {upper(name): n for name, n in numbered("typeNumber", "crates/scalar/specs/Types.antt").items()}
+    yield "the strategies", enum("strategy"), {upper(name): n for name, n in numbered("strategyNumber", "crates/rule/specs/Strategy.antt").items()}
     yield "the functions", header_functions(), code_functions()
     version = ".".join(str(macro(f"VERSION_{part}")) for part in ("MAJOR", "MINOR", "PATCH"))
     yield "the version", found(r'^#define TEMBALKU_VERSION "(.*)"$', HEADER), version
@@ -145,8 +152,17 @@ def elsewhere():
     """The numbers that other files repeat."""
     for name in ("WORK_BYTES", "OUTPUT_MOST"):
         yield f"examples/rust: {name}", macro(name), int(found(rf"^const {name}: usize = (\d+);$", "examples/rust/example.rs"))
-    rows = {name: number(n) for n, name in re.findall(r"^\| .* \| ([\d,]+) \| .* \| `TEMBALKU_(\w+)` \|$", text("docs/FORMAT.md"), re.M)}
-    yield "the limits of docs/FORMAT.md", rows, {name: macro(name) for name in limits()}
+    page = text("docs/FORMAT.md")
+    rows = {name: number(n) for n, name in re.findall(r"^\| .* \| ([\d,]+) \| .* \| `TEMBALKU_(\w+)` \|$", page, re.M)}
+    yield "the limits of docs/FORMAT.md", {name: macro(name) for name in limits()}, rows
+    types = {upper(name): int(n) for n, name in re.findall(r"^\| (\d) \| ([A-Z]\w+) \|", page, re.M)}
+    yield "the types of docs/FORMAT.md", enum("type"), types
+    strategies = {upper(name): int(n) for n, name in re.findall(r"^\| (\d) \| `(\w+)` \|", page, re.M)}
+    yield "the strategies of docs/FORMAT.md", enum("strategy"), strategies
+    tags = [int(n) for n in re.findall(r"^\| (1[6-9]|2\d) \| ", page, re.M)]
+    yield "the tags of docs/FORMAT.md", list(numbered("tagOf", "crates/rule/specs/Reading.antt").values()), tags
+    said = {name: {(low, high)} for name, low, high in re.findall(r"^\| `(tembalku_\w+)` \| (\d+) to (\d+) \|", page, re.M)}
+    yield "the functions' refusals in docs/FORMAT.md", header_refusals(), said
 
 
 def main():
