@@ -1,26 +1,35 @@
 /* Tembalku: evaluates a dealer's CASE rule over a table of targets.
  *
- * For makers of displays. Link with libtembalku.a (`rt staticlib tembalku`). The layouts of rules, tables and answers, the meaning of a
- * rule at a row, and the order in which refusals are tested are document 01's; docs/REFUSALS.md explains the refusals.
+ * For makers of displays. Link with libtembalku.a (`rt staticlib tembalku`); `tools/install.sh` puts it, a shared object and this header in
+ * place. docs/FORMAT.md has the bytes of rules, tables and answers, the meaning of a rule at a row, and the order in which refusals are
+ * tested; docs/REFUSALS.md explains the refusals.
  *
- * Every function
+ * Every function of the library
  * - takes any bytes: there is no rule and no table that it must not be given;
  * - ends, reads and writes only what it was lent, and keeps nothing between calls;
  * - answers one number: below TEMBALKU_RULE_ACCEPTED (256) it is a refusal, a value of tembalku_refusal, never 0; else what the function says.
  *
  * What the caller sees to: a pointer and its length name memory that is there; a pointer isn't NULL, even if its length is 0; a buffer that
- * is written overlaps no other argument. Pointers need no alignment. The stack that
- * calls were seen to need is in docs/ARCHITECTURE.md (Memory); 256 KB were enough in every measurement.
+ * is written overlaps no other argument. Pointers need no alignment. The stack that calls were seen to need is in docs/ARCHITECTURE.md
+ * (Memory); 256 KB were enough in every measurement.
+ *
+ * The library's functions are proved. The helpers at the end of this file, `static inline`, are not: they are tested (tools/test_library.c).
  */
 #ifndef TEMBALKU_H
 #define TEMBALKU_H
 
 #include <stddef.h>
 #include <stdint.h>
+#include <string.h>
 
 #ifdef __cplusplus
 extern "C" {
 #endif
+
+#define TEMBALKU_VERSION_MAJOR 0
+#define TEMBALKU_VERSION_MINOR 1
+#define TEMBALKU_VERSION_PATCH 0
+#define TEMBALKU_VERSION "0.1.0"
 
 /* Limits: more is refused (1, 9, 10, 10, 6). */
 #define TEMBALKU_RULE_MOST 4096
@@ -65,49 +74,29 @@ enum tembalku_strategy {
     TEMBALKU_WITH_EXPR_SCALAR_LOOKUP_TABLE = 6
 };
 
-/* Refusals. The functions below give 1 to 17; 18 to 21 are the result builder's. */
+/* Refusals. The library's functions give 1 to 17; 18 to 21 are the result builder's. tembalku_refusal_sentence says what each means and
+ * what to do about it. */
 enum tembalku_refusal {
-    /* The rule is empty or has more than 4,096 bytes: send it again, or write a shorter one. */
     TEMBALKU_REFUSED_RULE_SIZE = 1,
-    /* The rule is cut off, or one of its parts claims more bytes than there are: make the file again. */
     TEMBALKU_REFUSED_RULE_CUT = 2,
-    /* The rule holds a byte that means nothing at its place, or bytes too many: make the file again with a tool that writes this layout. */
     TEMBALKU_REFUSED_RULE_CONTENT = 3,
-    /* The rule is nested too deep: at most 8 levels, and at most 3 CASEs inside each other; write it flatter. */
     TEMBALKU_REFUSED_RULE_DEPTH = 4,
-    /* A CASE has no WHEN: give it at least one. */
     TEMBALKU_REFUSED_CASE_EMPTY = 5,
-    /* A CASE has more than 32 WHENs: move some of them into a CASE in its ELSE. */
     TEMBALKU_REFUSED_CASE_BRANCHES = 6,
-    /* Types don't go together, or a column is named in two ways: cast one side to the other's type, and mark a column alike each time. */
     TEMBALKU_REFUSED_RULE_TYPES = 7,
-    /* A cast of a constant doesn't fit, wherever in the rule it stands: correct the constant, or use a try-cast. */
     TEMBALKU_REFUSED_CONSTANT_CAST = 8,
-    /* The table is empty, too long, cut off or out of order: the display's program must write it anew. */
     TEMBALKU_REFUSED_TABLE_FIELDS = 9,
-    /* There are more than 512 targets or 16 columns: hand over fewer at a time. */
     TEMBALKU_REFUSED_TABLE_SIZE = 10,
-    /* A column's type, mark, length or offset is wrong: the display's program must write the table anew. */
     TEMBALKU_REFUSED_TABLE_CONTENT = 11,
-    /* A column that is marked as never null holds a null: mark it nullable, or fill the value in. */
     TEMBALKU_REFUSED_TABLE_NULL = 12,
-    /* The rule was made for other columns than the table has: make it with this display's columns, types and null marks. */
     TEMBALKU_REFUSED_FIT = 13,
-    /* The work buffer has fewer than 65,536 bytes: the display's program must lend more. */
     TEMBALKU_REFUSED_WORK_SIZE = 14,
-    /* A target's value doesn't fit the type that the rule casts it to: use a try-cast, which gives null, or test the value in an earlier WHEN. */
     TEMBALKU_REFUSED_CAST = 15,
-    /* The classes' texts have more than 65,535 bytes in all: use shorter texts, or fewer targets at a time. */
     TEMBALKU_REFUSED_TEXT_SIZE = 16,
-    /* The output buffer is shorter than the answer: the display's program must lend more. */
     TEMBALKU_REFUSED_OUTPUT_SIZE = 17,
-    /* A list of rows names a row that isn't there, or doesn't rise: correct the program that builds the result. */
     TEMBALKU_REFUSED_BUILDER_ROW = 18,
-    /* There are not as many values as rows in the list: correct the program that builds the result. */
     TEMBALKU_REFUSED_BUILDER_LENGTH = 19,
-    /* A row is given a second time: correct the program that builds the result. */
     TEMBALKU_REFUSED_BUILDER_HELD = 20,
-    /* A whole result comes after a part, or something comes after a whole: correct the program that builds the result. */
     TEMBALKU_REFUSED_BUILDER_WHOLE = 21
 };
 
@@ -132,7 +121,7 @@ uint32_t tembalku_table_read(const uint8_t *table, size_t table_len);
  *
  * The answer stands at the front of `output`. It is one column in the layout of a table's (tag 2, 3, 5 for text, 4): its type is the
  * result's, its nullable byte the rule's nullability, its tag 3 empty if it holds no null. It has an entry for each row of the table, in
- * the table's order: what document 01 says of the rule at that row. Spare bits and values under nulls are zero, texts under nulls empty.
+ * the table's order: what the rule gives at that row (docs/FORMAT.md). Spare bits and values under nulls are zero, texts under nulls empty.
  *
  * Afterwards: `work` is zero in all its work_len bytes at an answer and at 15 to 17, and untouched at 1 to 14. `output` is untouched
  * behind an answer, and all of it at a refusal. */
@@ -140,6 +129,196 @@ size_t tembalku_evaluate(const uint8_t *rule, size_t rule_len,
                          const uint8_t *table, size_t table_len,
                          uint8_t *work, size_t work_len,
                          uint8_t *output, size_t output_len);
+
+/* ---- Helpers: reading an answer, and the sentence of a refusal. Not proved. ---- */
+
+/* What a refusal means and what to do about it, as docs/REFUSALS.md has it; empty for a number that is no refusal. */
+static inline const char *tembalku_refusal_sentence(uint32_t number) {
+    switch (number) {
+    case TEMBALKU_REFUSED_RULE_SIZE:
+        return "The rule is empty or has more than 4,096 bytes: send it again, or write a shorter one.";
+    case TEMBALKU_REFUSED_RULE_CUT:
+        return "The rule is cut off, or one of its parts claims more bytes than there are: make the file again.";
+    case TEMBALKU_REFUSED_RULE_CONTENT:
+        return "The rule holds a byte that means nothing at its place, or bytes too many: make the file again with a tool that writes this layout.";
+    case TEMBALKU_REFUSED_RULE_DEPTH:
+        return "The rule is nested too deep: at most 8 levels, and at most 3 CASEs inside each other; write it flatter.";
+    case TEMBALKU_REFUSED_CASE_EMPTY:
+        return "A CASE has no WHEN: give it at least one.";
+    case TEMBALKU_REFUSED_CASE_BRANCHES:
+        return "A CASE has more than 32 WHENs: move some of them into a CASE in its ELSE.";
+    case TEMBALKU_REFUSED_RULE_TYPES:
+        return "Types don't go together, or a column is named in two ways: cast one side to the other's type, and mark a column alike each time.";
+    case TEMBALKU_REFUSED_CONSTANT_CAST:
+        return "A cast of a constant doesn't fit, wherever in the rule it stands: correct the constant, or use a try-cast.";
+    case TEMBALKU_REFUSED_TABLE_FIELDS:
+        return "The table is empty, too long, cut off or out of order: the display's program must write it anew.";
+    case TEMBALKU_REFUSED_TABLE_SIZE:
+        return "There are more than 512 targets or 16 columns: hand over fewer at a time.";
+    case TEMBALKU_REFUSED_TABLE_CONTENT:
+        return "A column's type, mark, length or offset is wrong: the display's program must write the table anew.";
+    case TEMBALKU_REFUSED_TABLE_NULL:
+        return "A column that is marked as never null holds a null: mark it nullable, or fill the value in.";
+    case TEMBALKU_REFUSED_FIT:
+        return "The rule was made for other columns than the table has: make it with this display's columns, types and null marks.";
+    case TEMBALKU_REFUSED_WORK_SIZE:
+        return "The work buffer has fewer than 65,536 bytes: the display's program must lend more.";
+    case TEMBALKU_REFUSED_CAST:
+        return "A target's value doesn't fit the type that the rule casts it to: use a try-cast, which gives null, or test the value in an earlier WHEN.";
+    case TEMBALKU_REFUSED_TEXT_SIZE:
+        return "The classes' texts have more than 65,535 bytes in all: use shorter texts, or fewer targets at a time.";
+    case TEMBALKU_REFUSED_OUTPUT_SIZE:
+        return "The output buffer is shorter than the answer: the display's program must lend more.";
+    case TEMBALKU_REFUSED_BUILDER_ROW:
+        return "A list of rows names a row that isn't there, or doesn't rise: correct the program that builds the result.";
+    case TEMBALKU_REFUSED_BUILDER_LENGTH:
+        return "There are not as many values as rows in the list: correct the program that builds the result.";
+    case TEMBALKU_REFUSED_BUILDER_HELD:
+        return "A row is given a second time: correct the program that builds the result.";
+    case TEMBALKU_REFUSED_BUILDER_WHOLE:
+        return "A whole result comes after a part, or something comes after a whole: correct the program that builds the result.";
+    default:
+        return "";
+    }
+}
+
+/* The number of a table's rows; 0 if the table is refused. */
+static inline size_t tembalku_table_rows(const uint8_t *table, size_t table_len) {
+    uint32_t said = tembalku_table_read(table, table_len);
+    return said < TEMBALKU_TABLE_ACCEPTED ? 0 : said - TEMBALKU_TABLE_ACCEPTED;
+}
+
+/* An answer whose bytes tembalku_answer_read has looked at. It points into them and owns nothing. */
+struct tembalku_answer {
+    int type;                /* a value of tembalku_type; 0 if the bytes were no answer */
+    int nullable;            /* the answer's nullable byte */
+    size_t rows;             /* its entries are those of rows 0 to rows - 1 */
+    const uint8_t *validity; /* a bit for each row, or NULL if no entry is null */
+    const uint8_t *offsets;  /* rows + 1 offsets of four bytes, for text only, else NULL */
+    const uint8_t *values;
+};
+
+/* A little-endian number of at most eight bytes. */
+static inline uint64_t tembalku_number(const uint8_t *at, size_t bytes) {
+    uint64_t number = 0;
+    while (bytes > 0) number = number << 8 | at[--bytes];
+    return number;
+}
+
+/* The bit of a row in a bitmap. */
+static inline int tembalku_bit(const uint8_t *map, size_t row) { return map[row / 8] >> (row % 8) & 1; }
+
+/* The content of the field of a tag at the place *at, its length in *content_len and *at moved behind it; NULL if there is none. */
+static inline const uint8_t *tembalku_field(const uint8_t *bytes, size_t bytes_len, size_t *at, uint8_t tag, size_t *content_len) {
+    size_t place = *at;
+    if (bytes_len - place < 3 || bytes[place] != tag) return NULL;
+    *content_len = (size_t)tembalku_number(bytes + place + 1, 2);
+    if (bytes_len - place - 3 < *content_len) return NULL;
+    *at = place + 3 + *content_len;
+    return bytes + place + 3;
+}
+
+/* The offsets of `rows` texts begin at 0, never fall and end at text_len. */
+static inline int tembalku_offsets_rise(const uint8_t *offsets, size_t rows, size_t text_len) {
+    size_t row;
+    if (tembalku_number(offsets, 4) != 0) return 0;
+    for (row = 0; row < rows; row++) {
+        if (tembalku_number(offsets + 4 * row, 4) > tembalku_number(offsets + 4 * row + 4, 4)) return 0;
+    }
+    return tembalku_number(offsets + 4 * rows, 4) == text_len;
+}
+
+/* The length of tag 4 for a type of numbers or Booleans. */
+static inline size_t tembalku_values_len(int type, size_t rows) {
+    return type == TEMBALKU_BOOLEAN ? (rows + 7) / 8 : type == TEMBALKU_INT32 ? 4 * rows : 8 * rows;
+}
+
+/* The parts of an answer behind its tag 2; 0 if they aren't as docs/FORMAT.md lists them. */
+static inline int tembalku_answer_parts(struct tembalku_answer *answer, const uint8_t *bytes, size_t bytes_len, size_t at) {
+    size_t validity_len = 0, offsets_len = 0, values_len = 0, rows = answer->rows;
+    const uint8_t *validity = tembalku_field(bytes, bytes_len, &at, 3, &validity_len);
+    if (validity == NULL || (validity_len != 0 && validity_len != (rows + 7) / 8)) return 0;
+    answer->validity = validity_len == 0 ? NULL : validity;
+    if (answer->type == TEMBALKU_UTF8) {
+        answer->offsets = tembalku_field(bytes, bytes_len, &at, 5, &offsets_len);
+        if (answer->offsets == NULL || offsets_len != 4 * (rows + 1)) return 0;
+    }
+    answer->values = tembalku_field(bytes, bytes_len, &at, 4, &values_len);
+    if (answer->values == NULL || at != bytes_len) return 0;
+    if (answer->type == TEMBALKU_UTF8) return tembalku_offsets_rise(answer->offsets, rows, values_len);
+    return values_len == tembalku_values_len(answer->type, rows);
+}
+
+/* Looks at an answer: the bytes at the front of the output, of the length that tembalku_evaluate gave (what it said less TEMBALKU_ANSWERED),
+ * and the number of the table's rows, which the answer itself doesn't have. Gives 1, or 0 if the bytes are no answer for so many rows;
+ * then it has no rows and type 0. Takes any bytes. */
+static inline int tembalku_answer_read(struct tembalku_answer *answer, const uint8_t *bytes, size_t bytes_len, size_t rows) {
+    const struct tembalku_answer none = {0, 0, 0, NULL, NULL, NULL};
+    size_t at = 0, head_len = 0;
+    const uint8_t *head = tembalku_field(bytes, bytes_len, &at, 2, &head_len);
+    *answer = none;
+    if (rows > TEMBALKU_ROWS_MOST || head == NULL || head_len != 2) return 0;
+    if (head[0] < TEMBALKU_BOOLEAN || head[0] > TEMBALKU_UTF8 || head[1] > 1) return 0;
+    answer->type = head[0];
+    answer->nullable = head[1];
+    answer->rows = rows;
+    if (tembalku_answer_parts(answer, bytes, bytes_len, at)) return 1;
+    *answer = none;
+    return 0;
+}
+
+/* The entry of a row is null. So is that of a row that the answer doesn't have. */
+static inline int tembalku_answer_is_null(const struct tembalku_answer *answer, size_t row) {
+    return row >= answer->rows || (answer->validity != NULL && !tembalku_bit(answer->validity, row));
+}
+
+/* The answer has the type, and a value at the row. */
+static inline int tembalku_answer_has(const struct tembalku_answer *answer, int type, size_t row) {
+    return answer->type == type && !tembalku_answer_is_null(answer, row);
+}
+
+/* The value of a row's entry: 0, false or empty where it is null or of another type. */
+static inline int tembalku_answer_boolean(const struct tembalku_answer *answer, size_t row) {
+    return tembalku_answer_has(answer, TEMBALKU_BOOLEAN, row) && tembalku_bit(answer->values, row);
+}
+
+static inline int32_t tembalku_answer_int32(const struct tembalku_answer *answer, size_t row) {
+    int32_t value = 0;
+    if (tembalku_answer_has(answer, TEMBALKU_INT32, row)) {
+        uint32_t bits = (uint32_t)tembalku_number(answer->values + 4 * row, 4);
+        memcpy(&value, &bits, sizeof value);
+    }
+    return value;
+}
+
+static inline int64_t tembalku_answer_int64(const struct tembalku_answer *answer, size_t row) {
+    int64_t value = 0;
+    if (tembalku_answer_has(answer, TEMBALKU_INT64, row)) {
+        uint64_t bits = tembalku_number(answer->values + 8 * row, 8);
+        memcpy(&value, &bits, sizeof value);
+    }
+    return value;
+}
+
+static inline double tembalku_answer_float64(const struct tembalku_answer *answer, size_t row) {
+    double value = 0;
+    if (tembalku_answer_has(answer, TEMBALKU_FLOAT64, row)) {
+        uint64_t bits = tembalku_number(answer->values + 8 * row, 8);
+        memcpy(&value, &bits, sizeof value);
+    }
+    return value;
+}
+
+/* The text's first byte, and its length in *text_len. No byte of zero ends it. It stands in the answer's bytes. */
+static inline const uint8_t *tembalku_answer_text(const struct tembalku_answer *answer, size_t row, size_t *text_len) {
+    size_t from, to;
+    *text_len = 0;
+    if (!tembalku_answer_has(answer, TEMBALKU_UTF8, row)) return (const uint8_t *)"";
+    from = (size_t)tembalku_number(answer->offsets + 4 * row, 4);
+    to = (size_t)tembalku_number(answer->offsets + 4 * row + 4, 4);
+    *text_len = to - from;
+    return answer->values + from;
+}
 
 #ifdef __cplusplus
 }

@@ -1,6 +1,6 @@
 #!/bin/sh
 # build_examples.sh [LIBRARY]: builds the examples in C and Rust with the static library, runs them and compares what they print.
-# Without LIBRARY it is made by `rt staticlib tembalku`.
+# Without LIBRARY it is made by `rt staticlib tembalku`. Without rustc the example in Rust is left out, and a line says so.
 set -eu
 [ $# -eq 0 ] || library=$(realpath "$1")
 cd "$(dirname "$0")/.."
@@ -11,10 +11,16 @@ fi
 scratch=$(mktemp -d)
 trap 'rm -rf "$scratch"' EXIT
 
-gcc -std=c99 -O2 -Wall -Wextra -I include examples/c/example.c "$library" -o "$scratch/c"
-rustc --edition 2021 -O examples/rust/example.rs -C link-arg="$library" -o "$scratch/rust"
-for kind in c rust; do
-    "$scratch/$kind" > "$scratch/$kind.txt" || true
+kinds=c
+gcc -std=c99 -O2 -Wall -Wextra -Wpedantic -Werror -I include examples/c/example.c "$library" -o "$scratch/c"
+if command -v rustc > /dev/null; then
+    rustc --edition 2021 -O -D warnings examples/rust/example.rs -C link-arg="$library" -o "$scratch/rust"
+    kinds="c rust"
+else
+    echo "examples/rust: not built: rustc isn't there"
+fi
+for kind in $kinds; do
+    "$scratch/$kind" > "$scratch/$kind.txt" || { cat "$scratch/$kind.txt"; echo "examples/$kind: failed"; exit 1; }
     diff "examples/$kind/expected.txt" "$scratch/$kind.txt"
     echo "examples/$kind: as expected"
 done

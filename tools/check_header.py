@@ -1,0 +1,176 @@
+#!/usr/bin/env python3
+"""check_header.py [ROOT]: compares include/tembalku.h and docs/REFUSALS.md with the specifications and the code.
+
+Compared: the refusals' numbers and sentences, the limits, the types, the strategies, what answers count from, the functions and their
+arguments, the version, and the numbers that docs/FORMAT.md and the example in Rust repeat. Prints each difference, and how much was
+compared; fails where there is a difference, or where something to compare isn't found.
+"""
+import os
+import re
+import sys
+
+ROOT = sys.argv[1] if len(sys.argv) > 1 else os.path.dirname(os.path.dirname(os.path.abspath(__file__)))
+
+
+def text(path):
+    with open(os.path.join(ROOT, path), encoding="utf-8") as f:
+        return f.read()
+
+
+def found(pattern, path):
+    """The one place of a pattern in a file: its groups, or its only group."""
+    places = re.findall(pattern, text(path), re.M)
+    if len(places) != 1:
+        sys.exit(f"{path}: {len(places)} places instead of one: {pattern}")
+    return places[0]
+
+
+def number(word):
+    return int(word.replace(",", ""))
+
+
+def spec_number(path, name):
+    """The number of a definition `name = number`."""
+    return int(found(rf"^{name} = (\d+)$", f"crates/{path}"))
+
+
+def spec_list(path, name):
+    """The numbers of a definition `name = 1 ∷ 2 ∷ []`."""
+    return [int(n) for n in re.findall(r"(\d+) ∷", found(rf"^{name} = ((?:\d+ ∷ )+)\[\]$", f"crates/{path}"))]
+
+
+def numbered(function, path):
+    """The equations `function Name = number` of a definition."""
+    return {name: int(n) for name, n in re.findall(rf"^{function} (\w+) = (\d+)$", text(path), re.M)}
+
+
+def upper(name):
+    """NoExpression: NO_EXPRESSION; Utf8: UTF8."""
+    return re.sub(r"(?<=[a-z])(?=[A-Z])", "_", name).upper()
+
+
+# ---- the header ----
+
+HEADER = "include/tembalku.h"
+
+
+def macro(name):
+    return int(found(rf"^#define TEMBALKU_{name} (\d+)u?$", HEADER))
+
+
+def enum(name):
+    """The constants of an enum, without their prefix."""
+    body = found(rf"^enum tembalku_{name} \{{\n((?:.*\n)*?)\}};$", HEADER)
+    return {constant: int(n) for constant, n in re.findall(r"TEMBALKU_(\w+) = (\d+)", body)}
+
+
+def header_sentences():
+    """The sentence of each refusal, by its number."""
+    numbers = enum("refusal")
+    cases = re.findall(r'case TEMBALKU_(\w+):\n\s+return "(.*)";$', text(HEADER), re.M)
+    return {numbers.get(name, name): sentence for name, sentence in cases}
+
+
+def header_functions():
+    """Name, result and arguments of each function that isn't inline."""
+    declared = re.findall(r"^(uint32_t|size_t) (tembalku_\w+)\(([^;{]*)\);$", text(HEADER), re.M)
+    return {name: (result, re.sub(r"\s+", " ", arguments)) for result, name, arguments in declared}
+
+
+def header_refusals():
+    """The refusals `refusal (1 to 8)` that a function's comment names."""
+    commented = re.findall(r"/\*((?:(?!\*/)[\s\S])*)\*/\n(?:uint32_t|size_t) (tembalku_\w+)\(", text(HEADER))
+    return {name: set(re.findall(r"refusal \((\d+) to (\d+)\)", comment)) for comment, name in commented}
+
+
+# ---- the code ----
+
+RESULTS = {"u32": "uint32_t", "usize": "size_t"}
+SLICES = {"&[u8]": "const uint8_t *{0}, size_t {0}_len", "&mut [u8]": "uint8_t *{0}, size_t {0}_len"}
+
+
+def code_functions():
+    """The same of the library's exported functions, in C's words."""
+    exported = re.findall(r'^pub extern "C" fn (\w+)\(([^)]*)\) -> (\w+)', text("crates/tembalku/src/lib.rt"), re.M)
+    out = {}
+    for name, arguments, result in exported:
+        pairs = re.findall(r"(\w+): (&(?:mut )?\[u8\])", arguments)
+        out[name] = (RESULTS[result], ", ".join(SLICES[kind].format(argument) for argument, kind in pairs))
+    return out
+
+
+# ---- what is compared: (what it is, in the header, elsewhere) ----
+
+def refusals():
+    rows = re.findall(r"^\| (\d+) \| (.*?) \| .* \| (.*?) \|$", text("docs/REFUSALS.md"), re.M)
+    paper = {int(n): sentence for n, _, sentence in rows}
+    path = "layout/specs/Refusals.antt"
+    of_rule, of_table, of_run = (spec_list(path, name + "Refusals") for name in ("rule", "table", "evaluation"))
+    of_builder = spec_list(path, "builderRefusals")
+    numbers = of_rule + of_table + of_run + [n for n in of_builder if n not in of_table]
+    yield "the refusals' numbers", sorted(enum("refusal").values()), numbers
+    yield "the numbers of docs/REFUSALS.md", sorted(enum("refusal").values()), [int(n) for n, _, _ in rows]
+    for n in sorted(set(paper) | set(header_sentences()), key=str):
+        yield f"the sentence of refusal {n}", header_sentences().get(n), paper.get(n)
+    for about, specified in (("rule", of_rule), ("table", of_table), ("builder", of_builder[1:])):
+        yield f"docs/REFUSALS.md: about the {about}", [int(n) for n, a, _ in rows if a == about], specified
+    for name in header_functions():
+        which = of_table if "table" in name else of_rule if "rule" in name else of_rule + of_table + of_run
+        yield f"{name}: its refusals", header_refusals().get(name), {(str(which[0]), str(which[-1]))}
+
+
+def limits():
+    """The limits by the specifications."""
+    rows, texts = spec_number("table/specs/Reading.antt", "rowsMost"), spec_number("writer/specs/Written.antt", "textMost")
+    longest = (3 + 2) + (3 + (rows + 7) // 8) + (3 + 4 * (rows + 1)) + (3 + texts)
+    return {
+        "RULE_MOST": int(found(r"require \(ltb 0 \(length bytes\) && leb \(length bytes\) (\d+)\) 1$", "crates/rule/specs/Reading.antt")),
+        "TABLE_MOST": spec_number("table/specs/Reading.antt", "bytesMost"),
+        "ROWS_MOST": rows,
+        "COLUMNS_MOST": spec_number("table/specs/Reading.antt", "columnsMost"),
+        "BRANCHES_MOST": int(found(r"require \(leb count (\d+)\) 6$", "crates/rule/specs/Reading.antt")),
+        "WORK_BYTES": spec_number("case/specs/Run.antt", "workLeast"),
+        "OUTPUT_MOST": longest,
+        "PROJECTION_MOST": int(found(r"^Bytes l = .* < (\d+)$", "crates/layout/specs/Bytes.antt")),
+    }
+
+
+def numbers():
+    for name, limit in limits().items():
+        yield f"TEMBALKU_{name}", macro(name), limit
+    for name, codes in (("RULE_ACCEPTED", ("rule", "strategy", "nullable", "projection")), ("TABLE_ACCEPTED", ("table",)), ("ANSWERED", ("run",))):
+        for code in codes:
+            yield f"TEMBALKU_{name}, {code}Code", macro(name), int(found(rf"^{code}Code \(ok \w+\) = (\d+) \+", "crates/tembalku/specs/Codes.antt"))
+    yield "the types", enum("type"), {upper(name): n for name, n in numbered("typeNumber", "crates/scalar/specs/Types.antt").items()}
+    yield "the strategies", enum("strategy"), {upper(name): n for name, n in numbered("strategyNumber", "crates/rule/specs/Strategy.antt").items()}
+    yield "the functions", header_functions(), code_functions()
+    version = ".".join(str(macro(f"VERSION_{part}")) for part in ("MAJOR", "MINOR", "PATCH"))
+    yield "the version", found(r'^#define TEMBALKU_VERSION "(.*)"$', HEADER), version
+
+
+def elsewhere():
+    """The numbers that other files repeat."""
+    for name in ("WORK_BYTES", "OUTPUT_MOST"):
+        yield f"examples/rust: {name}", macro(name), int(found(rf"^const {name}: usize = (\d+);$", "examples/rust/example.rs"))
+    page = text("docs/FORMAT.md")
+    rows = {name: number(n) for n, name in re.findall(r"^\| .* \| ([\d,]+) \| .* \| `TEMBALKU_(\w+)` \|$", page, re.M)}
+    yield "the limits of docs/FORMAT.md", {name: macro(name) for name in limits()}, rows
+    types = {upper(name): int(n) for n, name in re.findall(r"^\| (\d) \| ([A-Z]\w+) \|", page, re.M)}
+    yield "the types of docs/FORMAT.md", enum("type"), types
+    strategies = {upper(name): int(n) for n, name in re.findall(r"^\| (\d) \| `(\w+)` \|", page, re.M)}
+    yield "the strategies of docs/FORMAT.md", enum("strategy"), strategies
+    tags = [int(n) for n in re.findall(r"^\| (1[6-9]|2\d) \| ", page, re.M)]
+    yield "the tags of docs/FORMAT.md", list(numbered("tagOf", "crates/rule/specs/Reading.antt").values()), tags
+    said = {name: {(low, high)} for name, low, high in re.findall(r"^\| `(tembalku_\w+)` \| (\d+) to (\d+) \|", page, re.M)}
+    yield "the functions' refusals in docs/FORMAT.md", header_refusals(), said
+
+
+def main():
+    compared = [*refusals(), *numbers(), *elsewhere()]
+    differ = [f"{what}: {ours}, but {theirs}" for what, ours, theirs in compared if ours != theirs]
+    print("\n".join(differ + [f"{len(compared)} things of the header compared, {len(differ)} differ"]))
+    return 1 if differ else 0
+
+
+if __name__ == "__main__":
+    sys.exit(main())
