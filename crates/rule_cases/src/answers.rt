@@ -10,20 +10,10 @@ use rule::answer::projection;
 use rule::answer::read;
 use rule::answer::strategy;
 use rule::strategy::Strategy;
-use scalar::types::DataType;
+use rule::types::type_number;
 
 // The bytes stored before the columns.
 pub(crate) const FACTS: usize = 5;
-
-fn type_number(t: DataType) -> u8 {
-    match t {
-        DataType::Boolean => 1,
-        DataType::Int32 => 2,
-        DataType::Int64 => 3,
-        DataType::Float64 => 4,
-        DataType::Utf8 => 5,
-    }
-}
 
 fn strategy_number(s: Strategy) -> u8 {
     match s {
