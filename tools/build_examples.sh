@@ -8,12 +8,13 @@ if [ $# -eq 0 ]; then
     rt staticlib tembalku > /dev/null
     library=$(realpath target/staticlib/libtembalku.a)
 fi
+PATH=$PATH:${HOME:-}/.cargo/bin    # where rustup puts rustc
 scratch=$(mktemp -d)
 trap 'rm -rf "$scratch"' EXIT
 
 kinds=c
 gcc -std=c99 -O2 -Wall -Wextra -Wpedantic -Werror -I include examples/c/example.c "$library" -o "$scratch/c"
-if command -v rustc > /dev/null; then
+if rustc --version > /dev/null 2>&1; then
     rustc --edition 2021 -O -D warnings examples/rust/example.rs -C link-arg="$library" -o "$scratch/rust"
     kinds="c rust"
 else
