@@ -2,6 +2,7 @@
 """test_casetext_check.py: tests of casetext.py's check, make and show without the library: the sentences of refusals, files that can't
 be taken, SQL typed by mistake, names of columns, and the picture. Run by test_casetext.py."""
 import os
+import subprocess
 import sys
 import tempfile
 import unittest
@@ -12,6 +13,7 @@ sys.dont_write_bytecode = True
 sys.path.insert(0, os.path.dirname(os.path.abspath(__file__)))
 from dealer.evaluation import Evaluation  # noqa: E402
 from dealer.plan import drawn, point, ring_step  # noqa: E402
+from dealer.reading import Refused, read_answer  # noqa: E402
 from dealer.rows import at_row, row_of  # noqa: E402
 from dealer.source import Source  # noqa: E402
 from dealer.text import parse  # noqa: E402
@@ -19,6 +21,7 @@ from dealer.tree import type_of  # noqa: E402
 from dealer.words import sql  # noqa: E402
 from test_casetext import run  # noqa: E402
 
+TOOL = os.path.join(os.path.dirname(os.path.abspath(__file__)), "casetext.py")
 HEAD = "rows 3\ncolumn speed int32 null 4 null 9\ncolumn far int64 3000000000 5 6\nrule\n"
 # CASE WHEN NOT 5 THEN 1 END, which is 7
 UNTYPED = bytes.fromhex("191700" "0001" "120900" "110600020005000000" "110600020001000000")
@@ -93,9 +96,9 @@ class Refusals(InFolder):
     def test_limits(self):
         self.each([
             (HEAD + OK.replace("(int32 1)", f"(utf8 \"{'a' * 4100}\")"), "the rule has 4116 bytes: at most 4096, 1"),
-            (HEAD + nested(4), "line 5: a CASE inside of 3 others: at most 3 in all, 4"),
-            (when("(not " * 7 + "\n(boolean true)" + ")" * 7), "line 7: nested more than 8 deep, 4"),
-            (HEAD + "(case\n (else (int32 1)))", "line 5: a CASE without a WHEN, 5"),
+            (HEAD + nested(4), "line 5: a CASE inside of 3 others: at most 3 in all, 4 (CASE WHEN true THEN 1 END)"),
+            (when("(not " * 7 + "\n(boolean true)" + ")" * 7), "line 7: nested more than 8 deep, 4 (true)"),
+            (HEAD + "(case\n (else (int32 1)))", "line 5: a CASE without a WHEN, 5 (CASE ELSE 1 END)"),
             (HEAD + "(case" + "\n (when (boolean true) (then (int32 1)))" * 33 + ")", "line 5: 33 branches: at most 32, 6"),
             ("rows 600\ncolumn a int32" + " 1" * 600 + "\nrule " + OK, "600 rows: at most 512, 10"),
             ("rows 70000\nrule " + OK, "70000 rows: at most 512, 10"),
@@ -131,7 +134,7 @@ class Refusals(InFolder):
         rule = self.write("rule.txt", "rule\n(case\n (when (less (col speed) (int32 5)) (then (int32 1))))")
         table = self.write("table.txt", "rows 1\ncolumn other utf8 \"a\"\ncolumn speed int32 4")
         self.assertEqual(run("check", rule, table)[0], 0)
-        self.assertEqual(run("check", rule), (1, "", f"{rule}: line 3: no column speed: there is no table\n"))
+        self.assertEqual(run("check", rule), (1, "", f"{rule}: line 3: no column speed: there is no table before the rule\n"))
         self.write("table.txt", "rows 1\ncolumn speed int64 4")
         self.assertEqual(run("check", rule, table)[2], f"{rule}: line 3: int64 < int32: types don't go together, 7 (speed < 5)\n")
         self.write("table.txt", "rows 1\ncolumn speed int32 null")
@@ -190,6 +193,22 @@ class Files(InFolder):
         code, out, err = run("run", path, "--library", missing)
         self.assertEqual((code, out), (1, ""))
         self.assertIn("can't be linked", err)
+        for source, said in (("int nothing;", "isn't this library: it has no function tembalku_rule_read"),
+                             ("int missing(void); int tembalku_rule_read(void) { return missing(); }", "can't be loaded: undefined symbol: missing")):
+            self.assertEqual(run("run", path, "--library", archive(self.folder, source)), (1, "", f"{missing}: {said}\n"))
+
+    def test_odd_name(self):
+        """A name that is no UTF-8 is printed somehow."""
+        path = self.write(os.fsdecode(b"a\xff.txt"), when("(boolean true)"))
+        code, out, _ = run("check", path)
+        self.assertEqual(code, 0)
+        self.assertIn("a\\udcff.txt: accepted", out)
+
+    def test_not_printed(self):
+        path = self.write("a.txt", when("(boolean true)"))
+        with open("/dev/full", "wb") as full:
+            done = subprocess.run([sys.executable, TOOL, "check", path], stdout=full, stderr=subprocess.PIPE, text=True, check=False)
+        self.assertEqual((done.returncode, done.stderr), (1, "can't be printed: No space left on device\n"))
 
     def test_parts_missing(self):
         rule = self.write("rule.txt", "rule " + OK)
@@ -200,12 +219,36 @@ class Files(InFolder):
         self.assertEqual(run("check", rule, rule)[2], f"{rule}: there is no table in it\n")
 
 
+def archive(folder, source):
+    """A static library of a source in C."""
+    names = [os.path.join(folder, "lib" + end) for end in (".c", ".o", ".a")]
+    with open(names[0], "w", encoding="ascii") as f:
+        f.write(source)
+    if os.path.exists(names[2]):
+        os.remove(names[2])
+    subprocess.run(["gcc", "-fPIC", "-c", names[0], "-o", names[1]], check=True)
+    subprocess.run(["ar", "rcs", names[2], names[1]], check=True)
+    return names[2]
+
+
+# a library whose evaluation writes sevens and says a number, and whose tables have so many rows
+SEVENS = """#include <string.h>
+unsigned tembalku_rule_read(const char *rule, size_t len) {{ return rule && len ? 258 : 1; }}
+unsigned tembalku_table_read(const char *table, size_t len) {{ return table && len ? {rows} : 9; }}
+size_t tembalku_evaluate(const char *r, size_t rl, const char *t, size_t tl, char *w, size_t wl, char *o, size_t ol) {{
+    memset(o, 7, ol);
+    return r && t && w && rl + tl + wl ? {said} : 1;
+}}
+"""
+
+
 class Disagreeing(InFolder):
     def test_loud(self):
         """A library that says something else than the rule read row by row: exit status 3, both answers, and no table of classes."""
         path = self.write("a.txt", when("(less (col speed) (int32 5))"))
         for said, words in [((None, (2, [1, None, 1])), "row 2: the library says 1, the rule read row by row says null"),
                             ((None, (5, [b"a", None, None])), "the library's answer has type 5, the rule's result 2"),
+                            ((None, (2, [1, None])), "the library's answer has 2 entries for 3 rows"),
                             ((15, None), "the library refuses with 15, but the check finds nothing to refuse")]:
             code, out, err = self.with_library(said, "run", path)
             self.assertEqual((code, out), (3, ""))
@@ -215,6 +258,21 @@ class Disagreeing(InFolder):
         self.assertEqual((code, out), (3, ""))
         self.assertIn("the library answers, but the check says: ", err)
         self.assertEqual(self.with_library((7, None), "run", path)[0], 1)
+
+    def test_no_answer(self):
+        """A library that gives bytes that are no answer, or numbers that mean nothing."""
+        path = self.write("a.txt", when("(less (col speed) (int32 5))"))
+        for rows, said, words in [(65539, 65546, "the field runs past its end"), (65539, 65536, "a field is missing or cut"),
+                                  (65539, 300, "a field is missing or cut"), (9, 65546, "the field runs past its end"),
+                                  (65539, 200000, "tag 7 where 2 is expected")]:
+            code, out, err = run("run", path, "--library", archive(self.folder, SEVENS.format(rows=rows, said=said)))
+            self.assertEqual((code, out, err.splitlines()), (3, "", [LOUD, f"what the library gives is no answer: byte 0: {words}"]))
+
+    def test_answer_and_more(self):
+        """An answer is one column and nothing else."""
+        answer = bytes.fromhex("0202000200" "030000" "04040005000000")
+        self.assertEqual(read_answer(answer, 1), (2, [5]))
+        self.assertRaises(Refused, read_answer, answer + b"\0", 1)
 
     def with_library(self, said, *args):
         """Runs a command with a library that says one thing."""
@@ -265,7 +323,10 @@ class Mistakes(InFolder):
                  "`rows 8`, a rule with `rule`"),
                 ("rows 1\ncolumn a int32 5\n(case)", "line 3: ( is no int32: is the line `rule` missing before it?"),
                 ('rows 1\ncolumn a utf8 "boat\n"', "line 2: can't read '\"boat': a text has a quote at both ends, in one line"),
-                ("rows 1\ncolumn a\u00a0int32 5", "line 2: can't read '\\xa0int32 5'"),
+                ("rows 1\ncolumn a\u00a0int32 5", "line 2: can't read '\\xa0int32 5': put a plain blank for the first character"),
+                ("rows 1\n\fcolumn a int32 5", "line 2: can't read '\\x0ccolumn a ': put a plain blank for the first character"),
+                ("rule " + OK + "\nrows 0", "line 2: rows behind the rule: the table stands before the rule"),
+                ("rule " + OK + "\n(int32 1)", "line 2: ( behind the rule: its last bracket stands before it"),
                 ("rows 1\ncolumn a float64 5,5", "line 2: 5,5 is no float64: a number has a point, not a comma, and is float64 then"),
                 (HEAD + "(case (when (boolean true)\n(int32 1)))",
                  "line 6: int32 where then is expected: a result stands in brackets of its own, (then E)"),

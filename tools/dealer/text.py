@@ -61,14 +61,19 @@ def load_text(path):
         raise FileError(f"{path}: line {line}: not UTF-8: save the file as UTF-8") from None
 
 
+def unreadable(rest):
+    """Only a quote that isn't closed and a blank that isn't plain begin no token."""
+    quote = rest.startswith('"')
+    return f"can't read {rest!r}: " + ("a text has a quote at both ends, in one line" if quote else "put a plain blank for the first character")
+
+
 def tokens(text):
     """Pairs of a token and its line; the last is the empty token."""
     out, at, line = [], 0, 1
     while at < len(text):
         m = TOKEN.match(text, at)
         if not m:
-            quote = ": a text has a quote at both ends, in one line" if '"' in text[at:at + 2] else ""
-            raise TextError(line, f"can't read {text[at:at + 10].splitlines()[0]!r}{quote}")
+            raise TextError(line, unreadable(text[at:at + 10].split("\n")[0]))
         if m.group("end"):
             line += 1
         elif m.lastgroup:
@@ -192,7 +197,8 @@ class Parser:
         if token and e is None:
             raise TextError(line, f"{token} where column or rule is expected{hint(token)}")
         if token:
-            raise TextError(line, f"{token} behind the rule: its last bracket stands before it")
+            why = "the table stands before the rule" if token in ("rows", "column") else "its last bracket stands before it"
+            raise TextError(line, f"{token} behind the rule: {why}")
         return e, None if self.rows is None else (self.rows, self.columns)
 
     def table(self):
@@ -278,7 +284,7 @@ class Parser:
             index = int(name)
         if index is None:
             there = ", ".join(c[0] for c in columns)
-            raise TextError(line, f"no column {name or 'before the end'}" + (f": there are {there}" if there else ": there is no table"))
+            raise TextError(line, f"no column {name or 'before the end'}" + (f": there are {there}" if there else ": there is no table before the rule"))
         if self.peek() != ")":
             return ("col", index, self.kind(), self.mark())
         if index >= len(columns):
