@@ -413,7 +413,16 @@ static void test_no_entries(void) {
     struct tembalku_answer a;
     CHECK(tembalku_answer_read(&a, boolean.bytes, boolean.len, 0) && a.type == 1 && a.nullable == 1, "no Booleans", 0);
     touch(&a);
-    CHECK(tembalku_answer_read(&a, text.bytes, text.len, 0) && a.type == 5 && a.nullable == 0, "no texts", 0);
+    const uint8_t *place = memcpy(at_page_end(text.len), text.bytes, text.len);
+    CHECK(tembalku_answer_read(&a, place, text.len, 0) && a.type == 5 && a.nullable == 0, "no texts", 0);
+    touch(&a);
+}
+
+/* As many rows as there can be. */
+static void test_most_rows(void) {
+    static const uint8_t most[11 + TEMBALKU_ROWS_MOST / 8] = {2, 2, 0, 1, 0, 3, 0, 0, 4, TEMBALKU_ROWS_MOST / 8, 0};
+    struct tembalku_answer a;
+    CHECK(tembalku_answer_read(&a, most, sizeof most, TEMBALKU_ROWS_MOST) && a.rows == TEMBALKU_ROWS_MOST, "an answer of rows", TEMBALKU_ROWS_MOST);
     touch(&a);
 }
 
@@ -434,6 +443,7 @@ int main(void) {
     test_no_answers();
     test_bits();
     test_no_entries();
+    test_most_rows();
     test_sentences();
     printf("%u checks of the library, %u failed\n", checks, failures);
     return failures != 0;
