@@ -123,6 +123,16 @@ class Refusals(InFolder):
         said = f"{path}: accepted: a rule of 32 bytes, whose classes are int32; a table of 3 rows and 2 columns\n"
         self.assertEqual(run("check", path), (0, said, ""))
 
+    def test_one_part(self):
+        """A rule or a table alone is checked too."""
+        rule, table = self.write("rule.txt", "rule " + OK), self.write("table.txt", "rows 1\ncolumn a int32 1")
+        self.assertEqual(run("check", rule), (0, f"{rule}: accepted: a rule of 20 bytes, whose classes are int32\n", ""))
+        self.assertEqual(run("check", table), (0, f"{table}: accepted: a table of 1 row and 1 column\n", ""))
+        self.assertEqual(self.said("rows 1\ncolumn a int32 null\n"),
+                         "line 2: column a has 0 values for 1 row; the first null is the column's mark, not a value")
+        self.assertEqual(self.said("rule (case (when (int32 1) (then (int32 1))))"),
+                         "line 1: WHEN 1 is int32, a WHEN without a base is boolean: types don't go together, 7 (1)")
+
     def test_line_ends(self):
         """Lines may end as on other systems."""
         path = self.write("a.txt", when("(less (col speed) (int32 5))").replace("\n", "\r\n"))
@@ -196,6 +206,16 @@ class Files(InFolder):
         for source, said in (("int nothing;", "isn't this library: it has no function tembalku_rule_read"),
                              ("int missing(void); int tembalku_rule_read(void) { return missing(); }", "can't be loaded: undefined symbol: missing")):
             self.assertEqual(run("run", path, "--library", archive(self.folder, source)), (1, "", f"{missing}: {said}\n"))
+
+    def test_not_built(self):
+        """Without --library the one that is built in the repository."""
+        path = self.write("a.txt", when("(boolean true)"))
+        with mock.patch("dealer.library.ROOT", self.folder):
+            self.assertEqual(run("run", path), (1, "", "the library isn't built: `rt staticlib tembalku` writes target/staticlib/libtembalku.a; "
+                                                "or name one with --library ARCHIVE\n"))
+            os.makedirs(self.path("target/staticlib"))
+            built = self.write("target/staticlib/libtembalku.a", "no archive")
+            self.assertTrue(run("run", path)[2].startswith(f"{built}: can't be linked: "))
 
     def test_odd_name(self):
         """A name that is no UTF-8 is printed somehow."""
@@ -333,6 +353,12 @@ class Mistakes(InFolder):
                 ("rule " + OK + "\nrows 0", "line 2: rows behind the rule: the table stands before the rule"),
                 ("rule " + OK + "\n(int32 1)", "line 2: ( behind the rule: its last bracket stands before it"),
                 ("rows 1\ncolumn a float64 5,5", "line 2: 5,5 is no float64: a number has a point, not a comma, and is float64 then"),
+                ("rows 3\ncolumn a int32 null 5", "line 2: column a has 1 value for 3 rows"),
+                ("rows 2\ncolumn a int32 5", "line 2: column a has 1 value for 2 rows"),
+                (HEAD + OK[:-1] + "\n(else (int32 1))\n(else (int32 2)))", "line 7: else out of place in a case: an ELSE has brackets of its own, (else E)"),
+                (HEAD + "(case\n(wenn (boolean true) (then (int32 1))))", "line 6: wenn out of place in a case"),
+                (HEAD + "(case (base (int32 1))\n(base (int32 1)))", "line 6: base out of place in a case: a base stands first in its case, once"),
+                (HEAD + "(case (when (boolean true) (then (col 256 int32))))", "line 5: no column 256: there are speed, far"),
                 (HEAD + "(case (when (boolean true)\n(int32 1)))",
                  "line 6: int32 where then is expected: a result stands in brackets of its own, (then E)"),
                 (HEAD + "(case\n(when (boolean true) (then (int32 1)))\n", "line 7: the text ends, but the bracket of line 5 isn't closed")]:
