@@ -12,6 +12,7 @@ from unittest import mock
 sys.dont_write_bytecode = True
 sys.path.insert(0, os.path.dirname(os.path.abspath(__file__)))
 from dealer.evaluation import Evaluation  # noqa: E402
+from dealer.layout import rule_bytes  # noqa: E402
 from dealer.plan import drawn, point, ring_step  # noqa: E402
 from dealer.reading import Refused, read_answer  # noqa: E402
 from dealer.rows import at_row, row_of  # noqa: E402
@@ -102,6 +103,8 @@ class Refusals(InFolder):
             (HEAD + "(case" + "\n (when (boolean true) (then (int32 1)))" * 33 + ")", "line 5: 33 branches: at most 32, 6"),
             ("rows 600\ncolumn a int32" + " 1" * 600 + "\nrule " + OK, "600 rows: at most 512, 10"),
             ("rows 70000\nrule " + OK, "70000 rows: at most 512, 10"),
+            ("rows 65536\nrule " + OK, "65536 rows: at most 512, 10"),
+            ("rows 0\n" + "".join(f"column c{i} int32\n" for i in range(257)) + "rule " + OK, "line 258: a 257th column: at most 16, 10"),
             ("rows 0\n" + "".join(f"column c{i} int32\n" for i in range(17)) + "rule " + OK, "line 18: column c16: a 17th column: at most 16, 10"),
             ("rows 600\n" + "".join(f"column c{i} int64" + " 1" * 600 + "\n" for i in range(14)) + "rule " + OK,
              "the table has 67359 bytes: at most 65536, 9")])
@@ -164,6 +167,11 @@ class Refusals(InFolder):
                          (1, "", f"{self.folder}: rule.bin: byte 5: NOT int32: types don't go together, 7 (NOT 5)\n"))
         self.write("rule.bin", b"")
         self.assertEqual(run("check", self.folder), (1, "", f"{self.folder}: rule.bin: the rule is empty, 1\n"))
+        self.write("rule.bin", rule_bytes(parse("rule " + OK)[0]))
+        for table, said in (("", "the table is empty, 9"), ("010300000000", "byte 3: a row count has 2 bytes, 9"),
+                            ("0102000000" "020300010000" "030000" "040000", "byte 8: a column's head has 2 bytes, 9")):
+            self.write("batch.bin", bytes.fromhex(table))
+            self.assertEqual(run("check", self.folder), (1, "", f"{self.folder}: batch.bin: {said}\n"))
         self.write("rule.bin", UNTYPED[:-1])
         self.assertEqual(run("check", self.folder), (1, "", f"{self.folder}: rule.bin: byte 0: the field runs past its end, 2\n"))
 
@@ -355,7 +363,9 @@ class Mistakes(InFolder):
                 ("rows 1\ncolumn a float64 5,5", "line 2: 5,5 is no float64: a number has a point, not a comma, and is float64 then"),
                 ("rows 3\ncolumn a int32 null 5", "line 2: column a has 1 value for 3 rows"),
                 ("rows 2\ncolumn a int32 5", "line 2: column a has 1 value for 2 rows"),
-                (HEAD + OK[:-1] + "\n(else (int32 1))\n(else (int32 2)))", "line 7: else out of place in a case: an ELSE has brackets of its own, (else E)"),
+                (HEAD + OK[:-1] + "\n(else (int32 1))\n(else (int32 2)))", "line 7: else out of place in a case: WHENs stand before the ELSE, of which there is one"),
+                (HEAD + "(case\n(else (int32 1))\n(when (boolean true) (then (int32 1))))",
+                 "line 7: when out of place in a case: WHENs stand before the ELSE, of which there is one"),
                 (HEAD + "(case\n(wenn (boolean true) (then (int32 1))))", "line 6: wenn out of place in a case"),
                 (HEAD + "(case (base (int32 1))\n(base (int32 1)))", "line 6: base out of place in a case: a base stands first in its case, once"),
                 (HEAD + "(case (when (boolean true) (then (col 256 int32))))", "line 5: no column 256: there are speed, far"),

@@ -7,8 +7,8 @@ import struct
 
 from dealer.layout import column_bytes, rule_bytes
 from dealer.mistakes import hint, sql_sentence
-from dealer.tree import (BOOLEAN, BRANCHES_MOST, CASTS, FLOAT64, INT32, INT64, NESTED_MOST, PLAIN, ROWS_MOST, RULE_MOST, TABLE_MOST, TYPES, UTF8,
-                         WORDS, Node, counted)
+from dealer.tree import (BOOLEAN, BRANCHES_MOST, CASTS, COLUMNS_MOST, FLOAT64, INT32, INT64, NESTED_MOST, PLAIN, ROWS_MOST, RULE_MOST, TABLE_MOST,
+                         TYPES, UTF8, WORDS, Node, counted)
 
 TOKEN = re.compile(r'[ \t\r]+|#[^\n]*|(?P<end>\n)|(?P<mark>[()])|(?P<text>x?"(?:[^"\\\n]|\\.)*")|(?P<word>[^\s()"#]+)')
 NAME = re.compile(r"[A-Za-z_][A-Za-z0-9_]*\Z")
@@ -220,7 +220,7 @@ class Parser:
         if any(c[0] == name for c in self.columns):
             raise TextError(line, f"a second column {name}")
         if len(self.columns) == 256:
-            raise TextError(line, "a rule can name 256 columns only")
+            raise TextError(line, f"a 257th column: at most {COLUMNS_MOST}, 10")
         kind, nullable, values = self.kind(), self.mark(), []
         while self.peek() not in ("column", "rule", ""):
             token, at = self.take()
@@ -308,7 +308,8 @@ class Parser:
             elif word == "else" and other is None:
                 other = self.expr(depth + 1)
             else:
-                raise TextError(at, f"{word or 'the end'} out of place in a case{hint(word)}")
+                order = ": WHENs stand before the ELSE, of which there is one" if word in ("when", "else") else hint(word)
+                raise TextError(at, f"{word or 'the end'} out of place in a case{order}")
             self.close(opened)
         if len(branches) > 255:
             raise TextError(line, f"{len(branches)} branches: at most {BRANCHES_MOST}, 6")
