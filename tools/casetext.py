@@ -61,6 +61,17 @@ from dealer.tree import CASTS, PLAIN, TYPES, WIDTHS  # noqa: E402, F401
 from dealer.words import value_text  # noqa: E402, F401
 
 
+def printed(words):
+    """Prints. A reader that ends early, as head does, is no mistake."""
+    try:
+        sys.stdout.write(words)
+        sys.stdout.flush()
+    except OSError as e:
+        os.dup2(os.open(os.devnull, os.O_WRONLY), sys.stdout.fileno())
+        if not isinstance(e, BrokenPipeError):
+            raise FileError(f"can't be printed: {e.strerror}") from None
+
+
 def write(path, data):
     try:
         with open(path, "wb") as f:
@@ -140,10 +151,10 @@ def parser():
 
 
 def main(args):
-    sys.stdout.reconfigure(encoding="utf-8", newline="\n")
+    sys.stdout.reconfigure(encoding="utf-8", errors="backslashreplace", newline="\n")
     try:
         options = parser().parse_args(args)
-        sys.stdout.write(options.call(options))
+        printed(options.call(options))
     except SystemExit as e:
         return e.code
     except (FileError, SourceRefused) as e:

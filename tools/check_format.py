@@ -4,9 +4,9 @@
 check_format.py LIBRARY --print    prints the three blocks instead
 
 The rule and the table are made from examples/targets/targets.txt as `casetext.py make` does; the answer is that of the static library.
-Every line of the three blocks is compared: the place of its first byte, the bytes, and what they say; and what the functions say of
-the example. The bytes of the page's short examples are compared with what is made of their text. Prints each difference, and fails
-where there is one.
+Every line of the three blocks is compared: the place of its first byte, the bytes, and what they say; the table's entries; and what the
+functions say of the example. The bytes of the page's short examples are compared with what is made of their text. Prints each
+difference, and fails where there is one.
 """
 import ctypes
 import os
@@ -100,6 +100,14 @@ def table_block(data, names):
     return out.text()
 
 
+def table_rows(data, names):
+    """The table's entries, a line for each row."""
+    rows, columns = read_table(data)
+    lines = [["row"] + names, ["---"] * (len(names) + 1)]
+    lines += [[str(i)] + [value_text(kind, values[i]) for _, kind, _, values in columns] for i in range(rows)]
+    return "".join("| " + " | ".join(line) + " |\n" for line in lines).replace(" --- ", "---")
+
+
 def answer_block(data, rows):
     kind, values = read_answer(data, rows)
     out = Lines(data)
@@ -117,7 +125,7 @@ def blocks(library):
     for name, data in (("rule.bin", rule), ("batch.bin", table)):
         if load_bytes(os.path.join(TARGETS, name)) != data:
             sys.exit(f"examples/targets/{name} isn't what casetext.py makes")
-    return {"The rule": fenced(explanation(read_rule(rule))), "The table": fenced(table_block(table, names)),
+    return {"The rule": fenced(explanation(read_rule(rule))), "The table": table_rows(table, names) + "\n" + fenced(table_block(table, names)),
             "The answer": said(library.so, rule, table, answer) + "\n\n" + fenced(answer_block(answer, read_table(table)[0]))}
 
 

@@ -1,9 +1,10 @@
 #!/usr/bin/env python3
 """check_header.py [ROOT]: compares include/tembalku.h and docs/REFUSALS.md with the specifications and the code.
 
-Compared: the refusals' numbers and sentences, the limits, the types, the strategies, what answers count from, the functions and their
-arguments, the version, and the numbers that docs/FORMAT.md and the example in Rust repeat. Prints each difference, and how much was
-compared; fails where there is a difference, or where something to compare isn't found.
+Compared: the refusals' numbers and sentences and the limits that these name, the limits and which refusal stands beyond each, the types,
+the strategies, what answers count from, the functions and their arguments, the buffers' states, the version, and the numbers that
+docs/FORMAT.md and the example in Rust repeat. Prints each difference, and how much was compared; fails where there is a difference, or
+where something to compare isn't found.
 """
 import os
 import re
@@ -27,6 +28,10 @@ def found(pattern, path):
 
 def number(word):
     return int(word.replace(",", ""))
+
+
+def numbers_in(words):
+    return [number(n) for n in re.findall(r"\d[\d,]*", words)]
 
 
 def spec_number(path, name):
@@ -101,19 +106,24 @@ def code_functions():
 
 # ---- what is compared: (what it is, in the header, elsewhere) ----
 
+def paper_rows():
+    """Number, what it is about, condition and sentence of each refusal in docs/REFUSALS.md."""
+    return re.findall(r"^\| (\d+) \| (.*?) \| (.*?) \| (.*?) \|$", text("docs/REFUSALS.md"), re.M)
+
+
 def refusals():
-    rows = re.findall(r"^\| (\d+) \| (.*?) \| .* \| (.*?) \|$", text("docs/REFUSALS.md"), re.M)
-    paper = {int(n): sentence for n, _, sentence in rows}
+    rows = paper_rows()
+    paper = {int(n): sentence for n, _, _, sentence in rows}
     path = "layout/specs/Refusals.antt"
     of_rule, of_table, of_run = (spec_list(path, name + "Refusals") for name in ("rule", "table", "evaluation"))
     of_builder = spec_list(path, "builderRefusals")
     numbers = of_rule + of_table + of_run + [n for n in of_builder if n not in of_table]
     yield "the refusals' numbers", sorted(enum("refusal").values()), numbers
-    yield "the numbers of docs/REFUSALS.md", sorted(enum("refusal").values()), [int(n) for n, _, _ in rows]
+    yield "the numbers of docs/REFUSALS.md", sorted(enum("refusal").values()), [int(n) for n, _, _, _ in rows]
     for n in sorted(set(paper) | set(header_sentences()), key=str):
         yield f"the sentence of refusal {n}", header_sentences().get(n), paper.get(n)
     for about, specified in (("rule", of_rule), ("table", of_table), ("builder", of_builder[1:])):
-        yield f"docs/REFUSALS.md: about the {about}", [int(n) for n, a, _ in rows if a == about], specified
+        yield f"docs/REFUSALS.md: about the {about}", [int(n) for n, a, _, _ in rows if a == about], specified
     for name in header_functions():
         which = of_table if "table" in name else of_rule if "rule" in name else of_rule + of_table + of_run
         yield f"{name}: its refusals", header_refusals().get(name), {(str(which[0]), str(which[-1]))}
@@ -135,9 +145,73 @@ def limits():
     }
 
 
+def beyond():
+    """The refusals beyond the limits, by the specifications."""
+    rule, table, run = "crates/rule/specs/Reading.antt", "crates/table/specs/Reading.antt", "crates/case/specs/Run.antt"
+    return {name: int(found(pattern, path)) for name, path, pattern in [
+        ("RULE_MOST", rule, r"leb \(length bytes\) \d+\) (\d+)$"),
+        ("TABLE_MOST", table, r"bytesMost\) (\d+)$"),
+        ("ROWS_MOST", table, r"require \(leb \(number .* rowsMost\) (\d+)$"),
+        ("COLUMNS_MOST", table, r"^readColumns rows zero \(.*refused (\d+)$"),
+        ("BRANCHES_MOST", rule, r"require \(leb count \d+\) (\d+)$"),
+        ("WORK_BYTES", run, r"require \(leb workLeast work\) (\d+)$"),
+        ("OUTPUT_BYTES", "crates/writer/specs/Written.antt", r"require \(leb \(length bytes\) output\) (\d+)$")]}
+
+
+def in_words():
+    """The limits that the words of a refusal name, by its number; the others name none."""
+    most, reading = limits(), "rule/specs/Reading.antt"
+    return {1: [most["RULE_MOST"]], 4: [spec_number(reading, "depthMost"), spec_number(reading, "casesMost")], 6: [most["BRANCHES_MOST"]],
+            10: [most["ROWS_MOST"], most["COLUMNS_MOST"]], 14: [most["WORK_BYTES"]], 16: [spec_number("writer/specs/Written.antt", "textMost")]}
+
+
+def words():
+    """The numbers in the words of refusals and in the header's comments."""
+    most, past, named = limits(), beyond(), in_words()
+    # the condition of 9 also names tags 1 and 2
+    conditions = {**named, 9: [most["TABLE_MOST"], 1, 2]}
+    for n, _, condition, sentence in paper_rows():
+        yield f"the numbers in the condition of refusal {n}", numbers_in(condition), conditions.get(int(n), [])
+        yield f"the numbers in the sentence of refusal {n}", numbers_in(sentence), named.get(int(n), [])
+    listed = ("RULE_MOST", "TABLE_MOST", "ROWS_MOST", "COLUMNS_MOST", "BRANCHES_MOST")
+    yield "the refusals beyond limits", numbers_in(found(r"^/\* Limits: more is refused \((.*)\)\. \*/$", HEADER)), [past[name] for name in listed]
+    yield "the refusal of a work buffer", int(found(r"^/\* Bytes of a full work buffer.* \((\d+)\)\. \*/$", HEADER)), past["WORK_BYTES"]
+    yield "the refusal of an output", int(found(r"^/\* Bytes of output .* \((\d+)\)\. \*/$", HEADER)), past["OUTPUT_BYTES"]
+    yield "the longest answer's words", numbers_in(found(r"^/\* Bytes of the longest answer: (.*?)\. ", HEADER)), [most["ROWS_MOST"]] + named[16]
+    yield "where refusals end, in words", int(found(r"below TEMBALKU_RULE_ACCEPTED \((\d+)\) it is a refusal", HEADER)), macro("RULE_ACCEPTED")
+    yield "the most columns of a projection, in words", int(found(r"number, at most (\d+)\. They are", HEADER)), most["PROJECTION_MOST"]
+    counted = {name: macro(accepted(name)) for name in header_functions()}
+    said = re.findall(r"refusal \([^)]*\), or ([\d,]+) and[\s\S]*?\n(?:uint32_t|size_t) (tembalku_\w+)\(", text(HEADER))
+    yield "what answers count from, in words", {name: number(n) for n, name in said}, counted
+    said = re.findall(r"^\| `(tembalku_\w+)` \| .* \| ([\d,]+) \+ ", text("docs/FORMAT.md"), re.M)
+    yield "what answers count from, in docs/FORMAT.md", {name: number(n) for name, n in said}, counted
+
+
+def accepted(function):
+    """The name of what a function's answers count from."""
+    return "ANSWERED" if "evaluate" in function else "TABLE_ACCEPTED" if "table" in function else "RULE_ACCEPTED"
+
+
+def states():
+    """At which refusals the work buffer is untouched and at which it is zero, wherever that is said."""
+    path = "layout/specs/Refusals.antt"
+    run = [n for name in ("rule", "table", "evaluation") for n in spec_list(path, name + "Refusals")]
+    last = int(found(r"^workAfter \(refused n\) work = cond \(leb n (\d+)\) work \(zeros work\)$", "crates/case/specs/Run.antt"))
+    untouched, zero = [run[0], last], [last + 1, run[-1]]
+    for file in (HEADER, "docs/FORMAT.md"):
+        said = found(r"at an answer and at (\d+ to \d+), and untouched at (\d+ to \d+)\.", file)
+        yield f"{file}: the work buffer's states", [numbers_in(s) for s in said], [zero, untouched]
+    said = re.findall(r"^\| (\d+ to \d+) \| (untouched|zero) \| untouched \|$", text("docs/REFUSALS.md"), re.M)
+    yield "docs/REFUSALS.md: the work buffer's states", [(numbers_in(s), state) for s, state in said], [(untouched, "untouched"), (zero, "zero")]
+    builder = spec_list(path, "builderRefusals")[1:]
+    said = numbers_in(found(r"^/\* Refusals\. The library's functions give (.*) are the result builder's\.", HEADER))
+    yield "the refusals of functions and builder, in words", said, [run[0], run[-1], builder[0], builder[-1]]
+
+
 def numbers():
     for name, limit in limits().items():
         yield f"TEMBALKU_{name}", macro(name), limit
+    yield "TEMBALKU_OUTPUT_BYTES", macro("OUTPUT_BYTES"), int(found(r"^given c = run .* (\d+)$", "crates/case/specs/Cases.antt"))
     for name, codes in (("RULE_ACCEPTED", ("rule", "strategy", "nullable", "projection")), ("TABLE_ACCEPTED", ("table",)), ("ANSWERED", ("run",))):
         for code in codes:
             yield f"TEMBALKU_{name}, {code}Code", macro(name), int(found(rf"^{code}Code \(ok \w+\) = (\d+) \+", "crates/tembalku/specs/Codes.antt"))
@@ -155,6 +229,11 @@ def elsewhere():
     page = text("docs/FORMAT.md")
     rows = {name: number(n) for n, name in re.findall(r"^\| .* \| ([\d,]+) \| .* \| `TEMBALKU_(\w+)` \|$", page, re.M)}
     yield "the limits of docs/FORMAT.md", {name: macro(name) for name in limits()}, rows
+    yield "docs/FORMAT.md: what caserun lends", macro("OUTPUT_BYTES"), number(found(r"It lends ([\d,]+) bytes for the output", "docs/FORMAT.md"))
+    past = {name: int(n) for n, name in re.findall(r"^\| .* \| [\d,]+ \| (?:\d, )?(\d+) \| `TEMBALKU_(\w+)` \|$", page, re.M)}
+    yield "the refusals beyond the limits of docs/FORMAT.md", past, {name: n for name, n in beyond().items() if name != "OUTPUT_BYTES"}
+    nameless = [(number(n), int(past)) for n, past in re.findall(r"^\| .* \| ([\d,]+) \| (\d+) \| \|$", page, re.M)]
+    yield "the other limits of docs/FORMAT.md", nameless, [(n, past) for past in (4, 16) for n in in_words()[past]]
     types = {upper(name): int(n) for n, name in re.findall(r"^\| (\d) \| ([A-Z]\w+) \|", page, re.M)}
     yield "the types of docs/FORMAT.md", enum("type"), types
     strategies = {upper(name): int(n) for n, name in re.findall(r"^\| (\d) \| `(\w+)` \|", page, re.M)}
@@ -166,7 +245,7 @@ def elsewhere():
 
 
 def main():
-    compared = [*refusals(), *numbers(), *elsewhere()]
+    compared = [*refusals(), *words(), *states(), *numbers(), *elsewhere()]
     differ = [f"{what}: {ours}, but {theirs}" for what, ours, theirs in compared if ours != theirs]
     print("\n".join(differ + [f"{len(compared)} things of the header compared, {len(differ)} differ"]))
     return 1 if differ else 0

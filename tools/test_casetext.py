@@ -175,6 +175,14 @@ class RoundTrips(unittest.TestCase):
                     found += bytes.fromhex(line[6:29])
                 self.assertEqual(found, rule)
 
+    def test_explained_words(self):
+        """A column's mark, and words in the first line of a long value alone."""
+        e, _ = parse('rows 0\ncolumn a int32\ncolumn b int32 null\nrule (case (when (equal (col a) (col b)) (then (utf8 "twelve bytes"))))')
+        lines = explanation(e).splitlines()
+        self.assertIn("  11  00 02 00                       column 0, Int32, never null", lines)
+        self.assertIn("  17  01 02 01                       column 1, Int32, nullable", lines)
+        self.assertEqual(lines[-2:], ['  25  74 77 65 6C 76 65 20 62      "twelve bytes"', "  33  79 74 65 73"])
+
     def test_commands(self):
         """make, show and make again give the same bytes."""
         with tempfile.TemporaryDirectory() as folder:
@@ -203,6 +211,17 @@ def run(*args):
 def targets(name):
     with open(os.path.join(TARGETS, name), "rb") as f:
         return f.read()
+
+
+class Order(unittest.TestCase):
+    def test_floats(self):
+        """The order of floats, by their bits: NaNs with the sign, numbers, NaNs without it; neighbours too."""
+        rising = [2 ** 64 - 1, 0xfff0000000000001, 0xfff0000000000000, 0xbff0000000000001, 0xbff0000000000000, (1 << 63) + 1, 1 << 63, 0, 1,
+                  0x3ff0000000000000, 0x3ff0000000000001, 0x7ff0000000000000, 0x7ff0000000000001, 2 ** 63 - 1]
+        for i, a in enumerate(rising):
+            for j, b in enumerate(rising):
+                left, right = ("literal", 4, a), ("literal", 4, b)
+                self.assertEqual((at_row(("less", left, right), []), at_row(("equal", left, right), [])), (i < j, i == j))
 
 
 class Targets(unittest.TestCase):

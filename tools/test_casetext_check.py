@@ -2,6 +2,7 @@
 """test_casetext_check.py: tests of casetext.py's check, make and show without the library: the sentences of refusals, files that can't
 be taken, SQL typed by mistake, names of columns, and the picture. Run by test_casetext.py."""
 import os
+import subprocess
 import sys
 import tempfile
 import unittest
@@ -11,7 +12,9 @@ from unittest import mock
 sys.dont_write_bytecode = True
 sys.path.insert(0, os.path.dirname(os.path.abspath(__file__)))
 from dealer.evaluation import Evaluation  # noqa: E402
+from dealer.layout import rule_bytes  # noqa: E402
 from dealer.plan import drawn, point, ring_step  # noqa: E402
+from dealer.reading import Refused, read_answer  # noqa: E402
 from dealer.rows import at_row, row_of  # noqa: E402
 from dealer.source import Source  # noqa: E402
 from dealer.text import parse  # noqa: E402
@@ -19,6 +22,7 @@ from dealer.tree import type_of  # noqa: E402
 from dealer.words import sql  # noqa: E402
 from test_casetext import run  # noqa: E402
 
+TOOL = os.path.join(os.path.dirname(os.path.abspath(__file__)), "casetext.py")
 HEAD = "rows 3\ncolumn speed int32 null 4 null 9\ncolumn far int64 3000000000 5 6\nrule\n"
 # CASE WHEN NOT 5 THEN 1 END, which is 7
 UNTYPED = bytes.fromhex("191700" "0001" "120900" "110600020005000000" "110600020001000000")
@@ -93,12 +97,14 @@ class Refusals(InFolder):
     def test_limits(self):
         self.each([
             (HEAD + OK.replace("(int32 1)", f"(utf8 \"{'a' * 4100}\")"), "the rule has 4116 bytes: at most 4096, 1"),
-            (HEAD + nested(4), "line 5: a CASE inside of 3 others: at most 3 in all, 4"),
-            (when("(not " * 7 + "\n(boolean true)" + ")" * 7), "line 7: nested more than 8 deep, 4"),
-            (HEAD + "(case\n (else (int32 1)))", "line 5: a CASE without a WHEN, 5"),
+            (HEAD + nested(4), "line 5: a CASE inside of 3 others: at most 3 in all, 4 (CASE WHEN true THEN 1 END)"),
+            (when("(not " * 7 + "\n(boolean true)" + ")" * 7), "line 7: nested more than 8 deep, 4 (true)"),
+            (HEAD + "(case\n (else (int32 1)))", "line 5: a CASE without a WHEN, 5 (CASE ELSE 1 END)"),
             (HEAD + "(case" + "\n (when (boolean true) (then (int32 1)))" * 33 + ")", "line 5: 33 branches: at most 32, 6"),
             ("rows 600\ncolumn a int32" + " 1" * 600 + "\nrule " + OK, "600 rows: at most 512, 10"),
             ("rows 70000\nrule " + OK, "70000 rows: at most 512, 10"),
+            ("rows 65536\nrule " + OK, "65536 rows: at most 512, 10"),
+            ("rows 0\n" + "".join(f"column c{i} int32\n" for i in range(257)) + "rule " + OK, "line 258: a 257th column: at most 16, 10"),
             ("rows 0\n" + "".join(f"column c{i} int32\n" for i in range(17)) + "rule " + OK, "line 18: column c16: a 17th column: at most 16, 10"),
             ("rows 600\n" + "".join(f"column c{i} int64" + " 1" * 600 + "\n" for i in range(14)) + "rule " + OK,
              "the table has 67359 bytes: at most 65536, 9")])
@@ -120,6 +126,16 @@ class Refusals(InFolder):
         said = f"{path}: accepted: a rule of 32 bytes, whose classes are int32; a table of 3 rows and 2 columns\n"
         self.assertEqual(run("check", path), (0, said, ""))
 
+    def test_one_part(self):
+        """A rule or a table alone is checked too."""
+        rule, table = self.write("rule.txt", "rule " + OK), self.write("table.txt", "rows 1\ncolumn a int32 1")
+        self.assertEqual(run("check", rule), (0, f"{rule}: accepted: a rule of 20 bytes, whose classes are int32\n", ""))
+        self.assertEqual(run("check", table), (0, f"{table}: accepted: a table of 1 row and 1 column\n", ""))
+        self.assertEqual(self.said("rows 1\ncolumn a int32 null\n"),
+                         "line 2: column a has 0 values for 1 row; the first null is the column's mark, not a value")
+        self.assertEqual(self.said("rule (case (when (int32 1) (then (int32 1))))"),
+                         "line 1: WHEN 1 is int32, a WHEN without a base is boolean: types don't go together, 7 (1)")
+
     def test_line_ends(self):
         """Lines may end as on other systems."""
         path = self.write("a.txt", when("(less (col speed) (int32 5))").replace("\n", "\r\n"))
@@ -131,7 +147,7 @@ class Refusals(InFolder):
         rule = self.write("rule.txt", "rule\n(case\n (when (less (col speed) (int32 5)) (then (int32 1))))")
         table = self.write("table.txt", "rows 1\ncolumn other utf8 \"a\"\ncolumn speed int32 4")
         self.assertEqual(run("check", rule, table)[0], 0)
-        self.assertEqual(run("check", rule), (1, "", f"{rule}: line 3: no column speed: there is no table\n"))
+        self.assertEqual(run("check", rule), (1, "", f"{rule}: line 3: no column speed: there is no table before the rule\n"))
         self.write("table.txt", "rows 1\ncolumn speed int64 4")
         self.assertEqual(run("check", rule, table)[2], f"{rule}: line 3: int64 < int32: types don't go together, 7 (speed < 5)\n")
         self.write("table.txt", "rows 1\ncolumn speed int32 null")
@@ -151,6 +167,11 @@ class Refusals(InFolder):
                          (1, "", f"{self.folder}: rule.bin: byte 5: NOT int32: types don't go together, 7 (NOT 5)\n"))
         self.write("rule.bin", b"")
         self.assertEqual(run("check", self.folder), (1, "", f"{self.folder}: rule.bin: the rule is empty, 1\n"))
+        self.write("rule.bin", rule_bytes(parse("rule " + OK)[0]))
+        for table, said in (("", "the table is empty, 9"), ("010300000000", "byte 3: a row count has 2 bytes, 9"),
+                            ("0102000000" "020300010000" "030000" "040000", "byte 8: a column's head has 2 bytes, 9")):
+            self.write("batch.bin", bytes.fromhex(table))
+            self.assertEqual(run("check", self.folder), (1, "", f"{self.folder}: batch.bin: {said}\n"))
         self.write("rule.bin", UNTYPED[:-1])
         self.assertEqual(run("check", self.folder), (1, "", f"{self.folder}: rule.bin: byte 0: the field runs past its end, 2\n"))
 
@@ -190,6 +211,32 @@ class Files(InFolder):
         code, out, err = run("run", path, "--library", missing)
         self.assertEqual((code, out), (1, ""))
         self.assertIn("can't be linked", err)
+        for source, said in (("int nothing;", "isn't this library: it has no function tembalku_rule_read"),
+                             ("int missing(void); int tembalku_rule_read(void) { return missing(); }", "can't be loaded: undefined symbol: missing")):
+            self.assertEqual(run("run", path, "--library", archive(self.folder, source)), (1, "", f"{missing}: {said}\n"))
+
+    def test_not_built(self):
+        """Without --library the one that is built in the repository."""
+        path = self.write("a.txt", when("(boolean true)"))
+        with mock.patch("dealer.library.ROOT", self.folder):
+            self.assertEqual(run("run", path), (1, "", "the library isn't built: `rt staticlib tembalku` writes target/staticlib/libtembalku.a; "
+                                                "or name one with --library ARCHIVE\n"))
+            os.makedirs(self.path("target/staticlib"))
+            built = self.write("target/staticlib/libtembalku.a", "no archive")
+            self.assertTrue(run("run", path)[2].startswith(f"{built}: can't be linked: "))
+
+    def test_odd_name(self):
+        """A name that is no UTF-8 is printed somehow."""
+        path = self.write(os.fsdecode(b"a\xff.txt"), when("(boolean true)"))
+        code, out, _ = run("check", path)
+        self.assertEqual(code, 0)
+        self.assertIn("a\\udcff.txt: accepted", out)
+
+    def test_not_printed(self):
+        path = self.write("a.txt", when("(boolean true)"))
+        with open("/dev/full", "wb") as full:
+            done = subprocess.run([sys.executable, TOOL, "check", path], stdout=full, stderr=subprocess.PIPE, text=True, check=False)
+        self.assertEqual((done.returncode, done.stderr), (1, "can't be printed: No space left on device\n"))
 
     def test_parts_missing(self):
         rule = self.write("rule.txt", "rule " + OK)
@@ -200,12 +247,36 @@ class Files(InFolder):
         self.assertEqual(run("check", rule, rule)[2], f"{rule}: there is no table in it\n")
 
 
+def archive(folder, source):
+    """A static library of a source in C."""
+    names = [os.path.join(folder, "lib" + end) for end in (".c", ".o", ".a")]
+    with open(names[0], "w", encoding="ascii") as f:
+        f.write(source)
+    if os.path.exists(names[2]):
+        os.remove(names[2])
+    subprocess.run(["gcc", "-fPIC", "-c", names[0], "-o", names[1]], check=True)
+    subprocess.run(["ar", "rcs", names[2], names[1]], check=True)
+    return names[2]
+
+
+# a library whose evaluation writes sevens and says a number, and whose tables have so many rows
+SEVENS = """#include <string.h>
+unsigned tembalku_rule_read(const char *rule, size_t len) {{ return rule && len ? 258 : 1; }}
+unsigned tembalku_table_read(const char *table, size_t len) {{ return table && len ? {rows} : 9; }}
+size_t tembalku_evaluate(const char *r, size_t rl, const char *t, size_t tl, char *w, size_t wl, char *o, size_t ol) {{
+    memset(o, 7, ol);
+    return r && t && w && rl + tl + wl ? {said} : 1;
+}}
+"""
+
+
 class Disagreeing(InFolder):
     def test_loud(self):
         """A library that says something else than the rule read row by row: exit status 3, both answers, and no table of classes."""
         path = self.write("a.txt", when("(less (col speed) (int32 5))"))
         for said, words in [((None, (2, [1, None, 1])), "row 2: the library says 1, the rule read row by row says null"),
                             ((None, (5, [b"a", None, None])), "the library's answer has type 5, the rule's result 2"),
+                            ((None, (2, [1, None])), "the library's answer has 2 entries for 3 rows"),
                             ((15, None), "the library refuses with 15, but the check finds nothing to refuse")]:
             code, out, err = self.with_library(said, "run", path)
             self.assertEqual((code, out), (3, ""))
@@ -215,6 +286,21 @@ class Disagreeing(InFolder):
         self.assertEqual((code, out), (3, ""))
         self.assertIn("the library answers, but the check says: ", err)
         self.assertEqual(self.with_library((7, None), "run", path)[0], 1)
+
+    def test_no_answer(self):
+        """A library that gives bytes that are no answer, or numbers that mean nothing."""
+        path = self.write("a.txt", when("(less (col speed) (int32 5))"))
+        for rows, said, words in [(65539, 65546, "the field runs past its end"), (65539, 65536, "a field is missing or cut"),
+                                  (65539, 300, "a field is missing or cut"), (9, 65546, "the field runs past its end"),
+                                  (65539, 200000, "tag 7 where 2 is expected")]:
+            code, out, err = run("run", path, "--library", archive(self.folder, SEVENS.format(rows=rows, said=said)))
+            self.assertEqual((code, out, err.splitlines()), (3, "", [LOUD, f"what the library gives is no answer: byte 0: {words}"]))
+
+    def test_answer_and_more(self):
+        """An answer is one column and nothing else."""
+        answer = bytes.fromhex("0202000200" "030000" "04040005000000")
+        self.assertEqual(read_answer(answer, 1), (2, [5]))
+        self.assertRaises(Refused, read_answer, answer + b"\0", 1)
 
     def with_library(self, said, *args):
         """Runs a command with a library that says one thing."""
@@ -246,6 +332,11 @@ class Mistakes(InFolder):
                 ("(speed < 5)", "line 6: speed is no expression: a column is (col speed)"),
                 ("(< (col speed) (int32 5))", "line 6: < is no expression: A < B is (less A B)"),
                 ("(less (col speed) 5)", "line 6: 5 where ( is expected: a number has its type, (int32 5), int64 or float64"),
+                ("(less (col speed) -5.5)", "line 6: -5.5 where ( is expected: a number has its type, (float64 -5.5)"),
+                ("(less (col speed) 5m)", "line 6: 5m where ( is expected"),
+                ("(less (col speed) (int32 5)", "line 7: ( where ) is expected: a bracket is missing before it, or it is one too many"),
+                ("(less (col speed))", "line 6: ) where ( is expected: a part is missing before it, or it is one too many"),
+                ("((col speed))", "line 6: ( is no expression: a bracket is missing before it, or it is one too many"),
                 ("(less speed (int32 5))", "line 6: speed where ( is expected: a column is (col speed)"),
                 ("(and (boolean true) (boolean true))",
                  "line 6: and is no expression: there is no AND; A AND B is (case (when A (then B)) (else (boolean false)))"),
@@ -265,8 +356,19 @@ class Mistakes(InFolder):
                  "`rows 8`, a rule with `rule`"),
                 ("rows 1\ncolumn a int32 5\n(case)", "line 3: ( is no int32: is the line `rule` missing before it?"),
                 ('rows 1\ncolumn a utf8 "boat\n"', "line 2: can't read '\"boat': a text has a quote at both ends, in one line"),
-                ("rows 1\ncolumn a\u00a0int32 5", "line 2: can't read '\\xa0int32 5'"),
+                ("rows 1\ncolumn a\u00a0int32 5", "line 2: can't read '\\xa0int32 5': put a plain blank for the first character"),
+                ("rows 1\n\fcolumn a int32 5", "line 2: can't read '\\x0ccolumn a ': put a plain blank for the first character"),
+                ("rule " + OK + "\nrows 0", "line 2: rows behind the rule: the table stands before the rule"),
+                ("rule " + OK + "\n(int32 1)", "line 2: ( behind the rule: its last bracket stands before it"),
                 ("rows 1\ncolumn a float64 5,5", "line 2: 5,5 is no float64: a number has a point, not a comma, and is float64 then"),
+                ("rows 3\ncolumn a int32 null 5", "line 2: column a has 1 value for 3 rows"),
+                ("rows 2\ncolumn a int32 5", "line 2: column a has 1 value for 2 rows"),
+                (HEAD + OK[:-1] + "\n(else (int32 1))\n(else (int32 2)))", "line 7: else out of place in a case: WHENs stand before the ELSE, of which there is one"),
+                (HEAD + "(case\n(else (int32 1))\n(when (boolean true) (then (int32 1))))",
+                 "line 7: when out of place in a case: WHENs stand before the ELSE, of which there is one"),
+                (HEAD + "(case\n(wenn (boolean true) (then (int32 1))))", "line 6: wenn out of place in a case"),
+                (HEAD + "(case (base (int32 1))\n(base (int32 1)))", "line 6: base out of place in a case: a base stands first in its case, once"),
+                (HEAD + "(case (when (boolean true) (then (col 256 int32))))", "line 5: no column 256: there are speed, far"),
                 (HEAD + "(case (when (boolean true)\n(int32 1)))",
                  "line 6: int32 where then is expected: a result stands in brackets of its own, (then E)"),
                 (HEAD + "(case\n(when (boolean true) (then (int32 1)))\n", "line 7: the text ends, but the bracket of line 5 isn't closed")]:

@@ -347,7 +347,7 @@ targets  change
         self.assertIn("\n  1     5  boat    ELSE        buoy   WHEN 1: size < 6\n", self.ran("compare", one, with_table, table))
         bad = self.write("bad.txt", rule.format("5) (int32 4", "boat"))
         self.assertEqual(run("compare", one, bad, table, "--library", LIBRARY),
-                         (1, "", f"{bad}: line 2: ( where ) is expected\n"))
+                         (1, "", f"{bad}: line 2: ( where ) is expected: a bracket is missing before it, or it is one too many\n"))
 
 
 def main(args):

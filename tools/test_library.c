@@ -395,6 +395,37 @@ static void test_helpers(void) {
     CHECK(tembalku_answer_int32(&a, 0) == 1 && tembalku_answer_int32(&a, 1) == 0 && tembalku_answer_int32(&a, 3) == 1, "its entries", a.rows);
 }
 
+/* Twenty Booleans, whose bits lie in three bytes: null at every third row, true at two in five of the others. */
+static void test_bits(void) {
+    INPUT(bits, 2, 2, 0, 1, 1, 3, 3, 0, 0xB6, 0x6D, 0x0B, 4, 3, 0, 0x22, 0x0C, 0x01);
+    struct tembalku_answer a;
+    CHECK(tembalku_answer_read(&a, bits.bytes, bits.len, 20), "an answer of rows", 20);
+    for (size_t row = 0; row < 20; row++) {
+        CHECK(tembalku_answer_is_null(&a, row) == (row % 3 == 0), "is_null at row", row);
+        CHECK(tembalku_answer_boolean(&a, row) == (row % 3 != 0 && row % 5 < 2), "boolean at row", row);
+    }
+}
+
+/* Answers without entries: of a Boolean, and of text, which has one offset. */
+static void test_no_entries(void) {
+    INPUT(boolean, 2, 2, 0, 1, 1, 3, 0, 0, 4, 0, 0);
+    INPUT(text, 2, 2, 0, 5, 0, 3, 0, 0, 5, 4, 0, 0, 0, 0, 0, 4, 0, 0);
+    struct tembalku_answer a;
+    CHECK(tembalku_answer_read(&a, boolean.bytes, boolean.len, 0) && a.type == 1 && a.nullable == 1, "no Booleans", 0);
+    touch(&a);
+    const uint8_t *place = memcpy(at_page_end(text.len), text.bytes, text.len);
+    CHECK(tembalku_answer_read(&a, place, text.len, 0) && a.type == 5 && a.nullable == 0, "no texts", 0);
+    touch(&a);
+}
+
+/* As many rows as there can be. */
+static void test_most_rows(void) {
+    static const uint8_t most[11 + TEMBALKU_ROWS_MOST / 8] = {2, 2, 0, 1, 0, 3, 0, 0, 4, TEMBALKU_ROWS_MOST / 8, 0};
+    struct tembalku_answer a;
+    CHECK(tembalku_answer_read(&a, most, sizeof most, TEMBALKU_ROWS_MOST) && a.rows == TEMBALKU_ROWS_MOST, "an answer of rows", TEMBALKU_ROWS_MOST);
+    touch(&a);
+}
+
 static void test_sentences(void) {
     for (uint32_t number = 1; number <= 21; number++) CHECK(strlen(tembalku_refusal_sentence(number)) > 20, "no sentence", number);
     CHECK(strcmp(tembalku_refusal_sentence(0), "") == 0, "a sentence for", 0);
@@ -410,6 +441,9 @@ int main(void) {
     test_evaluate();
     test_helpers();
     test_no_answers();
+    test_bits();
+    test_no_entries();
+    test_most_rows();
     test_sentences();
     printf("%u checks of the library, %u failed\n", checks, failures);
     return failures != 0;

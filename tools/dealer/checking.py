@@ -6,6 +6,10 @@ from dealer.tree import TEXT_MOST, UTF8, WORDS, columns_of, counted, type_of
 from dealer.words import sql
 
 
+# refused before there is a tree of the bytes; the text has one
+SHOWN = {4, 5}
+
+
 def check_fit(rule, table, names):
     """13: a column that the rule names is missing, of another type, or nullable where the rule says not."""
     columns = table[1]
@@ -59,4 +63,4 @@ def sentence(refused, source):
     if refused.at is None:
         return str(refused)
     node = dict(places(source.rule))[refused.at]
-    return f"line {node.line}: {refused}" + (f" ({sql(node, names)})" if refused.tree else "")
+    return f"line {node.line}: {refused}" + (f" ({sql(node, names)})" if refused.tree or refused.number in SHOWN else "")

@@ -1,7 +1,8 @@
 """Evaluates a source through the library and, row by row, apart from it, and holds the two against each other."""
+from dealer.reading import Refused
 from dealer.rows import at_row, decided_at_row, result_of, row_of
 from dealer.source import SourceRefused
-from dealer.tree import UTF8, is_null, type_of
+from dealer.tree import UTF8, counted, is_null, type_of
 from dealer.words import branch_words, printable, value_text
 
 
@@ -71,6 +72,8 @@ def compared_entries(source, kind, entries):
     rows, _ = source.table
     if kind != type_of(source.rule):
         return [f"the library's answer has type {kind}, the rule's result {type_of(source.rule)}"]
+    if len(entries) != rows:
+        return [f"the library's answer has {counted(len(entries), 'entry', 'entries')} for {counted(rows, 'row')}"]
     own = [at_row(source.rule, row_of(source.table, i)) for i in range(rows)]
     return [f"row {i}: the library says {value_text(kind, entries[i])}, the rule read row by row says {value_text(kind, own[i])}"
             for i in range(rows) if entries[i] != own[i]]
@@ -78,7 +81,10 @@ def compared_entries(source, kind, entries):
 
 def evaluated(source, library):
     """The evaluation, or SourceRefused as the library refuses; Disagreement where the two don't agree."""
-    number, answer = library.entries(source.rule_data, source.table_data)
+    try:
+        number, answer = library.entries(source.rule_data, source.table_data)
+    except Refused as refused:
+        raise Disagreement(f"what the library gives is no answer: byte {refused.at}: {refused.words}") from None
     try:
         source.check()
     except SourceRefused as refused:

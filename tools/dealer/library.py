@@ -35,8 +35,11 @@ def linked(archive):
         except FileNotFoundError:
             raise FileError("gcc isn't there: it is needed to link the library") from None
         if done.returncode != 0:
-            raise FileError(f"{archive}: can't be linked: {(done.stderr.strip().splitlines() or ['gcc failed'])[-1]}")
-        return ctypes.CDLL(shared)
+            raise FileError(f"{archive}: can't be linked: {(done.stderr.strip().splitlines() or ['gcc failed'])[0]}")
+        try:
+            return ctypes.CDLL(shared)
+        except OSError as e:
+            raise FileError(f"{archive}: can't be loaded: {str(e).removeprefix(shared + ': ')}") from None
 
 
 class Library:
@@ -45,10 +48,11 @@ class Library:
     def __init__(self, archive):
         self.so = linked(archive)
         bytes_in = [ctypes.c_char_p, ctypes.c_size_t]
-        for name, kind in (("tembalku_rule_read", ctypes.c_uint32), ("tembalku_table_read", ctypes.c_uint32)):
-            getattr(self.so, name).restype, getattr(self.so, name).argtypes = kind, bytes_in
-        evaluate = self.so.tembalku_evaluate
-        evaluate.restype, evaluate.argtypes = ctypes.c_size_t, bytes_in * 4
+        for name, kind, count in (("rule_read", ctypes.c_uint32, 1), ("table_read", ctypes.c_uint32, 1), ("evaluate", ctypes.c_size_t, 4)):
+            function = getattr(self.so, "tembalku_" + name, None)
+            if function is None:
+                raise FileError(f"{archive}: isn't this library: it has no function tembalku_{name}")
+            function.restype, function.argtypes = kind, bytes_in * count
         self.work, self.output = ctypes.create_string_buffer(WORK_BYTES), ctypes.create_string_buffer(OUTPUT_MOST)
 
     def rule_refusal(self, rule):
@@ -62,16 +66,16 @@ class Library:
         return said if said < RULE_ACCEPTED else None
 
     def evaluate(self, rule, table):
-        """The refusal's number, or None; and the answer's bytes, or None."""
+        """The refusal's number, or None; and the answer's bytes, or None. A number that means nothing gives no bytes."""
         said = self.so.tembalku_evaluate(rule, len(rule), table, len(table), self.work, WORK_BYTES, self.output, OUTPUT_MOST)
         if said < RULE_ACCEPTED:
             return said, None
-        return None, self.output.raw[:said - ANSWERED]
+        return None, self.output.raw[:max(0, said - ANSWERED)]
 
     def entries(self, rule, table):
-        """The refusal's number, or None; and the type and entries of the answer, or None."""
+        """The refusal's number, or None; and the type and entries of the answer, or None. Refused if the bytes are no answer."""
         number, answer = self.evaluate(rule, table)
         if number is not None:
             return number, None
         rows = self.so.tembalku_table_read(table, len(table)) - TABLE_ACCEPTED
-        return None, read_answer(answer, rows)
+        return None, read_answer(answer, max(0, rows))

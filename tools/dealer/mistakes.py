@@ -17,6 +17,7 @@ HINTS = {
     "between": "there is no BETWEEN; compare with less, twice", "in": "there is no IN; write a WHEN for each value",
     "like": "there is no LIKE; text is compared whole", "column": "columns stand before the rule; in a rule a column is (col NAME)",
     "try_cast": "it is (trycast TYPE E)", "base": "a base stands first in its case, once",
+    "(": "a bracket is missing before it, or it is one too many", ")": "a part is missing before it, or it is one too many",
 }
 
 
@@ -25,8 +26,10 @@ def hint(token, columns=()):
     low = token.lower()
     if token in columns:
         said = f"a column is (col {token})"
-    elif re.match(r"[+-]?[0-9]", token):
+    elif re.match(r"[+-]?[0-9]+\Z", token):
         said = f"a number has its type, (int32 {token}), int64 or float64"
+    elif re.match(r"[+-]?[0-9]+\.[0-9]*\Z", token):
+        said = f"a number has its type, (float64 {token})"
     elif token.startswith("'"):
         said = 'text stands in double quotes, (utf8 "boat")'
     elif token.endswith('"'):

@@ -250,6 +250,8 @@ def read_table(data, strict=False):
 
 
 def read_answer(data, rows):
-    """Type and entries of an answer's column. Its mark may say never null although it holds a null."""
-    (kind, _, values), _ = TableReader(data, True).column(0, rows)
+    """Type and entries of an answer, one column. Its mark may say never null although it holds a null."""
+    (kind, _, values), stop = TableReader(data, True).column(0, rows)
+    if stop != len(data):
+        raise Refused(9, "bytes left over", at=stop)
     return kind, values

@@ -7,8 +7,8 @@ import struct
 
 from dealer.layout import column_bytes, rule_bytes
 from dealer.mistakes import hint, sql_sentence
-from dealer.tree import (BOOLEAN, BRANCHES_MOST, CASTS, FLOAT64, INT32, INT64, NESTED_MOST, PLAIN, ROWS_MOST, RULE_MOST, TABLE_MOST, TYPES, UTF8,
-                         WORDS, Node, counted)
+from dealer.tree import (BOOLEAN, BRANCHES_MOST, CASTS, COLUMNS_MOST, FLOAT64, INT32, INT64, NESTED_MOST, PLAIN, ROWS_MOST, RULE_MOST, TABLE_MOST,
+                         TYPES, UTF8, WORDS, Node, counted)
 
 TOKEN = re.compile(r'[ \t\r]+|#[^\n]*|(?P<end>\n)|(?P<mark>[()])|(?P<text>x?"(?:[^"\\\n]|\\.)*")|(?P<word>[^\s()"#]+)')
 NAME = re.compile(r"[A-Za-z_][A-Za-z0-9_]*\Z")
@@ -61,14 +61,19 @@ def load_text(path):
         raise FileError(f"{path}: line {line}: not UTF-8: save the file as UTF-8") from None
 
 
+def unreadable(rest):
+    """Only a quote that isn't closed and a blank that isn't plain begin no token."""
+    quote = rest.startswith('"')
+    return f"can't read {rest!r}: " + ("a text has a quote at both ends, in one line" if quote else "put a plain blank for the first character")
+
+
 def tokens(text):
     """Pairs of a token and its line; the last is the empty token."""
     out, at, line = [], 0, 1
     while at < len(text):
         m = TOKEN.match(text, at)
         if not m:
-            quote = ": a text has a quote at both ends, in one line" if '"' in text[at:at + 2] else ""
-            raise TextError(line, f"can't read {text[at:at + 10].splitlines()[0]!r}{quote}")
+            raise TextError(line, unreadable(text[at:at + 10].split("\n")[0]))
         if m.group("end"):
             line += 1
         elif m.lastgroup:
@@ -192,7 +197,8 @@ class Parser:
         if token and e is None:
             raise TextError(line, f"{token} where column or rule is expected{hint(token)}")
         if token:
-            raise TextError(line, f"{token} behind the rule: its last bracket stands before it")
+            why = "the table stands before the rule" if token in ("rows", "column") else "its last bracket stands before it"
+            raise TextError(line, f"{token} behind the rule: {why}")
         return e, None if self.rows is None else (self.rows, self.columns)
 
     def table(self):
@@ -214,7 +220,7 @@ class Parser:
         if any(c[0] == name for c in self.columns):
             raise TextError(line, f"a second column {name}")
         if len(self.columns) == 256:
-            raise TextError(line, "a rule can name 256 columns only")
+            raise TextError(line, f"a 257th column: at most {COLUMNS_MOST}, 10")
         kind, nullable, values = self.kind(), self.mark(), []
         while self.peek() not in ("column", "rule", ""):
             token, at = self.take()
@@ -278,7 +284,7 @@ class Parser:
             index = int(name)
         if index is None:
             there = ", ".join(c[0] for c in columns)
-            raise TextError(line, f"no column {name or 'before the end'}" + (f": there are {there}" if there else ": there is no table"))
+            raise TextError(line, f"no column {name or 'before the end'}" + (f": there are {there}" if there else ": there is no table before the rule"))
         if self.peek() != ")":
             return ("col", index, self.kind(), self.mark())
         if index >= len(columns):
@@ -302,7 +308,8 @@ class Parser:
             elif word == "else" and other is None:
                 other = self.expr(depth + 1)
             else:
-                raise TextError(at, f"{word or 'the end'} out of place in a case{hint(word)}")
+                order = ": WHENs stand before the ELSE, of which there is one" if word in ("when", "else") else hint(word)
+                raise TextError(at, f"{word or 'the end'} out of place in a case{order}")
             self.close(opened)
         if len(branches) > 255:
             raise TextError(line, f"{len(branches)} branches: at most {BRANCHES_MOST}, 6")

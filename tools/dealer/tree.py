@@ -73,6 +73,6 @@ def type_of(e):
     return type_of(e[1]) if word == "neg" else BOOLEAN
 
 
-def counted(n, word):
+def counted(n, word, words=None):
     """`1 row`, `2 rows`."""
-    return f"{n} {word}" if n == 1 else f"{n} {word}s"
+    return f"{n} {word}" if n == 1 else f"{n} {words or word + 's'}"
