@@ -38,7 +38,7 @@ pub rule-is-its-tree : RuleIsItsTree
 rule-is-its-tree = rule-bytes
 
 pub read-exactly : ReadExactly
-read-exactly = (rule-reads-back, rule-is-allowed, table-reads-back, table-is-its-bytes)
+read-exactly = (rule-is-its-tree, rule-reads-back, rule-is-allowed, table-reads-back, table-is-its-bytes)
 
 pub outcome-of-result-type : OutcomeOfResultType
 outcome-of-result-type rule table e t i b f = run-sound rule table e t i (b .rule-bytes) (b .table-bytes) (b .rule-reads) (b .table-reads) f

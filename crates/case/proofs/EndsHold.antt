@@ -2,7 +2,7 @@
 use mathlib.Core.Path.{_≡_, refl, sym, ap, subst, _∙_}
 use mathlib.Core.Bool.{Bool, cond, not, _&&_}
 use mathlib.Core.List.{List, [], _++_}
-use Prim.Native.Nat.{ℕ, _+_, _≤_}
+use Prim.Native.Nat.{ℕ, _+_}
 use native.Mathlib.Omega.{arith}
 use lib.Dec.{eqb, leb}
 use lib.ListN.{length, take, drop, length-append, length-drop}
@@ -10,7 +10,7 @@ use lib.Seq.{take-append-seam, drop-append-seam}
 use borrow.Author.Tests.{le-leb, lt-leb}
 use Rattle.layout.specs.Result.{Result, refused, ok}
 use Rattle.layout.specs.Refusals.{ruleRefusals, tableRefusals, evaluationRefusals, runRefusals, builderRefusals, among}
-use Rattle.layout.proofs.ResultLaws.{RefusedAmong, ok-among, bind-among, require-among-then, among-between, among-more}
+use Rattle.layout.proofs.ResultLaws.{RefusedAmong, ok-among, bind-among, require-among-then, among-more}
 use Rattle.scalar.specs.Entry.{Entry}
 use Rattle.rule.specs.Tree.{Expr}
 use Rattle.rule.specs.Reading.{readRule}
@@ -99,7 +99,7 @@ module _ (rule table work output work′ output′ : List ℕ) where
       → RefusalLeaves (callRun rule table work output) work output n work′ output′
   refusal-leaves n is w o = record {
     number-is = is;
-    listed = among-between 1 17 runRefusals n refl (run-refusals rule table (length work) (length output) n is);
+    listed = run-refusals rule table (length work) (length output) n is;
     output-kept = o;
     work-kept = λ h. w ∙ ap (λ (b : Bool). cond b work (zeros work)) (le-leb n 14 h);
     work-zero = λ h. w ∙ ap (λ (b : Bool). cond b work (zeros work)) (lt-leb n 14 (omega arith));

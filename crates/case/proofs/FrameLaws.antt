@@ -61,9 +61,6 @@ module _ {table : List ℕ} {t : Table} {w : List ℕ} {n depth : ℕ} (f : Fram
   pub framed-fillable : 0 < depth → Fillable w n
   framed-fillable deep = record { rows-ok = rows-small (f .small) (f .list-ok); room = let r = f .room in omega arith }
 
-  pub framed-few : n ≤ 512
-  framed-few = f .list-ok .few
-
   -- after a step that keeps the list
   pub framed-kept : (d : ℕ) → d ≤ depth → (w′ : List ℕ) → length w′ ≡ length w → Kept 1024 w w′ → Framed table t w′ n d
   framed-kept d le w′ long kept = record {

@@ -58,7 +58,7 @@ pub record AnswerLeaves (run : Result (List ℕ)) (work output : List ℕ) (n : 
 -- from 15 on
 pub record RefusalLeaves (run : Result (List ℕ)) (work output : List ℕ) (n : ℕ) (work′ output′ : List ℕ) : Type 0 where
   pub number-is : run ≡ refused n
-  pub listed : (1 ≤ n) × (n ≤ 17)
+  pub listed : among runRefusals n ≡ true
   pub output-kept : output′ ≡ output
   pub work-kept : n ≤ 14 → work′ ≡ work
   pub work-zero : 15 ≤ n → work′ ≡ zeros work
@@ -107,7 +107,7 @@ RuleIsItsTree = (rule : List ℕ) (e : Expr) → Bytes rule → readRule rule �
 
 -- a rule is accepted exactly when it is the bytes of a tree that document 01 allows, and is then read as that tree; likewise a table
 abbrev pub ReadExactly : Type 0
-ReadExactly = RuleReadsBack × RuleIsAllowed × TableReadsBack × TableIsItsBytes
+ReadExactly = RuleIsItsTree × RuleReadsBack × RuleIsAllowed × TableReadsBack × TableIsItsBytes
 
 -- at a row of a table that fits, the outcome of an accepted rule is null, an entry of the result's type, or doesn't fit
 abbrev pub OutcomeOfResultType : Type 0

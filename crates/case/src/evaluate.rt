@@ -37,7 +37,7 @@ pub fn evaluate(rule: &[u8], table: &[u8], work: &mut [u8], output: &mut [u8]) -
     evaluate_read(rule, r, table, places, work, output)
 }
 
-// The same of a rule and a table that were read: one reading serves many calls.
+// The same of a rule and a table that were read.
 pub(crate) fn evaluate_read(
     rule: &[u8],
     r: RuleReading,

@@ -22,7 +22,7 @@ ghost use Rattle.case.specs.Parting.{RowPut};
 ghost use Rattle.case.specs.Taking.{ScalarRight};
 
 // The operations on one value.
-pub enum Op {
+pub(crate) enum Op {
     Not,
     Negative,
     IsNotNull,

@@ -1,10 +1,10 @@
 -- Tagged fields: one-byte tag, two-byte length, content (01, Bytes of a rule).
-use mathlib.Core.Bool.{Bool, true, false, cond}
-use mathlib.Core.List.{List, [], _∷_, _++_}
-use Prim.Native.Nat.{ℕ, zero, suc, _+_, _-_, _*_, _<_, _≤_}
+use mathlib.Core.Bool.{cond}
+use mathlib.Core.List.{List, _∷_, _++_}
+use Prim.Native.Nat.{ℕ, _+_}
 use lib.Dec.{ltb}
 use lib.ListN.{length, take, drop}
-use Rattle.layout.specs.Bytes.{byte, number, numberAt, numberBytes}
+use Rattle.layout.specs.Bytes.{byte, numberAt, numberBytes}
 use Rattle.layout.specs.Result.{Result, refused, ok}
 
 -- a field: its tag, its content, and the bytes behind it (01, Bytes of a rule)

@@ -17,17 +17,13 @@ use Rattle.rule.specs.Tree.{Column}
 use Rattle.rule.specs.Reading.{unlikeEarlier}
 use Rattle.rule.specs.Seen.{markOf, markAt, alike, Marked}
 
--- a type's number is 1 to 5, a mark's 0 or 1
+-- a type's number is 1 to 5
 pub type-bounds : (t : DataType) → (0 < typeNumber t) × (typeNumber t < 8)
 type-bounds Boolean = (omega arith, omega arith)
 type-bounds Int32 = (omega arith, omega arith)
 type-bounds Int64 = (omega arith, omega arith)
 type-bounds Float64 = (omega arith, omega arith)
 type-bounds Utf8 = (omega arith, omega arith)
-
-mark-bound : (b : Bool) → markNumber b < 2
-mark-bound true = omega arith
-mark-bound false = omega arith
 
 mark-injective : (a b : Bool) → markNumber a ≡ markNumber b → a ≡ b
 mark-injective true true e = refl

@@ -10,7 +10,6 @@ use borrow.Author.Tests.{ltb-true, ltb-false, eq-eqb, ne-eqb}
 use Rattle.layout.specs.Result.{Result, refused, ok, _>>=_, require}
 use Rattle.layout.proofs.ResultLaws.{refused-not-ok, ok-injective}
 use Rattle.scalar.specs.declared.types.DataType.{DataType}
-use Rattle.scalar.specs.Types.{typeNumbered}
 use Rattle.rule.specs.declared.node.FieldFound.{FieldFound}
 use Rattle.rule.specs.Tree.{Expr, isNullLiteral}
 use Rattle.rule.specs.Typing.{typeOf, nodeTyped}
@@ -18,17 +17,6 @@ use Rattle.rule.specs.Constant.{isEmpty}
 use Rattle.rule.specs.Reading.{Read, closeNode}
 use Rattle.rule.specs.Seen.{Marked}
 use Rattle.rule.specs.Steps.{refusal, accepted, closed, Gives, Behind, ReadGives}
-
--- a number that is none of the types'
-pub no-type : (n : ℕ) → (((((Unit {0} × (n ≡ 1 → ⊥)) × (n ≡ 2 → ⊥)) × (n ≡ 3 → ⊥)) × (n ≡ 4 → ⊥)) × (n ≡ 5 → ⊥)) → typeNumbered 3 n ≡ refused 3
-unfolding typeNumbered
-no-type zero r = refl
-no-type (suc zero) r = absurd (r .0 .0 .0 .0 .1 refl)
-no-type (suc (suc zero)) r = absurd (r .0 .0 .0 .1 refl)
-no-type (suc (suc (suc zero))) r = absurd (r .0 .0 .1 refl)
-no-type (suc (suc (suc (suc zero)))) r = absurd (r .0 .1 refl)
-no-type (suc (suc (suc (suc (suc zero))))) r = absurd (r .1 refl)
-no-type (suc (suc (suc (suc (suc (suc k)))))) r = refl
 
 module _ {A : Type 0} {good : A → Type 0} {m : Result A} {k : ℕ} where
   -- a definition that refuses

@@ -1,8 +1,8 @@
 -- Columns that a tree names, and what can be worked out without reading one.
-use mathlib.Core.Bool.{Bool, true, false, not, _&&_, _||_}
+use mathlib.Core.Bool.{Bool, true, false, _&&_, _||_}
 use mathlib.Core.List.{List, [], _∷_, _++_}
-use Rattle.scalar.specs.Entry.{Outcome, unfit, onEntry}
-use Rattle.scalar.specs.Cast.{castEntry, isUnfit}
+use Rattle.scalar.specs.Entry.{unfit}
+use Rattle.scalar.specs.Cast.{isUnfit}
 use Rattle.rule.specs.Tree.{Column, Expr, column, literal, negation, negative, isNotNull, cast, tryCast, equal, less, caseWhen, Branches, noMore, branch, Optional, absent, present}
 use Rattle.rule.specs.Row.{Row, eval}
 

@@ -1,11 +1,11 @@
 -- Where a node of an accepted rule stands: a place of the rule's bytes that holds the bytes of a tree.
 use mathlib.Core.Path.{_≡_}
-use mathlib.Core.Bool.{Bool, true, false}
+use mathlib.Core.Bool.{true}
 use mathlib.Core.List.{List}
-use Prim.Native.Nat.{ℕ, zero, suc, _≤_, max}
+use Prim.Native.Nat.{ℕ, suc, _≤_, max}
 use lib.ListN.{length}
 use Rattle.layout.specs.Bytes.{Bytes, part}
-use Rattle.rule.specs.Tree.{Column, Expr, column, literal, negation, negative, isNotNull, cast, tryCast, equal, less, caseWhen, Branches, noMore, branch, Optional, absent, present}
+use Rattle.rule.specs.Tree.{Expr, column, literal, negation, negative, isNotNull, cast, tryCast, equal, less, caseWhen, Branches, noMore, branch, Optional, absent, present}
 use Rattle.rule.specs.TreeBytes.{bytesOf}
 use Rattle.rule.specs.WellFormed.{wellFormed}
 

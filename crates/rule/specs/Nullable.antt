@@ -2,9 +2,9 @@
 use mathlib.Core.Bool.{Bool, true, false, cond, _&&_, _||_}
 use mathlib.Core.List.{List}
 use Prim.Native.Nat.{ℕ}
-use Rattle.scalar.specs.Entry.{Entry, null, isNull, isTrue, Outcome, entry, unfit}
+use Rattle.scalar.specs.Entry.{null, isNull, isTrue, Outcome, entry, unfit}
 use Rattle.scalar.specs.Text.{sameBytes}
-use Rattle.rule.specs.Tree.{Column, Expr, column, literal, negation, negative, isNotNull, cast, tryCast, equal, less, caseWhen, Branches, noMore, branch, Optional, absent, present}
+use Rattle.rule.specs.Tree.{Expr, column, literal, negation, negative, isNotNull, cast, tryCast, equal, less, caseWhen, Branches, noMore, branch, Optional, absent, present}
 use Rattle.rule.specs.TreeBytes.{bytesOf, isPresent}
 use Rattle.rule.specs.Typing.{typeOf}
 use Rattle.rule.specs.Row.{eval}

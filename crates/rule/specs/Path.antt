@@ -5,7 +5,7 @@ use Prim.Native.Nat.{ℕ}
 use Rattle.scalar.specs.declared.types.DataType.{DataType}
 use Rattle.scalar.specs.Entry.{Entry, isNull, Outcome, entry, unfit}
 use Rattle.scalar.specs.Cast.{castEntry, isUnfit}
-use Rattle.rule.specs.Tree.{Column, Expr, column, literal, negation, negative, isNotNull, cast, tryCast, equal, less, caseWhen, Branches, noMore, branch, Optional, absent, present}
+use Rattle.rule.specs.Tree.{Expr, column, literal, negation, negative, isNotNull, cast, tryCast, equal, less, caseWhen, Branches, noMore, branch, Optional, absent, present}
 use Rattle.rule.specs.Row.{Row, Test, isTrueTest, equalsTest, passes, eval}
 
 -- a path reads columns, and casts values (tag 21)

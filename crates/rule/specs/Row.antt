@@ -1,5 +1,5 @@
 -- One row (01, One row): what an expression is, given what each column has there.
-use mathlib.Core.Bool.{Bool, true, false, cond}
+use mathlib.Core.Bool.{Bool, cond}
 use Prim.Native.Nat.{ℕ}
 use Rattle.scalar.specs.declared.types.DataType.{DataType}
 use Rattle.scalar.specs.Entry.{Entry, null, isNull, isTrue, Outcome, entry, unfit, onEntry, onEntries}
@@ -9,7 +9,7 @@ use Rattle.scalar.specs.IsNotNull.{isNotNullEntry}
 use Rattle.scalar.specs.Cast.{castEntry}
 use Rattle.scalar.specs.TryCast.{tryCastEntry}
 use Rattle.scalar.specs.Compare.{equalEntry, lessEntry}
-use Rattle.rule.specs.Tree.{Column, Expr, column, literal, negation, negative, isNotNull, cast, tryCast, equal, less, caseWhen, Branches, noMore, branch, Optional, absent, present}
+use Rattle.rule.specs.Tree.{Expr, column, literal, negation, negative, isNotNull, cast, tryCast, equal, less, caseWhen, Branches, noMore, branch, Optional, absent, present}
 use Rattle.rule.specs.Typing.{resultType}
 
 -- what each column has; a column that can't be read is as a cast that doesn't fit

@@ -6,7 +6,7 @@ use Rattle.scalar.specs.declared.types.DataType.{DataType}
 use Rattle.scalar.specs.Types.{sameType}
 use Rattle.rule.specs.declared.strategy.Strategy.{Strategy}
 use Rattle.rule.specs.declared.strategy.Strategy.the-variants.{NoExpression, WithExpression, InfallibleExprOrNull, ScalarOrScalar, ExpressionOrExpression, WithExprScalarLookupTable}
-use Rattle.rule.specs.Tree.{Column, Expr, column, literal, negation, negative, isNotNull, cast, tryCast, equal, less, caseWhen, Branches, noMore, branch, Optional, absent, present, branchCount, isNullLiteral}
+use Rattle.rule.specs.Tree.{Expr, column, literal, negation, negative, isNotNull, cast, tryCast, equal, less, caseWhen, Branches, noMore, branch, Optional, absent, present, branchCount, isNullLiteral}
 use Rattle.rule.specs.Typing.{typeOf, resultType}
 
 -- the number of a strategy

@@ -1,9 +1,8 @@
 -- A rule as a tree. It keeps all that the bytes say, a null ELSE too (01, Bytes of a rule).
-use mathlib.Core.Bool.{Bool, true, false}
-use Prim.Native.Nat.{ℕ, zero, suc}
+use mathlib.Core.Bool.{Bool, false}
+use Prim.Native.Nat.{ℕ, suc}
 use Rattle.scalar.specs.declared.types.DataType.{DataType}
-use Rattle.scalar.specs.declared.types.DataType.the-variants.{Boolean}
-use Rattle.scalar.specs.Entry.{Entry, null, isNull}
+use Rattle.scalar.specs.Entry.{Entry, isNull}
 
 -- a column: index, type, nullable
 pub record Column : Type 0 where

@@ -1,8 +1,8 @@
 -- What reading tests at every node of a tree: its types, its literals, its columns, its counts (01, Bytes of a rule).
-use mathlib.Core.Bool.{Bool, true, false, _&&_}
+use mathlib.Core.Bool.{Bool, true, _&&_}
 use lib.Dec.{leb, ltb}
 use Rattle.scalar.specs.Entry.{ofType}
-use Rattle.rule.specs.Tree.{Column, Expr, column, literal, negation, negative, isNotNull, cast, tryCast, equal, less, caseWhen, Branches, noMore, branch, Optional, absent, present, branchCount}
+use Rattle.rule.specs.Tree.{Expr, column, literal, negation, negative, isNotNull, cast, tryCast, equal, less, caseWhen, Branches, noMore, branch, Optional, absent, present, branchCount}
 use Rattle.rule.specs.Typing.{nodeTyped}
 
 -- a CASE has 1 to 32 branches

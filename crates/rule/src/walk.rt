@@ -1,4 +1,4 @@
-// Steps over the fields of a rule. On a place that holds no field each goes on.
+// Steps over the fields of a rule. Where a field is cut it ends with the rule; behind the rule's end each stays.
 use layout::field::Header;
 use layout::field::field_at;
 ghost use mathlib.Core.Path.{_≡_};

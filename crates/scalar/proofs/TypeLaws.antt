@@ -1,10 +1,10 @@
 -- Types and marks by their numbers. Each operation keeps types: what it gives is null or a value of its type, within its bits. Assumes nothing.
 use mathlib.Core.Bool.{Bool, true, false, false≢true, cond}
-use mathlib.Core.Path.{_≡_, refl, sym, ap, subst, _∙_}
+use mathlib.Core.Path.{_≡_, refl, sym, ap, _∙_}
 use mathlib.Core.List.{List}
-use Prim.Native.Nat.{ℕ, zero, suc, _≤_}
+use Prim.Native.Nat.{ℕ, zero, suc}
 use borrow.Author.Tests.{ltb-true, eqb-true, lt-ltb}
-use Rattle.layout.specs.Result.{refused, ok}
+use Rattle.layout.specs.Result.{ok}
 use Rattle.layout.specs.Refusals.{among}
 use Rattle.layout.proofs.ResultLaws.{refused-not-ok, ok-injective, RefusedAmong, ok-among, refused-among}
 use Rattle.scalar.specs.declared.types.DataType.{DataType}

@@ -4,9 +4,8 @@ use mathlib.Core.Bool.{true, false}
 use Prim.Native.Nat.{ℕ, zero, suc, _/_, _%_, _^_, _<_}
 use native.Mathlib.Nat.{mod-eq-of-lt}
 use native.Mathlib.Omega.{arith}
-use lib.Dec.{lit<}
 use lib.Ieee.{binary64, nanBits}
-use lib.Ieee.Bits.{is-true, toBits-lt}
+use lib.Ieee.Bits.{is-true}
 use Rattle.scalar.specs.declared.value.Value.{Value}
 use Rattle.scalar.specs.declared.value.Value.the-variants.{Null, Boolean, Int32, Int64, Float64, Nan, RuleText, TableText, Failed}
 use Rattle.scalar.specs.Value.{kindOf, payloadOf, valueOf, placePayload, Storable}
@@ -49,31 +48,6 @@ payload-back (Nan n) s = simp (is-true (nanBits binary64 n) (s .1))
 payload-back (RuleText start size) s = ap₂ RuleText (place-start start size (s .0)) (place-size start size (s .0) (s .1))
 payload-back (TableText start size) s = ap₂ TableText (place-start start size (s .0)) (place-size start size (s .0) (s .1))
 payload-back Failed s = refl
-
--- a payload is of 64 bits
-pub payload-below : (v : Value) → Storable v → payloadOf v < 2 ^ 64
-payload-below Null s = lit< tt
-payload-below (Boolean true) s = lit< tt
-payload-below (Boolean false) s = lit< tt
-payload-below (Int32 n) s = omega arith
-payload-below (Int64 n) s = s
-payload-below (Float64 f) s = toBits-lt binary64 f (s .0)
-payload-below (Nan n) s = s .0
-payload-below (RuleText start size) s = omega arith
-payload-below (TableText start size) s = omega arith
-payload-below Failed s = lit< tt
-
--- there are eight kinds
-pub kind-below : (v : Value) → kindOf v < 8
-kind-below Null = lit< tt
-kind-below (Boolean b) = lit< tt
-kind-below (Int32 n) = lit< tt
-kind-below (Int64 n) = lit< tt
-kind-below (Float64 f) = lit< tt
-kind-below (Nan n) = lit< tt
-kind-below (RuleText start size) = lit< tt
-kind-below (TableText start size) = lit< tt
-kind-below Failed = lit< tt
 
 -- the value of a kind and a payload can be stored
 pub valueOf-stores : (k p : ℕ) → p < 2 ^ 64 → Storable (valueOf k p)

@@ -1,5 +1,5 @@
 -- Equal and less give null if either side is null; false is less than true, text goes by bytes, floats by IEEE 754 totalOrder (01, One row).
-use mathlib.Core.Bool.{Bool, true, false, not, _&&_, Bool·beq}
+use mathlib.Core.Bool.{not, _&&_, Bool·beq}
 use lib.Dec.{eqb}
 use Rattle.scalar.specs.Integer.{signedLess}
 use Rattle.scalar.specs.Float.{totalLess}

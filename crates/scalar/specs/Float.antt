@@ -1,6 +1,6 @@
 -- Float64 by its 64 bits (01, One row; Modules: negative.rs).
 use mathlib.Core.Bool.{Bool, true, false, cond}
-use Prim.Native.Nat.{ℕ, suc, _+_, _-_, _%_, _^_}
+use Prim.Native.Nat.{ℕ, suc, _+_, _-_, _^_}
 use lib.Dec.{ltb}
 use lib.IntN.{ℤ}
 use lib.Ieee.{binary64, ofInt, toBits}

@@ -1,6 +1,6 @@
 -- The bytes of a table within the limits are read as that table. Assumes nothing.
 use mathlib.Core.Path.{_≡_, refl, sym, ap, _∙_}
-use mathlib.Core.Bool.{Bool, true, false, or-true}
+use mathlib.Core.Bool.{or-true}
 use mathlib.Core.List.{List, [], _∷_, _++_, append-assoc}
 use mathlib.Core.Logic.{_⊎_, ⊎-elim}
 use Prim.Native.Nat.{ℕ, zero, suc, _+_, _*_, _<_, _≤_}
@@ -15,7 +15,7 @@ use Rattle.layout.proofs.BytesLaws.{length-numberBytes, number-numberBytes}
 use Rattle.layout.proofs.FieldLaws.{header-field, length-field}
 use Rattle.scalar.specs.declared.types.DataType.{DataType}
 use Rattle.scalar.specs.declared.types.DataType.the-variants.{Boolean, Int32, Int64, Float64, Utf8}
-use Rattle.scalar.specs.Types.{typeNumber, markNumber, markNumbered}
+use Rattle.scalar.specs.Types.{typeNumber, markNumber}
 use Rattle.scalar.proofs.TypeLaws.{typeNumbered-back, markNumbered-back}
 use Rattle.table.specs.Column.{TableColumn, offsetAt}
 use Rattle.table.specs.Reading.{tagged, taggedPair, readValidity, readTextOffsets, readOffsets, valuesLength, readValues, readBody, readParts, readColumn, readColumns, bytesMost, rowsMost, columnsMost, readTable}

@@ -3,7 +3,6 @@ use layout::number::write_u16;
 use rule::types::type_number;
 use scalar::types::DataType;
 use scalar::types::mark_number;
-ghost use mathlib.Core.Path.{_≡_};
 ghost use mathlib.Core.List.{[], _∷_};
 ghost use Prim.Native.Nat.{_+_, _<_, _≤_};
 ghost use lib.ListN.{length};

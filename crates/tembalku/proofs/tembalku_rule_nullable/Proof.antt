@@ -1,7 +1,6 @@
 -- `tembalku_rule_nullable`: the nullability's answer, as one number.
 use mathlib.Core.Path.{sym, _∙_}
 use mathlib.Core.Bool.{true, false}
-use native.Mathlib.Omega.{arith}
 use denote.Ref.{now}
 use Rattle.rule.specs.Reading.{readRule}
 use Rattle.tembalku.proofs.CodeLaws.{nullable-refused, nullable-is}

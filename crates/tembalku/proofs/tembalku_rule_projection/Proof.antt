@@ -1,6 +1,5 @@
 -- `tembalku_rule_projection`: a rule that is accepted has its columns in the answer, and they go to the front where they fit.
 use mathlib.Core.Path.{sym, _∙_}
-use native.Mathlib.Omega.{arith}
 use denote.Ref.{now}
 use Rattle.tembalku.proofs.CodeLaws.{projected-refused, projected-is}
 use borrow.Author.Needs.{needs}

@@ -1,7 +1,7 @@
 -- `finish` gives each row's value, 0 where none is held. The loop's invariant: the rows before i have theirs, and zeros stand behind.
 use Rattle.builder.proofs.BuilderLaws.{finish-is, FinishedSoFar, finished-none, finished-more}
 use borrow.Author.Needs.{needs}
-use mathlib.Core.Path.{_≡_, refl}
+use mathlib.Core.Path.{_≡_}
 use Prim.Native.Nat.{_-_, _≤_}
 use native.Mathlib.Omega.{arith}
 use lib.ListN.{length}

@@ -5,7 +5,6 @@ use native.Mathlib.Omega.{arith}
 use Rattle.case.specs.Steps.{RowsIndexed}
 use Rattle.case.specs.LookUpColumns.{denseRow}
 use Rattle.case.proofs.StepLaws.{indices-none, indices-room, indices-more, indices-all}
-use borrow.Author.Needs.{needs}
 use Rattle.case.proofs.column_lookup.dense_rows.Statement.{statement}
 use Rattle.case.proofs.column_lookup.dense_rows.Tie as tie
 

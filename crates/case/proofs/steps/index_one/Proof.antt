@@ -4,7 +4,6 @@ use Prim.Native.Nat.{ℕ, _-_}
 use native.Mathlib.Omega.{arith}
 use Rattle.case.specs.Steps.{oneSpan, RowsIndexed}
 use Rattle.case.proofs.StepLaws.{indices-none, indices-room, indices-more, indices-all}
-use borrow.Author.Needs.{needs}
 use Rattle.case.proofs.steps.index_one.Statement.{statement}
 use Rattle.case.proofs.steps.index_one.Tie as tie
 

@@ -3,7 +3,6 @@ use mathlib.Core.Path.{sym, _∙_}
 use native.Mathlib.Omega.{arith}
 use denote.Ref.{now}
 use Rattle.case.proofs.SpanLaws.{rows-one}
-use borrow.Author.Needs.{needs}
 use Rattle.case.proofs.steps.index_spans.Statement.{statement}
 use Rattle.case.proofs.steps.index_spans.Tie as tie
 

@@ -2,7 +2,6 @@
 use mathlib.Core.Path.{refl}
 use native.Mathlib.Omega.{arith}
 use borrow.Author.Tests.{lt-ltb, le-ltb, le-leb, lt-leb}
-use borrow.Author.Needs.{needs}
 use Rattle.case.proofs.steps.one_index.Statement.{statement}
 use Rattle.case.proofs.steps.one_index.Tie as tie
 

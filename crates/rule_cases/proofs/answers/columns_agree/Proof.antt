@@ -1,7 +1,6 @@
 -- `columns_agree` reads inside of both: the index is below 256 and below the length.
-use Prim.Native.Nat.{_-_, _+_, _≤_, _<_}
+use Prim.Native.Nat.{_-_, _≤_}
 use native.Mathlib.Omega.{arith}
-use lib.ListN.{length}
 use Rattle.rule_cases.proofs.answers.columns_agree.Statement.{statement}
 use Rattle.rule_cases.proofs.answers.columns_agree.Tie as tie
 use Rattle.rule_cases.proofs.answers.columns_agree.Reads as reads
