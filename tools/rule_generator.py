@@ -160,12 +160,20 @@ class Maker:
         if strategy == 6:
             pairs = [(self.literal(of), self.literal(kind)) for _ in range(self.branches(2))]
             other = self.rng.choice((None, self.null(), self.literal(kind), self.literal(kind)))
+            if not self.small and self.rng.random() < 0.15:
+                other = self.no_table(kind, low, inner)
             return ("case", base, pairs, other)
         pairs = []
         for _ in range(self.branches(self.rng.randint(1, 2))):
             when = self.expr(of, low, inner) if self.rng.random() < 0.6 else self.literal(of)
             pairs.append((when, self.expr(kind, low, inner)))
         return ("case", base, pairs, self.else_of(kind, low, inner))
+
+    def no_table(self, kind, low, inner):
+        """An ELSE beside which no table of keys serves: an expression, or outside of the domain a literal of another type."""
+        if self.inside or self.rng.random() < 0.5:
+            return self.expr(self.other(kind), low, inner)
+        return self.literal(self.rng.choice(FROM[kind]), 0)
 
     def null(self):
         """A null literal of any type: as ELSE it is dropped."""
