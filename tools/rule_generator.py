@@ -146,6 +146,8 @@ class Maker:
             then = self.literal(kind)
             other = self.other(kind)
             return ("case", None, [(self.when(then, low, inner), then)], self.literal(other, 0.05))
+        if strategy == 1 and not self.small and low < DEPTH_MOST and self.rng.random() < 0.2:
+            return ("case", None, self.ladder(kind, one, low, inner), self.else_of(kind, low, inner))
         thens = [self.expr(kind, low, inner) for _ in range(one)]
         return ("case", None, [(self.when(t, low, inner), t) for t in thens], self.else_of(kind, low, inner))
 
@@ -153,6 +155,16 @@ class Maker:
         if least == 1:
             return 1
         return self.rng.choice((2, 2, 3) if self.small else (2, 2, 3, 3, 4, 5, 7))
+
+    def ladder(self, kind, count, low, inner):
+        """Branches whose WHENs compare one column with literals; the THENs are literals, or expressions."""
+        of, plain = self.rng.choice(KINDS), self.rng.random() < 0.6
+        column, pairs = self.column(of), []
+        for _ in range(count):
+            sides = (column, self.literal(of)) if self.rng.random() < 0.7 else (self.literal(of), column)
+            then = self.literal(kind) if plain else self.expr(kind, low, inner)
+            pairs.append(((self.rng.choice(("equal", "less", "less")),) + sides, then))
+        return pairs
 
     def with_base(self, kind, strategy, low, inner):
         of = self.rng.choice(KINDS)

@@ -256,6 +256,22 @@ class Generator(unittest.TestCase):
                     found.add((e[3][0] == "literal", cc.other_type(e), cc.strategy(e)))
         self.assertLessEqual({(True, True, 2), (False, False, 2), (True, False, 6)}, found)
 
+    def compared(self, when):
+        """The column that a WHEN compares with a literal, if it does."""
+        columns = [x for x in children(when) if x[0] == "col"]
+        words = sorted(x[0] for x in children(when))
+        return columns[0] if when[0] in ("equal", "less") and words == ["col", "literal"] else None
+
+    def test_ladders(self):
+        """Several WHENs that compare one column with literals, less among them."""
+        found = 0
+        for c in random_cases(200):
+            for e in cc.nodes(c.rule):
+                if e[0] == "case" and e[1] is None and len(e[2]) > 1:
+                    columns = {self.compared(w) for w, _ in e[2]}
+                    found += len(columns) == 1 and None not in columns and any(w[0] == "less" for w, _ in e[2])
+        self.assertGreater(found, 20)
+
     def test_junk(self):
         """Spare bits, and what stands under nulls, change the bytes and not the table."""
         changed = 0
