@@ -5,7 +5,7 @@ Times whole evaluations through the static library, and the Rust beside them, in
 
 BINARY   the Rust over the stand-in for Arrow's kernels (tools/rust_oracle, built); without it only the library is timed
 ARCHIVE  target/staticlib/libtembalku.a unless said, which `rt staticlib tembalku` makes
-N        how often each rule is timed, the library and the Rust in turn (default 3; a turn takes about 7 seconds with the Rust)
+N        how often each rule is timed, the library and the Rust in turn (default 3; a turn takes about 4 seconds with the Rust)
 WORDS    only the rules whose names hold them
 
 For each rule of bench_rules.py: the strategy; the whole call of the library and how much of it reading the rule, reading the table and
@@ -59,8 +59,7 @@ def compare_answers(program, oracle, name, files):
 def rust_times(oracle, files):
     """The nanoseconds of evaluate with into_array and of the whole way from bytes to bytes."""
     text = said(oracle, "--bench", *files)
-    time = lambda name: int(re.search(rf"(?m)^{re.escape(name)} median_ns (\d+)", text).group(1))
-    return time("evaluate+into_array"), time("rule+table+evaluate+write")
+    return tuple(int(re.search(rf"(?m)^{name} (\d+)$", text).group(1)) for name in ("evaluate", "whole"))
 
 
 def instructions(program, files):

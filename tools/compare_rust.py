@@ -5,12 +5,13 @@ port on the same cases.
 Makes N random rules with tables (rule_generator.py), runs the static library (`rt staticlib tembalku`, through stream_library.c) and the
 Rust (rust_oracle/README.md) on each, and compares entries and failures, strategy, projection and nullability. Prints how many agree and
 differ in each class (case_classes.py). A difference is explained when a named class holds of its input and, where the Rust can be run
-without the difference, that run agrees with the port; every other difference is shrunk and printed, and the exit status is 1. Then it
-compares ResultBuilder (compare_builder.py) if rt is on the path.
+without the difference, that run agrees with the port; every other difference, and a case that one side alone takes, is shrunk and
+printed, and the exit status is 1. Then it compares ResultBuilder (compare_builder.py) if rt is on the path.
 
 --smallest  prints the smallest input that was found of each kind of explained difference
 --document  runs the cases that a document shows as --smallest does, and tells whether both sides still say what stands there
---store     compares nothing; writes the Rust's answers, and none of the port's, for the programs run_cases and rule_cases:
+--store     compares nothing; writes the Rust's answers, and none of the port's, for the programs run_cases and rule_cases, whose args
+            and stdout make_cases.py and make_run_cases.py write then:
             crates/run_cases/data/rust.bin     records as make_run_cases.py describes; wanted is byte 15, or 0 and the answer's bytes
             crates/rule_cases/data/rustK.bin   records of: rule's length (2 bytes), rule, 0, strategy, nullable, result's type, number of
                                                columns, columns
@@ -31,6 +32,7 @@ import compare_builder
 import rule_generator
 from case_classes import COMPARED, CONSTANT_CAST, INSIDE, LONG_TEXT, NEGATED, NO_ROWS, UNCAST_ELSE, nodes
 from casetext import WORDS, column_bytes, field, number, read_rule, read_table, rule_bytes, text_of, value_text
+from make_cases import write
 from make_run_cases import MOST_FILE, record, store
 from shrinking import shrunk
 
@@ -38,9 +40,11 @@ HERE = os.path.dirname(os.path.dirname(os.path.abspath(__file__)))
 CHUNK = 10000
 SHRUNK_MOST = 100
 RECORD_MOST = 200
-RULES_MOST = 65536
+LONG = "more than 65535 bytes of text"
+# the classes in which the port must refuse
+REFUSED = {CONSTANT_CAST: "refused 8", LONG_TEXT: "refused 16"}
 
-# What one side said. `entries`: "failed", "panicked", "refused N", or the answer's bytes with 0 for the nullable byte.
+# What one side said. `entries`: "failed", "panicked", "unreadable", "refused N", LONG, or the answer's bytes with 0 for the nullable byte.
 Said = collections.namedtuple("Said", "read strategy nullable projection entries")
 
 
@@ -92,12 +96,12 @@ class Programs:
 
 def port_answers(lines):
     out = []
-    for about, entries in zip(lines[::2], lines[1::2]):
+    for about, entries in zip(lines[::2], lines[1::2], strict=True):
         read, strategy, nullable, _, *projection = map(int, about.split())
         if not entries.startswith("refused"):
             data = bytearray.fromhex(entries)
-            if data[4] != nullable - 256:
-                raise RuntimeError("the answer's nullable byte is not the nullability answer")
+            if (data[3], data[4]) != (read - 256, nullable - 256):
+                raise RuntimeError("the answer's type or nullable byte is not what is read off the rule")
             data[4] = 0
             entries = bytes(data)
         out.append(Said(read, strategy - 256, str(nullable - 256), projection, entries))
@@ -134,14 +138,14 @@ def entry(kind, word):
 
 
 def answer(listing, nullable):
-    """A listing as the answer's bytes (01, Bytes of a table); `long` if its text doesn't fit a field."""
+    """A listing as the answer's bytes (01, Bytes of a table); LONG if its text doesn't fit a field."""
     head = listing[0].split()
     kind = int(head[3])
     values = [entry(kind, line.split()[1]) for line in listing[1:]]
     try:
         return column_bytes(kind, nullable, values)
     except OverflowError:
-        return "long"
+        return LONG
 
 
 # ---- comparing ----
@@ -166,13 +170,16 @@ def kind_of_difference(port, rust):
 
 def explained(named, port, plain, without):
     """Whether the classes of a case account for a difference of entries. `without` is the Rust's answer with ELSE cast and negation wrapped."""
-    if CONSTANT_CAST in named:
-        return port.entries == "refused 8"
-    if LONG_TEXT in named:
-        return port.entries == "refused 16"
+    if named[0] in REFUSED:
+        return port.entries == REFUSED[named[0]]
     if (UNCAST_ELSE in named or NEGATED in named) and entries_agree(port, without):
         return True
     return NO_ROWS in named and isinstance(port.entries, bytes) and "failed" in (plain.entries, without.entries)
+
+
+def unexplained(named, port, rust, without):
+    """Whether entries differ, or the port doesn't refuse what it must, and the classes don't account for it."""
+    return (named[0] in REFUSED or not entries_agree(port, rust)) and not explained(named, port, rust, without)
 
 
 class Tally:
@@ -185,23 +192,23 @@ class Tally:
         self.unexplained, self.kinds = [], {}
 
     def add(self, cases):
-        said = list(zip(cases, *self.programs.both(cases)))
+        said = list(zip(cases, *self.programs.both(cases), strict=True))
         differing = [x for x in said if not entries_agree(x[1], x[2])]
         without = self.programs.rust([x[0] for x in differing], "--cast-else", "--wrap-negation")
-        reasons = {id(x[0]): w for x, w in zip(differing, without)}
+        reasons = {id(x[0]): w for x, w in zip(differing, without, strict=True)}
         for c, port, rust in said:
             self.compare(c, port, rust, reasons.get(id(c)))
 
     def compare(self, c, port, rust, without):
-        if not accepted(port, rust) and port.read != 8:
-            raise RuntimeError(f"a case that isn't accepted: {frames([c]).hex()}")
         named = case_classes.classes(c.rule, c.table)
+        if not accepted(port, rust) and CONSTANT_CAST not in named:
+            self.unexplained.append((c, "reading"))
+            return
         self.entries[named[0]][without is not None] += 1
-        if without is not None:
-            if not explained(named, port, rust, without):
-                self.unexplained.append((c, "entries"))
-            elif len(named) == 1 and named[0] not in (CONSTANT_CAST, LONG_TEXT):
-                self.keep((named[0], kind_of_difference(port, rust)), c)
+        if unexplained(named, port, rust, without):
+            self.unexplained.append((c, "entries"))
+        elif without is not None and len(named) == 1:
+            self.keep((named[0], kind_of_difference(port, rust)), c)
         if CONSTANT_CAST in named:
             return
         about = answers_agree(port, rust)
@@ -239,9 +246,14 @@ def differs_so(programs, what, named):
     def test(cases):
         port, rust = programs.both(cases)
         without = programs.rust(cases, "--cast-else", "--wrap-negation")
-        return [accepted(p, r) and told(c, p, r, w) == (what, named) for c, p, r, w in zip(cases, port, rust, without)]
+        return [told(c, p, r, w) == (what, named) for c, p, r, w in zip(cases, port, rust, without, strict=True)]
 
     def told(c, p, r, w):
+        if what == "reading":
+            return what if taken_alone(c, p, r) else None, named
+        about = what == "answers" or what.startswith("nullab")
+        if r.entries == "unreadable" or not takes(p) and (about or p.read != 8):
+            return None, None
         if what == "answers":
             return what if not answers_agree(p, r) else None, named
         if what.startswith("nullab"):
@@ -249,22 +261,33 @@ def differs_so(programs, what, named):
             said = "nullable" if what == "nullable" else f"nullability: the Rust {r.nullable}, the port {p.nullable}"
             return None if same else said, ", ".join(case_classes.nullable_classes(c.rule))
         classes = case_classes.classes(c.rule, c.table)
-        if entries_agree(p, r) or what == "entries" and explained(classes, p, r, w):
+        if what == "entries":
+            return what if unexplained(classes, p, r, w) else None, named
+        if entries_agree(p, r) or c.table[0] == 0 and NO_ROWS not in classes:
             return None, None
-        if what != "entries" and c.table[0] == 0 and NO_ROWS not in classes:
-            return None, None
-        return "entries" if what == "entries" else kind_of_difference(p, r), named if what == "entries" else ", ".join(classes)
+        return kind_of_difference(p, r), ", ".join(classes)
     return test
 
 
+def takes(port):
+    """Whether the port takes the rule and the table."""
+    return port.read > 256 and port.entries not in [f"refused {n}" for n in (9, 10, 11, 12, 13)]
+
+
 def accepted(port, rust):
-    """Whether both sides take the rule and the table."""
-    return port.read > 256 and rust.entries != "unreadable" and port.entries not in [f"refused {n}" for n in (9, 10, 11, 12, 13)]
+    return takes(port) and rust.entries != "unreadable"
+
+
+def taken_alone(c, port, rust):
+    """Whether one side alone takes a case, and not for number 8."""
+    if rust.entries == "unreadable":
+        return takes(port)
+    return not takes(port) and CONSTANT_CAST not in case_classes.classes(c.rule, c.table)
 
 
 def said_text(rows, said):
     """What a side says of a case, in a line."""
-    if said.read < 256:
+    if said.read < 256 or said.entries == "unreadable":
         return said.entries
     words = [said.entries]
     if isinstance(said.entries, bytes):
@@ -396,23 +419,12 @@ def chosen(programs, seed):
                 yield c, rust
 
 
-def write_rules(records):
-    folder, files, data = os.path.join(HERE, "crates", "rule_cases", "data"), 0, b""
-    for r in records + [None]:
-        if r is None or len(data) + len(r) > RULES_MOST:
-            with open(os.path.join(folder, f"rust{files}.bin"), "wb") as out:
-                out.write(data)
-            files, data = files + 1, b""
-        data += r or b""
-    return files
-
-
 def store_answers(args, programs):
     both = list(chosen(programs, args.seed))
     runs = [run_record(c, rust) for c, rust in both]
     store("run_cases", "rust", runs)
     rules = list(dict.fromkeys(rule_record(c, rust) for c, rust in both if rust.entries != "failed"))
-    print(f"{len(runs)} runs of the Rust in {sum(map(len, runs))} bytes (at most {MOST_FILE}), {len(rules)} rules in {write_rules(rules)} files")
+    print(f"{len(runs)} runs of the Rust in {sum(map(len, runs))} bytes (at most {MOST_FILE}), {len(rules)} rules in {write('rule_cases', 'rust', rules)} files")
     spread = collections.Counter()
     for c, rust in both:
         spread.update([f"strategy {rust.strategy}", f"type {case_classes.kind_of(c.rule)}", "failed" if rust.entries == "failed" else "answered"])

@@ -146,6 +146,8 @@ class Maker:
             then = self.literal(kind)
             other = self.other(kind)
             return ("case", None, [(self.when(then, low, inner), then)], self.literal(other, 0.05))
+        if strategy == 1 and not self.small and low < DEPTH_MOST and self.rng.random() < 0.2:
+            return ("case", None, self.ladder(kind, one, low, inner), self.else_of(kind, low, inner))
         thens = [self.expr(kind, low, inner) for _ in range(one)]
         return ("case", None, [(self.when(t, low, inner), t) for t in thens], self.else_of(kind, low, inner))
 
@@ -154,18 +156,36 @@ class Maker:
             return 1
         return self.rng.choice((2, 2, 3) if self.small else (2, 2, 3, 3, 4, 5, 7))
 
+    def ladder(self, kind, count, low, inner):
+        """Branches whose WHENs compare one column with literals; the THENs are literals, or expressions."""
+        of, plain = self.rng.choice(KINDS), self.rng.random() < 0.6
+        column, pairs = self.column(of), []
+        for _ in range(count):
+            sides = (column, self.literal(of)) if self.rng.random() < 0.7 else (self.literal(of), column)
+            then = self.literal(kind) if plain else self.expr(kind, low, inner)
+            pairs.append(((self.rng.choice(("equal", "less", "less")),) + sides, then))
+        return pairs
+
     def with_base(self, kind, strategy, low, inner):
         of = self.rng.choice(KINDS)
         base = self.expr(of, low, inner) if self.rng.random() < 0.5 else self.column(of)
         if strategy == 6:
             pairs = [(self.literal(of), self.literal(kind)) for _ in range(self.branches(2))]
             other = self.rng.choice((None, self.null(), self.literal(kind), self.literal(kind)))
+            if not self.small and self.rng.random() < 0.15:
+                other = self.no_table(kind, low, inner)
             return ("case", base, pairs, other)
         pairs = []
         for _ in range(self.branches(self.rng.randint(1, 2))):
             when = self.expr(of, low, inner) if self.rng.random() < 0.6 else self.literal(of)
             pairs.append((when, self.expr(kind, low, inner)))
         return ("case", base, pairs, self.else_of(kind, low, inner))
+
+    def no_table(self, kind, low, inner):
+        """An ELSE beside which no table of keys serves: an expression, or outside of the domain a literal of another type."""
+        if self.inside or self.rng.random() < 0.5:
+            return self.expr(self.other(kind), low, inner)
+        return self.literal(self.rng.choice(FROM[kind]), 0)
 
     def null(self):
         """A null literal of any type: as ELSE it is dropped."""

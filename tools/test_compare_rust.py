@@ -36,6 +36,19 @@ def random_cases(count, seed=5):
     return [rg.case(rng, theme, False) for theme in ("inside",) + rg.THEMES for _ in range(count)]
 
 
+class Told:
+    """Programs that say of each case what they are told to."""
+
+    def __init__(self, port, rust):
+        self.port, self.said = port, rust
+
+    def both(self, cases):
+        return [self.port] * len(cases), self.rust(cases)
+
+    def rust(self, cases, *flags):
+        return [self.said] * len(cases)
+
+
 class Layout(unittest.TestCase):
     """Listings as the answer's bytes, by hand from document 01."""
 
@@ -59,7 +72,7 @@ class Layout(unittest.TestCase):
         self.assertEqual(self.answer("rows 0 type 5 nullable 0", 0), "02 02 00 05 00 03 00 00 05 04 00 00 00 00 00 04 00 00")
 
     def test_too_long(self):
-        self.assertEqual(cr.answer(["rows 1 type 5 nullable 0", "0 t" + "61" * 65536], 0), "long")
+        self.assertEqual(cr.answer(["rows 1 type 5 nullable 0", "0 t" + "61" * 65536], 0), cr.LONG)
 
     def test_records(self):
         c = made("rows 1\ncolumn a boolean true\ncolumn b int32 7\nrule\n(case (when (col a) (then (col b))))")
@@ -80,9 +93,11 @@ class Comparing(unittest.TestCase):
         self.assertTrue(cr.entries_agree(port[1], rust[1]) and cr.answers_agree(port[1], rust[1]))
         self.assertEqual((rust[1].strategy, rust[1].nullable, rust[1].projection), (3, "0", []))
 
-    def test_nullable_byte(self):
-        with self.assertRaises(RuntimeError):
-            cr.port_answers(["258 261 256 256", "0202000201030000040400" + "05000000"])
+    def test_answer_is_the_rules(self):
+        """The answer's nullable byte and type are those that are read off the rule."""
+        for about in ("258 261 256 256", "259 261 257 256"):
+            with self.assertRaises(RuntimeError):
+                cr.port_answers([about, "0202000201030000040400" + "05000000"])
 
     def test_failures(self):
         self.assertTrue(cr.entries_agree(said("refused 15"), said("failed")))
@@ -102,6 +117,30 @@ class Comparing(unittest.TestCase):
             self.assertFalse(cr.explained([name], port, other, port))
         self.assertFalse(cr.explained([cc.NO_ROWS], port, other, other))
         self.assertFalse(cr.explained([cc.CONSTANT_CAST], port, other, port))
+
+    def test_tally(self):
+        """What a run calls unexplained: entries, answers, nullability, a refusal that is missing, and what one side alone takes."""
+        plain = made("rows 1\ncolumn a boolean true\nrule\n(case (when (col a) (then (col a))))")
+        eight = made("rows 1\nrule\n(case (when (boolean false) (then (cast int32 (int64 2147483648)))))")
+        one, two = said(b"aaaaa", 257), said(b"bbbbb", 257)
+        for c, port, rust, want in ((plain, one, one, []), (plain, two, one, ["entries"]), (plain, one._replace(strategy=3), one, ["answers"]),
+                                    (plain, one._replace(projection=[1]), one, ["answers"]), (plain, one._replace(nullable="1"), one, ["nullable"]),
+                                    (plain, said("refused 13"), one, ["reading"]), (plain, said("refused 7", 7), one, ["reading"]),
+                                    (plain, said("refused 8", 8), one, ["reading"]), (plain, one, said("unreadable"), ["reading"]),
+                                    (eight, said("refused 8", 8), one, []), (eight, one, one, ["entries"]),
+                                    (eight, said("refused 15"), said("failed"), ["entries"])):
+            tally = cr.Tally(Told(port, rust))
+            tally.add([c])
+            self.assertEqual([what for _, what in tally.unexplained], want)
+
+    def test_still_differs(self):
+        """What shrinking goes by."""
+        c = made("rows 1\ncolumn a boolean true\nrule\n(case (when (col a) (then (col a))))")
+        one = said(b"aaaaa", 257)
+        for what, port, rust, want in (("entries", said(b"bbbbb", 257), one, True), ("entries", one, one, False), ("reading", said("refused 8", 8), one, True),
+                                       ("reading", one, one, False), ("reading", said("refused 7", 7), said("unreadable"), False),
+                                       ("entries", said("refused 7", 7), one, False), ("answers", one._replace(strategy=1), one, True)):
+            self.assertEqual(cr.differs_so(Told(port, rust), what, "")([c]), [want])
 
 
 class Classes(unittest.TestCase):
@@ -207,6 +246,31 @@ class Generator(unittest.TestCase):
             self.assertIn(named, ([cc.INSIDE], [cc.CONSTANT_CAST]))
             seen.add((cc.strategy(c.rule), cc.kind_of(c.rule)))
         self.assertEqual(len(seen), 30)
+
+    def test_no_table(self):
+        """Keys beside an ELSE that is no literal, or one of another type."""
+        found = set()
+        for c in random_cases(400):
+            for e in cc.nodes(c.rule):
+                if e[0] == "case" and e[1] is not None and len(e[2]) > 1 and all(x[0] == "literal" for b in e[2] for x in b) and cc.else_of(e):
+                    found.add((e[3][0] == "literal", cc.other_type(e), cc.strategy(e)))
+        self.assertLessEqual({(True, True, 2), (False, False, 2), (True, False, 6)}, found)
+
+    def compared(self, when):
+        """The column that a WHEN compares with a literal, if it does."""
+        columns = [x for x in children(when) if x[0] == "col"]
+        words = sorted(x[0] for x in children(when))
+        return columns[0] if when[0] in ("equal", "less") and words == ["col", "literal"] else None
+
+    def test_ladders(self):
+        """Several WHENs that compare one column with literals, less among them."""
+        found = 0
+        for c in random_cases(200):
+            for e in cc.nodes(c.rule):
+                if e[0] == "case" and e[1] is None and len(e[2]) > 1:
+                    columns = {self.compared(w) for w, _ in e[2]}
+                    found += len(columns) == 1 and None not in columns and any(w[0] == "less" for w, _ in e[2])
+        self.assertGreater(found, 20)
 
     def test_junk(self):
         """Spare bits, and what stands under nulls, change the bytes and not the table."""

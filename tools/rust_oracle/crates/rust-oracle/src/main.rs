@@ -1,7 +1,8 @@
 //! rust-oracle RULE.bin BATCH.bin             the listing of document 01, or
 //!                                            `failed`, `panicked`, `unreadable`
 //! rust-oracle --answers RULE.bin             strategy, nullability, projection
-//! rust-oracle --bench RULE.bin BATCH.bin     median times
+//! rust-oracle --bench RULE.bin BATCH.bin     median nanoseconds: `evaluate`, with
+//!                                            into_array; `whole`, from bytes to bytes
 //! rust-oracle [--cast-else] [--wrap-negation] --stream < FRAMES
 //!     many cases: a frame is a four-byte little-endian length and a rule, then
 //!     the same for a table. Each gives its answers, its listing and a line with
@@ -97,8 +98,8 @@ fn answers(r: &[u8]) -> String {
     )
 }
 
-/// Median and least nanoseconds of one call, from samples of many calls.
-fn time(mut f: impl FnMut()) -> (f64, f64) {
+/// Median nanoseconds of one call, from samples of many calls.
+fn time(mut f: impl FnMut()) -> f64 {
     let warm = Instant::now();
     let mut n = 0u32;
     while warm.elapsed() < Duration::from_millis(200) {
@@ -118,7 +119,16 @@ fn time(mut f: impl FnMut()) -> (f64, f64) {
         samples.push(t.elapsed().as_nanos() as f64 / per_sample as f64);
     }
     samples.sort_by(f64::total_cmp);
-    (samples[samples.len() / 2], samples[0])
+    samples[samples.len() / 2]
+}
+
+/// From bytes to bytes.
+fn whole(r: &[u8], t: &[u8]) -> Option<Vec<u8>> {
+    let rule = rule::read(r)?;
+    let batch = table::read(t, &rule)?;
+    let null = rule.case.nullable(batch.schema_ref()).unwrap_or(true);
+    let value = rule.case.evaluate(&batch).ok()?;
+    Some(table::write(&value.into_array(batch.num_rows()).ok()?, null))
 }
 
 fn bench(r: &[u8], t: &[u8]) -> String {
@@ -128,50 +138,14 @@ fn bench(r: &[u8], t: &[u8]) -> String {
     let Some(batch) = table::read(t, &rule) else {
         return "unreadable\n".into();
     };
-    let case = &rule.case;
-    let mut s = format!("strategy {}\n", probe::strategy(case));
-    let mut line = |name: &str, (median, least): (f64, f64)| {
-        let _ = writeln!(s, "{name} median_ns {median:.0} least_ns {least:.0}");
-    };
-    line(
-        "evaluate",
-        time(|| {
-            let _ = black_box(case.evaluate(black_box(&batch)));
-        }),
-    );
-    line(
-        "evaluate+into_array",
-        time(|| {
-            let _ = black_box(
-                case.evaluate(black_box(&batch))
-                    .and_then(|v| v.into_array(batch.num_rows())),
-            );
-        }),
-    );
-    line(
-        "table+evaluate+write",
-        time(|| {
-            let batch = table::read(black_box(t), &rule).unwrap();
-            let null = case.nullable(batch.schema_ref()).unwrap_or(true);
-            if let Ok(a) = case.evaluate(&batch).and_then(|v| v.into_array(batch.num_rows())) {
-                black_box(table::write(&a, null));
-            }
-        }),
-    );
-    line(
-        "rule+table+evaluate+write",
-        time(|| {
-            let rule = rule::read(black_box(r)).unwrap();
-            let batch = table::read(black_box(t), &rule).unwrap();
-            let null = rule.case.nullable(batch.schema_ref()).unwrap_or(true);
-            if let Ok(a) =
-                rule.case.evaluate(&batch).and_then(|v| v.into_array(batch.num_rows()))
-            {
-                black_box(table::write(&a, null));
-            }
-        }),
-    );
-    s
+    let evaluate = time(|| {
+        let value = rule.case.evaluate(black_box(&batch));
+        let _ = black_box(value.and_then(|v| v.into_array(batch.num_rows())));
+    });
+    let all = time(|| {
+        black_box(whole(black_box(r), black_box(t)));
+    });
+    format!("evaluate {evaluate:.0}\nwhole {all:.0}\n")
 }
 
 fn stream(cast_else: bool, wrap: bool) -> std::io::Result<()> {
