@@ -11,6 +11,7 @@ use rule::answer::read;
 use rule::answer::strategy;
 use rule::strategy::Strategy;
 use rule::types::type_number;
+use scalar::types::mark_number;
 
 // The bytes stored before the columns.
 pub(crate) const FACTS: usize = 5;
@@ -48,7 +49,11 @@ fn strategy_agrees(rule: &[u8], refused: u8, number: u8) -> bool {
 fn nullable_agrees(rule: &[u8], refused: u8, mark: u8) -> bool {
     match nullable(rule) {
         NullableAnswer::Refused(n) => n == refused,
-        NullableAnswer::Nullable(b) => if b { mark == 1 } else { mark == 0 },
+        NullableAnswer::Nullable(b) => if refused == 0 {
+            mark_number(b) == mark
+        } else {
+            false
+        },
     }
 }
 
