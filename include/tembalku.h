@@ -206,7 +206,7 @@ static inline uint64_t tembalku_number(const uint8_t *at, size_t bytes) {
 }
 
 /* The bit of a row in a bitmap. */
-static inline int tembalku_bit(const uint8_t *map, size_t row) { return map[row / 8] >> (row % 8) & 1; }
+static inline int tembalku_bit(const uint8_t *map, size_t row) { return map[row >> 3] >> (row & 7) & 1; }
 
 /* The content of the field of a tag at the place *at, its length in *content_len and *at moved behind it; NULL if there is none. */
 static inline const uint8_t *tembalku_field(const uint8_t *bytes, size_t bytes_len, size_t *at, uint8_t tag, size_t *content_len) {
@@ -230,14 +230,14 @@ static inline int tembalku_offsets_rise(const uint8_t *offsets, size_t rows, siz
 
 /* The length of tag 4 for a type of numbers or Booleans. */
 static inline size_t tembalku_values_len(int type, size_t rows) {
-    return type == TEMBALKU_BOOLEAN ? (rows + 7) / 8 : type == TEMBALKU_INT32 ? 4 * rows : 8 * rows;
+    return type == TEMBALKU_BOOLEAN ? (rows + 7) >> 3 : type == TEMBALKU_INT32 ? 4 * rows : 8 * rows;
 }
 
 /* The parts of an answer behind its tag 2; 0 if they aren't as docs/FORMAT.md lists them. */
 static inline int tembalku_answer_parts(struct tembalku_answer *answer, const uint8_t *bytes, size_t bytes_len, size_t at) {
     size_t validity_len = 0, offsets_len = 0, values_len = 0, rows = answer->rows;
     const uint8_t *validity = tembalku_field(bytes, bytes_len, &at, 3, &validity_len);
-    if (validity == NULL || (validity_len != 0 && validity_len != (rows + 7) / 8)) return 0;
+    if (validity == NULL || (validity_len != 0 && validity_len != (rows + 7) >> 3)) return 0;
     answer->validity = validity_len == 0 ? NULL : validity;
     if (answer->type == TEMBALKU_UTF8) {
         answer->offsets = tembalku_field(bytes, bytes_len, &at, 5, &offsets_len);

@@ -1,12 +1,16 @@
-/* Times the readings of a rule and of a table: nanoseconds a byte, the best of several rounds. */
+/* bench time|once rule|table FILE: reads a rule or a table through the library, outside of the gate.
+ *
+ * time  prints the answer and the nanoseconds of a reading, the best of several rounds
+ * once  reads it once, for a count of its instructions */
 #include <stdint.h>
 #include <stdio.h>
 #include <stdlib.h>
 #include <string.h>
 #include <time.h>
 
-uint32_t tembalku_rule_read(const uint8_t *rule, size_t size);
-uint32_t tembalku_table_read(const uint8_t *table, size_t size);
+#include "tembalku.h"
+
+typedef uint32_t reading(const uint8_t *, size_t);
 
 static double now(void) {
     struct timespec t;
@@ -26,25 +30,27 @@ static uint8_t *load(const char *path, size_t *size) {
     return b;
 }
 
-int main(int count, char **args) {
-    for (int i = 1; i + 1 < count; i += 2) {
-        size_t size;
-        uint8_t *b = load(args[i + 1], &size);
-        int table = args[i][0] == 't';
-        uint32_t said = 0;
-        double best = 1e18;
-        for (int round = 0; round < 20; round++) {
-            int times = 200;
-            double start = now();
-            for (int k = 0; k < times; k++)
-                said += table ? tembalku_table_read(b, size) : tembalku_rule_read(b, size);
-            double took = (now() - start) / times;
-            if (took < best) best = took;
-        }
-        printf("%-28s %6zu bytes %10.0f ns %8.2f ns a byte (answer %u)\n", args[i + 1], size, best, best / size,
-               table ? tembalku_table_read(b, size) : tembalku_rule_read(b, size));
-        if (said == 12345) puts("");
-        free(b);
+static double best(reading *read, const uint8_t *bytes, size_t size) {
+    volatile uint32_t said = 0;
+    double least = 1e18;
+    for (int round = 0; round < 20; round++) {
+        int times = 200;
+        double start = now();
+        for (int k = 0; k < times; k++) said = read(bytes, size);
+        double took = (now() - start) / times;
+        if (took < least) least = took;
     }
+    (void)said;
+    return least;
+}
+
+int main(int count, char **args) {
+    if (count != 4) { fputs("usage: bench time|once rule|table FILE\n", stderr); return 2; }
+    size_t size;
+    uint8_t *bytes = load(args[3], &size);
+    reading *read = strcmp(args[2], "table") == 0 ? tembalku_table_read : tembalku_rule_read;
+    uint32_t said = read(bytes, size);
+    if (strcmp(args[1], "time") == 0) printf("%u %.0f\n", said, best(read, bytes, size));
+    free(bytes);
     return 0;
 }

@@ -54,7 +54,7 @@ fn field(bytes: &[u8]) -> (&[u8], &[u8]) {
 }
 
 fn bit(map: &[u8], row: usize) -> bool {
-    map[row / 8] >> (row % 8) & 1 == 1
+    map[row >> 3] >> (row & 7) & 1 == 1
 }
 
 /// Prints an answer as the program caserun lists it.

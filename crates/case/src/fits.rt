@@ -16,7 +16,7 @@ fn column_fits(mark: u8, place: ColumnPlace) -> bool
     ensures { λ r. ⌜ ((bytes : List ℕ) → r ≡ markFits mark (some (columnIn bytes place))) ⌝ }
 {
     let kind = place.data_type;
-    if mark % 8 != type_number(kind) {
+    if mark & 7 != type_number(kind) {
         return false;
     }
     if 8 <= mark {

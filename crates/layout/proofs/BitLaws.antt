@@ -1,15 +1,25 @@
 -- Bits in bytes and back. Assumes nothing.
-use mathlib.Core.Path.{_≡_, ap, sym, _∙_}
+use mathlib.Core.Path.{_≡_, refl, ap, sym, _∙_}
 use mathlib.Core.Bool.{Bool, true, false, cond}
 use mathlib.Core.List.{List, [], _∷_}
 use Prim.Native.Nat.{ℕ, zero, suc, _+_, _-_, _*_, _/_, _%_, _^_, _<_, _≤_}
 use native.Mathlib.Nat.{zero-div}
 use native.Mathlib.Omega.{arith}
+use lib.Bits.{bitAnd, and-mask}
 use lib.Dec.{eqb}
 use lib.ListN.{length, getD, List·getD-eq-default}
 use lib.Pow.{shr-shr, field, mod-mod-pow}
 use Rattle.layout.specs.Bytes.{byte, numberBytes, byteOfRow, bitOfRow, bitAt, bitmapLength, bitNumber, bitmap}
 use Rattle.layout.proofs.BytesLaws.{length-numberBytes}
+
+-- quotient and remainder of a number
+pub record Divided (n d q r : ℕ) : Type 0 where
+  pub quotient : q ≡ n / d
+  pub remainder : r ≡ n % d
+
+-- by a power of two: a shift by k gives the quotient, `n >> k` being n / 2 ^ k in the logic, and a mask of the k lowest bits the remainder
+pub shift-mask : (n k : ℕ) → Divided n (2 ^ k) (n / 2 ^ k) (bitAnd n (2 ^ k - 1))
+shift-mask n k = record { quotient = refl; remainder = and-mask n k }
 
 -- a byte of a number
 byte-of-number : (k n j : ℕ) → j < k → byte (numberBytes k n) j ≡ n / 2 ^ (8 * j) % 256

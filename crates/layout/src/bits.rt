@@ -6,14 +6,14 @@ ghost use Rattle.layout.specs.Bytes.{byteOfRow, bitOfRow, bitAt, bitmapL
 pub fn byte_of_row(row: usize) -> usize
     ensures { λ r. ⌜ r ≡ byteOfRow row ⌝ }
 {
-    row / 8
+    row >> 3
 }
 
 // Which bit of its byte is a row's, from 0.
 pub fn bit_of_row(row: usize) -> usize
     ensures { λ r. ⌜ r ≡ bitOfRow row ⌝ }
 {
-    row % 8
+    row & 7
 }
 
 // The bit of a row; behind the bitmap's end it is not set.
@@ -24,7 +24,7 @@ pub fn bit_at(map: &[u8], row: usize) -> bool
     let shift = bit_of_row(row);
     if at < map.len() {
         let b = map[at];
-        (b >> shift) % 2 == 1
+        (b >> shift) & 1 == 1
     } else {
         false
     }
@@ -34,6 +34,6 @@ pub fn bit_at(map: &[u8], row: usize) -> bool
 pub fn bitmap_length(rows: usize) -> usize
     ensures { λ r. ⌜ r ≡ bitmapLength rows ⌝ }
 {
-    let whole = rows / 8;
-    if rows % 8 == 0 { whole } else { whole + 1 }
+    let whole = rows >> 3;
+    if rows & 7 == 0 { whole } else { whole + 1 }
 }

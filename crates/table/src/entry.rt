@@ -31,7 +31,7 @@ pub fn valid_at(validity: &[u8], row: usize) -> bool
 pub fn row_u32(values: &[u8], row: usize) -> u32
     ensures { λ r. ⌜ r ≡ numberAt 4 (now (values .entry)) (4 * row) ⌝ }
 {
-    if values.len() / 4 < row {
+    if values.len() >> 2 < row {
         return 0;
     }
     read_u32(values, 4 * row)
@@ -41,7 +41,7 @@ pub fn row_u32(values: &[u8], row: usize) -> u32
 pub fn row_u64(values: &[u8], row: usize) -> u64
     ensures { λ r. ⌜ r ≡ numberAt 8 (now (values .entry)) (8 * row) ⌝ }
 {
-    if values.len() / 8 < row {
+    if values.len() >> 3 < row {
         return 0;
     }
     read_u64(values, 8 * row)
@@ -64,7 +64,7 @@ fn text_at(bytes: &[u8], place: ColumnPlace, row: usize) -> Value
     ensures { λ r. ⌜ r ≡ valueIn Utf8 (now (bytes .entry)) place row ⌝ }
 {
     let offsets = part_of(bytes, place.offsets_start, place.offsets_end);
-    if offsets.len() / 4 < row {
+    if offsets.len() >> 2 < row {
         return Value::TableText(0, 0);
     }
     let from = row_u32(offsets, row) as usize;
