@@ -12,7 +12,7 @@ use lib.Pow.{shr-shr, field, mod-mod-pow}
 use Rattle.layout.specs.Bytes.{byte, numberBytes, byteOfRow, bitOfRow, bitAt, bitmapLength, bitNumber, bitmap}
 use Rattle.layout.proofs.BytesLaws.{length-numberBytes}
 
--- quotient and remainder of a number
+-- q and r are the quotient and the remainder of n by d
 pub record Divided (n d q r : ℕ) : Type 0 where
   pub quotient : q ≡ n / d
   pub remainder : r ≡ n % d
