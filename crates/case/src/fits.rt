@@ -11,7 +11,7 @@ ghost use lib.ListN.{length, getElem?};
 ghost use Rattle.table.specs.Places.{columnIn, tableIn};
 ghost use Rattle.case.specs.Fitting.{markFits, Beyond, FitsGives};
 
-// Whether a column of a table fits the mark of a rule's column.
+// Whether a column of a table fits the mark of a rule's column: the three lowest bits of a mark are the type's number.
 fn column_fits(mark: u8, place: ColumnPlace) -> bool
     ensures { λ r. ⌜ ((bytes : List ℕ) → r ≡ markFits mark (some (columnIn bytes place))) ⌝ }
 {
