@@ -2,11 +2,10 @@
 use mathlib.Core.Path.{_≡_, refl, sym, ap, subst, _∙_}
 use mathlib.Core.Bool.{Bool, true, false, cond}
 use mathlib.Core.List.{List, [], _∷_}
-use Prim.Native.Nat.{ℕ, _<_}
+use Prim.Native.Nat.{ℕ, _^_, _<_}
 use native.Mathlib.Omega.{arith}
 use lib.Dec.{lit<}
-use lib.Ieee.{Float, binary64, ofInt}
-use lib.Ieee.Fits.{ofInt-fits}
+use lib.Ieee.{Float, binary64, nanBits, ofBits, ofInt, toBits}
 use types.Run.{OneOf, miss}
 use denote.Enum.Declared.{tagOf}
 use Rattle.scalar.proofs.value.Value.{the-type}
@@ -15,14 +14,14 @@ use Rattle.scalar.specs.declared.types.DataType.{DataType}
 use Rattle.scalar.specs.declared.types.DataType.the-variants as type
 use Rattle.scalar.specs.declared.value.Value.{Value}
 use Rattle.scalar.specs.declared.value.Value.the-variants.{Null, Boolean, Int32, Int64, Float64, Nan, RuleText, TableText, Failed}
-use Rattle.scalar.specs.Entry.{int32, entry, unfit, onEntry}
+use Rattle.scalar.specs.Entry.{Entry, int32, int64, entry, unfit, onEntry}
 use Rattle.scalar.specs.Integer.{signed, bitsOf, inRange}
 use Rattle.scalar.specs.Float.{floatBits}
-use Rattle.scalar.specs.Cast.{narrowed, castEntry}
-use Rattle.scalar.specs.Casts.{wholeBits, keptAs, castValue}
-use Rattle.scalar.specs.Value.{meaning, valueSaying, Storable, Gives}
-use Rattle.scalar.proofs.IntegerLaws.{bitsOf-below}
-use Rattle.scalar.proofs.FloatLaws.{ofInt-no-nan, float-back, float-means, float-stores, floatBits-below}
+use Rattle.scalar.specs.Cast.{narrowed, wholeFits, castEntry}
+use Rattle.scalar.specs.Casts.{keptAs, truncatedAs, floatAs, castValue}
+use Rattle.scalar.specs.Value.{meaning, floatValue, valueSaying, Storable, Gives}
+use Rattle.scalar.proofs.IntegerLaws.{bitsOf-below, widened-signed}
+use Rattle.scalar.proofs.FloatLaws.{bits-back, floated-value, float-means, float-stores, floatBits-below}
 
 -- ---- the steps
 
@@ -30,33 +29,39 @@ use Rattle.scalar.proofs.FloatLaws.{ofInt-no-nan, float-back, float-mea
 pub cast-to : {to t : DataType} (v : Value) {r : Value} → to ≡ t → r ≡ castValue t v → r ≡ castValue to v
 cast-to v e p = p ∙ ap (λ (t : DataType). castValue t v) (sym e)
 
--- an Int32's float is its cast
-pub floated-cast : {to : DataType} (n : ℕ) {f : Float} → to ≡ type.Float64 → f ≡ ofInt binary64 (signed 31 n) → Float64 f ≡ castValue to (Int32 n)
+-- an Int32's float, by its Int64, is its cast, and so is an Int64's
+pub int32-float : {to : DataType} (n : ℕ) {w : ℕ} {f : Float} → n < 2 ^ 32 → to ≡ type.Float64 → w ≡ bitsOf 63 (signed 31 n) → f ≡ ofInt binary64 (signed 63 w) → Float64 f ≡ castValue to (Int32 n)
 unfolding castEntry castValue
-floated-cast n e p = cast-to (Int32 n) e (ap Float64 p ∙ sym (float-back (ofInt binary64 (signed 31 n)) (ofInt-fits binary64 (signed 31 n)) (ofInt-no-nan binary64 (signed 31 n))))
+int32-float n b e i p = cast-to (Int32 n) e (floated-value (signed 31 n) (p ∙ ap (λ (x : ℕ). ofInt binary64 (signed 63 x)) i ∙ ap (ofInt binary64) (widened-signed n b)))
+
+pub int64-float : {to : DataType} (n : ℕ) {f : Float} → to ≡ type.Float64 → f ≡ ofInt binary64 (signed 63 n) → Float64 f ≡ castValue to (Int64 n)
+unfolding castEntry castValue
+int64-float n e p = cast-to (Int64 n) e (floated-value (signed 63 n) p)
 
 -- an Int64's Int32, or what doesn't fit, is its cast
 pub narrowed-cast : (n : ℕ) {r : Value} → r ≡ valueSaying (Int64 n) (narrowed n) → r ≡ castValue type.Int32 (Int64 n)
 unfolding castEntry castValue
 narrowed-cast n p = p
 
--- an Int64 is cast to no float and no text
-pub whole-lost : (to : DataType) (n : ℕ) → OneOf (3 ∷ 4 ∷ []) (tagOf data-type.the-type to) → Failed ≡ castValue to (Int64 n)
+-- a Boolean is cast to no float and no text
+pub boolean-lost : (to : DataType) (b : Bool) → OneOf (3 ∷ 4 ∷ []) (tagOf data-type.the-type to) → Failed ≡ castValue to (Boolean b)
 unfolding castEntry castValue
-whole-lost type.Float64 n h = refl
-whole-lost type.Utf8 n h = refl
-whole-lost type.Boolean n h = absurd (miss (3 ∷ 4 ∷ []) 0 tt h)
-whole-lost type.Int32 n h = absurd (miss (3 ∷ 4 ∷ []) 1 tt h)
-whole-lost type.Int64 n h = absurd (miss (3 ∷ 4 ∷ []) 2 tt h)
+boolean-lost type.Float64 b h = refl
+boolean-lost type.Utf8 b h = refl
+boolean-lost type.Boolean b h = absurd (miss (3 ∷ 4 ∷ []) 0 tt h)
+boolean-lost type.Int32 b h = absurd (miss (3 ∷ 4 ∷ []) 1 tt h)
+boolean-lost type.Int64 b h = absurd (miss (3 ∷ 4 ∷ []) 2 tt h)
 
--- what is kept only as a float, and only as a text
-pub float-lost : (to : DataType) (v : Value) → OneOf (0 ∷ 1 ∷ 2 ∷ 4 ∷ []) (tagOf data-type.the-type to) → Failed ≡ keptAs type.Float64 to v
-float-lost type.Boolean v h = refl
-float-lost type.Int32 v h = refl
-float-lost type.Int64 v h = refl
-float-lost type.Float64 v h = absurd (miss (0 ∷ 1 ∷ 2 ∷ 4 ∷ []) 3 tt h)
-float-lost type.Utf8 v h = refl
+-- a float to no Boolean and no text
+pub float-lost : (to : DataType) (v : Value) (n : ℕ) → OneOf (0 ∷ 4 ∷ []) (tagOf data-type.the-type to) → Failed ≡ floatAs to v n
+unfolding castEntry
+float-lost type.Boolean v n h = refl
+float-lost type.Utf8 v n h = refl
+float-lost type.Int32 v n h = absurd (miss (0 ∷ 4 ∷ []) 1 tt h)
+float-lost type.Int64 v n h = absurd (miss (0 ∷ 4 ∷ []) 2 tt h)
+float-lost type.Float64 v n h = absurd (miss (0 ∷ 4 ∷ []) 3 tt h)
 
+-- and a text to a text alone
 pub text-lost : (to : DataType) (v : Value) → OneOf (0 ∷ 1 ∷ 2 ∷ 3 ∷ []) (tagOf data-type.the-type to) → Failed ≡ keptAs type.Utf8 to v
 text-lost type.Boolean v h = refl
 text-lost type.Int32 v h = refl
@@ -64,37 +69,7 @@ text-lost type.Int64 v h = refl
 text-lost type.Float64 v h = refl
 text-lost type.Utf8 v h = absurd (miss (0 ∷ 1 ∷ 2 ∷ 3 ∷ []) 4 tt h)
 
--- any other value has no bits of an Int64
-pub no-whole : (v : Value) → OneOf (0 ∷ 2 ∷ 4 ∷ 5 ∷ 6 ∷ 7 ∷ 8 ∷ []) (tagOf the-type v) → 0 ≡ wholeBits v
-no-whole Null h = refl
-no-whole (Boolean b) h = absurd (miss (0 ∷ 2 ∷ 4 ∷ 5 ∷ 6 ∷ 7 ∷ 8 ∷ []) 1 tt h)
-no-whole (Int32 n) h = refl
-no-whole (Int64 n) h = absurd (miss (0 ∷ 2 ∷ 4 ∷ 5 ∷ 6 ∷ 7 ∷ 8 ∷ []) 3 tt h)
-no-whole (Float64 f) h = refl
-no-whole (Nan n) h = refl
-no-whole (RuleText s n) h = refl
-no-whole (TableText s n) h = refl
-no-whole Failed h = refl
-
--- a Boolean is cast as the Int64 1 or 0 is
-boolean-cast : (to : DataType) (b : Bool) → castValue to (Int64 (cond b 1 0)) ≡ castValue to (Boolean b)
-unfolding castEntry bitsOf castValue
-boolean-cast type.Boolean true = refl
-boolean-cast type.Boolean false = refl
-boolean-cast type.Int32 true = refl
-boolean-cast type.Int32 false = refl
-boolean-cast type.Int64 true = refl
-boolean-cast type.Int64 false = refl
-boolean-cast type.Float64 b = refl
-boolean-cast type.Utf8 b = refl
-
 -- ---- the arms of `cast`, by the tags of the values
-
-abbrev pub IsWhole : Value → Type 0
-IsWhole v = OneOf (1 ∷ 3 ∷ []) (tagOf the-type v)
-
-abbrev pub IsFloat : Value → Type 0
-IsFloat v = OneOf (4 ∷ 5 ∷ []) (tagOf the-type v)
 
 abbrev pub IsText : Value → Type 0
 IsText v = OneOf (6 ∷ 7 ∷ []) (tagOf the-type v)
@@ -102,35 +77,37 @@ IsText v = OneOf (6 ∷ 7 ∷ []) (tagOf the-type v)
 abbrev pub IsNone : Value → Type 0
 IsNone v = OneOf (0 ∷ 8 ∷ []) (tagOf the-type v)
 
--- a Boolean or an Int64, by its bits as an Int64
-pub whole-cast : (to : DataType) (v : Value) {n : ℕ} {r : Value} → IsWhole v → n ≡ wholeBits v → r ≡ castValue to (Int64 n) → r ≡ castValue to v
-whole-cast to v {r = r} h e p = p ∙ ap (λ (n : ℕ). castValue to (Int64 n)) e ∙ go v h
+-- what may not fit and is no text, whatever value a text would be
+fitted-same : (v u : Value) (e : Entry) (c : Bool) → valueSaying v (entry e) ≡ valueSaying u (entry e) → valueSaying v (cond c (entry e) unfit) ≡ valueSaying u (cond c (entry e) unfit)
+fitted-same v u e true p = p
+fitted-same v u e false p = refl
+
+-- a float is cast by its bits
+pub float-cast : (to : DataType) (f : Float) {n : ℕ} → n ≡ toBits binary64 f → floatAs to (Float64 f) n ≡ castValue to (Float64 f)
+unfolding castEntry castValue
+float-cast type.Boolean f e = refl
+float-cast type.Int32 f e = ap (truncatedAs type.Int32) e ∙ fitted-same Null (Float64 f) (int32 _) (wholeFits 31 (toBits binary64 f)) refl
+float-cast type.Int64 f e = ap (truncatedAs type.Int64) e ∙ fitted-same Null (Float64 f) (int64 _) (wholeFits 63 (toBits binary64 f)) refl
+float-cast type.Float64 f e = refl
+float-cast type.Utf8 f e = refl
+
+pub nan-cast : (to : DataType) (n : ℕ) → floatAs to (Nan n) n ≡ castValue to (Nan n)
+unfolding castEntry castValue
+nan-cast type.Boolean n = refl
+nan-cast type.Int32 n = fitted-same Null (Nan n) (int32 _) (wholeFits 31 n) refl
+nan-cast type.Int64 n = fitted-same Null (Nan n) (int64 _) (wholeFits 63 n) refl
+nan-cast type.Float64 n = refl
+nan-cast type.Utf8 n = refl
+
+-- and so is the value of some bits
+pub bits-cast : (to : DataType) (n : ℕ) → n < 2 ^ 64 → floatAs to (floatValue n) n ≡ castValue to (floatValue n)
+bits-cast to n h = go (nanBits binary64 n) refl
   where
-    go : (v : Value) → IsWhole v → castValue to (Int64 (wholeBits v)) ≡ castValue to v
-    go (Boolean b) h = boolean-cast to b
-    go (Int64 n) h = refl
-    go Null h = absurd (miss (1 ∷ 3 ∷ []) 0 tt h)
-    go (Int32 n) h = absurd (miss (1 ∷ 3 ∷ []) 2 tt h)
-    go (Float64 f) h = absurd (miss (1 ∷ 3 ∷ []) 4 tt h)
-    go (Nan n) h = absurd (miss (1 ∷ 3 ∷ []) 5 tt h)
-    go (RuleText s n) h = absurd (miss (1 ∷ 3 ∷ []) 6 tt h)
-    go (TableText s n) h = absurd (miss (1 ∷ 3 ∷ []) 7 tt h)
-    go Failed h = absurd (miss (1 ∷ 3 ∷ []) 8 tt h)
+    go : (b : Bool) → nanBits binary64 n ≡ b → floatAs to (cond b (Nan n) (Float64 (ofBits binary64 n))) n ≡ castValue to (cond b (Nan n) (Float64 (ofBits binary64 n)))
+    go true e = nan-cast to n
+    go false e = float-cast to (ofBits binary64 n) (sym (bits-back n h e))
 
--- a float is cast to its own type alone
-pub float-cast : (to : DataType) (v : Value) → IsFloat v → keptAs type.Float64 to v ≡ castValue to v
-unfolding castValue
-float-cast to (Float64 f) h = refl
-float-cast to (Nan n) h = refl
-float-cast to Null h = absurd (miss (4 ∷ 5 ∷ []) 0 tt h)
-float-cast to (Boolean b) h = absurd (miss (4 ∷ 5 ∷ []) 1 tt h)
-float-cast to (Int32 n) h = absurd (miss (4 ∷ 5 ∷ []) 2 tt h)
-float-cast to (Int64 n) h = absurd (miss (4 ∷ 5 ∷ []) 3 tt h)
-float-cast to (RuleText s n) h = absurd (miss (4 ∷ 5 ∷ []) 6 tt h)
-float-cast to (TableText s n) h = absurd (miss (4 ∷ 5 ∷ []) 7 tt h)
-float-cast to Failed h = absurd (miss (4 ∷ 5 ∷ []) 8 tt h)
-
--- and so is a text
+-- a text is cast to its own type alone
 pub text-cast : (to : DataType) (v : Value) → IsText v → keptAs type.Utf8 to v ≡ castValue to v
 unfolding castEntry castValue
 text-cast to (RuleText s n) h = elim to [ type.Boolean ↦ refl | type.Int32 ↦ refl | type.Int64 ↦ refl | type.Float64 ↦ refl | type.Utf8 ↦ refl ]
@@ -162,19 +139,14 @@ flag-small : {m : ℕ} (b : Bool) → 1 < m → cond b 1 0 < m
 flag-small true h = h
 flag-small false h = omega arith
 
-narrowed-means : (n : ℕ) (rule table : List ℕ) → meaning rule table (valueSaying (Int64 n) (narrowed n)) ≡ narrowed n
-narrowed-means n rule table = go (inRange 31 (signed 63 n))
-  where
-    go : (c : Bool) → meaning rule table (valueSaying (Int64 n) (cond c (entry (int32 (bitsOf 31 (signed 63 n)))) unfit)) ≡ cond c (entry (int32 (bitsOf 31 (signed 63 n)))) unfit
-    go true = refl
-    go false = refl
+-- what may not fit means what it is said to, and can be stored
+fitted-means : (v : Value) (e : Entry) (c : Bool) (rule table : List ℕ) → meaning rule table (valueSaying v (entry e)) ≡ entry e → meaning rule table (valueSaying v (cond c (entry e) unfit)) ≡ cond c (entry e) unfit
+fitted-means v e true rule table p = p
+fitted-means v e false rule table p = refl
 
-narrowed-stores : (n : ℕ) → Storable (valueSaying (Int64 n) (narrowed n))
-narrowed-stores n = go (inRange 31 (signed 63 n))
-  where
-    go : (c : Bool) → Storable (valueSaying (Int64 n) (cond c (entry (int32 (bitsOf 31 (signed 63 n)))) unfit))
-    go true = bitsOf-below 31 (signed 63 n)
-    go false = tt
+fitted-stores : (v : Value) (e : Entry) (c : Bool) → Storable (valueSaying v (entry e)) → Storable (valueSaying v (cond c (entry e) unfit))
+fitted-stores v e true p = p
+fitted-stores v e false p = tt
 
 cast-means : (to : DataType) (v : Value) (rule table : List ℕ) → meaning rule table (castValue to v) ≡ onEntry (castEntry to) (meaning rule table v)
 unfolding castEntry castValue
@@ -182,9 +154,30 @@ cast-means to Null rule table = elim to [ type.Boolean ↦ refl | type.Int32 ↦
 cast-means to (Boolean b) rule table = elim to [ type.Boolean ↦ refl | type.Int32 ↦ refl | type.Int64 ↦ refl | type.Float64 ↦ refl | type.Utf8 ↦ refl ]
 cast-means to (Int32 n) rule table =
     elim to [ type.Boolean ↦ refl | type.Int32 ↦ refl | type.Int64 ↦ refl | type.Float64 ↦ float-means (floatBits (signed 31 n)) (floatBits-below (signed 31 n)) rule table | type.Utf8 ↦ refl ]
-cast-means to (Int64 n) rule table = elim to [ type.Boolean ↦ refl | type.Int32 ↦ narrowed-means n rule table | type.Int64 ↦ refl | type.Float64 ↦ refl | type.Utf8 ↦ refl ]
-cast-means to (Float64 f) rule table = elim to [ type.Boolean ↦ refl | type.Int32 ↦ refl | type.Int64 ↦ refl | type.Float64 ↦ refl | type.Utf8 ↦ refl ]
-cast-means to (Nan n) rule table = elim to [ type.Boolean ↦ refl | type.Int32 ↦ refl | type.Int64 ↦ refl | type.Float64 ↦ refl | type.Utf8 ↦ refl ]
+cast-means to (Int64 n) rule table =
+    elim to [
+      | type.Boolean ↦ refl
+      | type.Int32 ↦ fitted-means (Int64 n) (int32 _) (inRange 31 (signed 63 n)) rule table refl
+      | type.Int64 ↦ refl
+      | type.Float64 ↦ float-means (floatBits (signed 63 n)) (floatBits-below (signed 63 n)) rule table
+      | type.Utf8 ↦ refl
+    ]
+cast-means to (Float64 f) rule table =
+    elim to [
+      | type.Boolean ↦ refl
+      | type.Int32 ↦ fitted-means (Float64 f) (int32 _) (wholeFits 31 (toBits binary64 f)) rule table refl
+      | type.Int64 ↦ fitted-means (Float64 f) (int64 _) (wholeFits 63 (toBits binary64 f)) rule table refl
+      | type.Float64 ↦ refl
+      | type.Utf8 ↦ refl
+    ]
+cast-means to (Nan n) rule table =
+    elim to [
+      | type.Boolean ↦ refl
+      | type.Int32 ↦ fitted-means (Nan n) (int32 _) (wholeFits 31 n) rule table refl
+      | type.Int64 ↦ fitted-means (Nan n) (int64 _) (wholeFits 63 n) rule table refl
+      | type.Float64 ↦ refl
+      | type.Utf8 ↦ refl
+    ]
 cast-means to (RuleText s n) rule table = elim to [ type.Boolean ↦ refl | type.Int32 ↦ refl | type.Int64 ↦ refl | type.Float64 ↦ refl | type.Utf8 ↦ refl ]
 cast-means to (TableText s n) rule table = elim to [ type.Boolean ↦ refl | type.Int32 ↦ refl | type.Int64 ↦ refl | type.Float64 ↦ refl | type.Utf8 ↦ refl ]
 cast-means to Failed rule table = refl
@@ -195,9 +188,30 @@ cast-stores to Null h = elim to [ type.Boolean ↦ tt | type.Int32 ↦ tt | type
 cast-stores to (Boolean b) h = elim to [ type.Boolean ↦ tt | type.Int32 ↦ flag-small b (lit< tt) | type.Int64 ↦ flag-small b (lit< tt) | type.Float64 ↦ tt | type.Utf8 ↦ tt ]
 cast-stores to (Int32 n) h =
     elim to [ type.Boolean ↦ tt | type.Int32 ↦ h | type.Int64 ↦ bitsOf-below 63 (signed 31 n) | type.Float64 ↦ float-stores (floatBits (signed 31 n)) (floatBits-below (signed 31 n)) | type.Utf8 ↦ tt ]
-cast-stores to (Int64 n) h = elim to [ type.Boolean ↦ tt | type.Int32 ↦ narrowed-stores n | type.Int64 ↦ h | type.Float64 ↦ tt | type.Utf8 ↦ tt ]
-cast-stores to (Float64 f) h = elim to [ type.Boolean ↦ tt | type.Int32 ↦ tt | type.Int64 ↦ tt | type.Float64 ↦ h | type.Utf8 ↦ tt ]
-cast-stores to (Nan n) h = elim to [ type.Boolean ↦ tt | type.Int32 ↦ tt | type.Int64 ↦ tt | type.Float64 ↦ h | type.Utf8 ↦ tt ]
+cast-stores to (Int64 n) h =
+    elim to [
+      | type.Boolean ↦ tt
+      | type.Int32 ↦ fitted-stores (Int64 n) (int32 _) (inRange 31 (signed 63 n)) (bitsOf-below 31 _)
+      | type.Int64 ↦ h
+      | type.Float64 ↦ float-stores (floatBits (signed 63 n)) (floatBits-below (signed 63 n))
+      | type.Utf8 ↦ tt
+    ]
+cast-stores to (Float64 f) h =
+    elim to [
+      | type.Boolean ↦ tt
+      | type.Int32 ↦ fitted-stores (Float64 f) (int32 _) (wholeFits 31 (toBits binary64 f)) (bitsOf-below 31 _)
+      | type.Int64 ↦ fitted-stores (Float64 f) (int64 _) (wholeFits 63 (toBits binary64 f)) (bitsOf-below 63 _)
+      | type.Float64 ↦ h
+      | type.Utf8 ↦ tt
+    ]
+cast-stores to (Nan n) h =
+    elim to [
+      | type.Boolean ↦ tt
+      | type.Int32 ↦ fitted-stores (Nan n) (int32 _) (wholeFits 31 n) (bitsOf-below 31 _)
+      | type.Int64 ↦ fitted-stores (Nan n) (int64 _) (wholeFits 63 n) (bitsOf-below 63 _)
+      | type.Float64 ↦ h
+      | type.Utf8 ↦ tt
+    ]
 cast-stores to (RuleText s n) h = elim to [ type.Boolean ↦ tt | type.Int32 ↦ tt | type.Int64 ↦ tt | type.Float64 ↦ tt | type.Utf8 ↦ h ]
 cast-stores to (TableText s n) h = elim to [ type.Boolean ↦ tt | type.Int32 ↦ tt | type.Int64 ↦ tt | type.Float64 ↦ tt | type.Utf8 ↦ h ]
 cast-stores to Failed h = tt

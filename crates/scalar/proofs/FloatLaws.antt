@@ -17,7 +17,7 @@ use Rattle.scalar.specs.Integer.{signed}
 use Rattle.scalar.specs.Float.{signTurned, floatBits}
 use Rattle.scalar.specs.Entry.{float64, entry}
 use Rattle.scalar.specs.Value.{meaning, floatValue, Storable}
-use Rattle.scalar.proofs.IntegerLaws.{signed-high}
+use Rattle.scalar.proofs.IntegerLaws.{signed-low, signed-high}
 
 -- the bits of an integer's float are 64
 pub floatBits-below : (z : ℤ) → floatBits z < 2 ^ 64
@@ -33,11 +33,16 @@ signTurned-below h n b = go (ltb n (2 ^ h)) refl
 
 -- the value of a pattern, a NaN's or not: it can be stored, and means the pattern
 module _ (n : ℕ) (h : n < 2 ^ 64) where
+  no-nan-bits : nanBits binary64 n ≡ false → T (not (isNan (ofBits binary64 n)))
+  no-nan-bits e = subst (λ (b : Bool). T (not b)) (sym e ∙ nanBits-is binary64 n) tt
+
+  -- a pattern that is no NaN's is that of its float
+  pub bits-back : nanBits binary64 n ≡ false → toBits binary64 (ofBits binary64 n) ≡ n
+  bits-back e = toBits-ofBits binary64 n h (no-nan-bits e)
+
   kept : (b : Bool) → nanBits binary64 n ≡ b → Storable (cond b (Nan n) (Float64 (ofBits binary64 n))) × ((rule table : List ℕ) → meaning rule table (cond b (Nan n) (Float64 (ofBits binary64 n))) ≡ entry (float64 n))
   kept true e = ((h, subst T (sym e) tt), λ rule table. refl)
-  kept false e =
-      let t : T (not (isNan (ofBits binary64 n))) = subst (λ (b : Bool). T (not b)) (sym e ∙ nanBits-is binary64 n) tt in
-      ((ofBits-fits binary64 n, t), λ rule table. ap (λ (x : ℕ). entry (float64 x)) (toBits-ofBits binary64 n h t))
+  kept false e = ((ofBits-fits binary64 n, no-nan-bits e), λ rule table. ap (λ (x : ℕ). entry (float64 x)) (bits-back e))
 
   pub float-stores : Storable (floatValue n)
   float-stores = kept (nanBits binary64 n) refl .0
@@ -95,9 +100,16 @@ unfolding ofInt
 ofInt-no-nan f (pos n) = turned-round f n .first
 ofInt-no-nan f (negsuc n) = turned-round f (suc n) .second
 
--- a negative Int32 as a float
-pub floated-high : (n : ℕ) → 2 ^ 31 ≤ n → n < 2 ^ 32 → neg (ofInt binary64 (pos (2 ^ 32 - n))) ≡ ofInt binary64 (signed 31 n)
+-- an integer without the sign as a float, and one with it
+pub floated-low : (h n : ℕ) → n < 2 ^ h → ofInt binary64 (pos n) ≡ ofInt binary64 (signed h n)
+floated-low h n b = sym (ap (ofInt binary64) (signed-low h n b))
+
+pub floated-high : (h n m : ℕ) → 2 ^ h ≤ n → n < 2 ^ suc h → m ≡ 2 ^ suc h - n → neg (ofInt binary64 (pos m)) ≡ ofInt binary64 (signed h n)
 unfolding ofInt
-floated-high n a b =
-    let e : 2 ^ 32 - n ≡ suc (2 ^ 32 - suc n) = omega arith in
-    ap (λ (x : ℕ). neg (ofInt binary64 (pos x))) e ∙ turned-round binary64 (suc (2 ^ 32 - suc n)) .negates ∙ sym (ap (ofInt binary64) (signed-high 31 n a))
+floated-high h n m a b k =
+    let e : m ≡ suc (2 ^ suc h - suc n) = omega arith in
+    ap (λ (x : ℕ). neg (ofInt binary64 (pos x))) e ∙ turned-round binary64 (suc (2 ^ suc h - suc n)) .negates ∙ sym (ap (ofInt binary64) (signed-high h n a))
+
+-- the value of an integer's float
+pub floated-value : (z : ℤ) {f : Float} → f ≡ ofInt binary64 z → Float64 f ≡ floatValue (floatBits z)
+floated-value z p = ap Float64 p ∙ sym (float-back (ofInt binary64 z) (ofInt-fits binary64 z) (ofInt-no-nan binary64 z))

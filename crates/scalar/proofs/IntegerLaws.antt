@@ -6,6 +6,7 @@ use native.Mathlib.Decide.{decLt}
 use native.Mathlib.Nat.{pow-suc, mod-lt, mod-eq-of-lt, add-mod-left}
 use native.Mathlib.Omega.{arith}
 use lib.IntN.{ℤ, pos, negsuc, negℤ}
+use lib.Signed.{mag}
 use lib.Pow.{pow-pos}
 use borrow.Author.Tests.{lt-ltb, le-ltb}
 use Rattle.scalar.specs.Integer.{signed, bitsOf, negated}
@@ -34,6 +35,13 @@ bitsOf-pos h n b = mod-eq-of-lt b
 bitsOf-negsuc : (h n : ℕ) → n < 2 ^ suc h → bitsOf h (negsuc n) ≡ 2 ^ suc h - suc n
 unfolding bitsOf
 bitsOf-negsuc h n b = ap (λ (x : ℕ). 2 ^ suc h - suc x) (mod-eq-of-lt b)
+
+-- the bits of an integer in the range are that integer
+pub signed-back : (h : ℕ) (z : ℤ) → mag z < 2 ^ h → signed h (bitsOf h z) ≡ z
+signed-back h (pos n) l = ap (signed h) (bitsOf-pos h n (omega (arith, pow-suc 2 h))) ∙ signed-low h n l
+signed-back h (negsuc n) l =
+    let e : 2 ^ suc h - suc (2 ^ suc h - suc n) ≡ n = omega (arith, pow-suc 2 h) in
+    ap (signed h) (bitsOf-negsuc h n (omega (arith, pow-suc 2 h))) ∙ signed-high h (2 ^ suc h - suc n) (omega (arith, pow-suc 2 h)) ∙ ap negsuc e
 
 -- zero negates to itself
 negated-zero : (h : ℕ) → negated h 0 ≡ 0
@@ -104,6 +112,14 @@ pub widened-high : (n : ℕ) → 2 ^ 31 ≤ n → n < 2 ^ 32 → bitsOf 63 (sign
 widened-high n a b =
     let e : 2 ^ 64 - suc (2 ^ 32 - suc n) ≡ n + (2 ^ 64 - 2 ^ 32) = omega arith in
     ap (bitsOf 63) (signed-high 31 n a) ∙ bitsOf-negsuc 63 (2 ^ 32 - suc n) (omega arith) ∙ e
+
+-- and back it is the same number
+pub widened-signed : (n : ℕ) → n < 2 ^ 32 → signed 63 (bitsOf 63 (signed 31 n)) ≡ signed 31 n
+widened-signed n b = signed-back 63 (signed 31 n) (go (decLt n (2 ^ 31)))
+  where
+    go : Dec (n < 2 ^ 31) → mag (signed 31 n) < 2 ^ 63
+    go (yes l) = rw (signed-low 31 n l) (omega arith)
+    go (no g) = rw (signed-high 31 n (omega arith)) (omega arith)
 
 -- an Int64 that is not negative and in Int32's range
 pub narrowed-low : (n : ℕ) → n < 2 ^ 31 → narrowed n ≡ entry (int32 n)

@@ -1,12 +1,19 @@
 -- The laws of `scalar`.
 pub mod IntegerLaws
 pub mod FloatLaws
+pub mod ScaleLaws
+pub mod WholeLaws
+pub mod IeeeLaws
+pub mod NearestLaws
+pub mod NearestOnly
+pub mod TruncateLaws
 pub mod TypeLaws
 pub mod FittingLaws
 pub mod ValueLaws
 pub mod CastLaws
 pub mod OperationLaws
 pub mod ValueExamples
+pub mod CastExamples
 pub mod EntryLaws
 pub mod TextLaws
 pub mod OrderLaws

@@ -114,7 +114,7 @@ negative-gives v e q = subst (Gives (λ e. entry (negativeEntry e)) v) (sym e) (
 abbrev pub NotFailed : Value → Type 0
 NotFailed v = OneOf (0 ∷ 1 ∷ 2 ∷ 3 ∷ 4 ∷ 5 ∷ 6 ∷ 7 ∷ []) (tagOf the-type v)
 
-not-failed : (v : Value) → NotFailed v → failed v ≡ false
+pub not-failed : (v : Value) → NotFailed v → failed v ≡ false
 not-failed Null h = refl
 not-failed (Boolean b) h = refl
 not-failed (Int32 n) h = refl
@@ -163,21 +163,30 @@ pub try-entry : (to : DataType) (v : Value) {r : Value} → NotFailed v → NotF
 unfolding tryCastValue
 try-entry to v {r} h k p = p ∙ simp (not-failed v h, ap failed (sym p) ∙ not-failed r k)
 
+-- a float has not failed
+pub float-held : (n : ℕ) → failed (floatValue n) ≡ false
+float-held n = go (nanBits binary64 n)
+  where
+    go : (b : Bool) → failed (cond b (Nan n) (Float64 (ofBits binary64 n))) ≡ false
+    go true = refl
+    go false = refl
+
 -- a try-cast of a value is that of its entry
 module _ (to : DataType) (v : Value) where
   tried : failed v ≡ false → (r : Value) → Gives (castEntry to) v r → (rule table : List ℕ) → entry (orNull (meaning rule table r)) ≡ onEntry (λ e. entry (tryCastEntry to e)) (meaning rule table v)
   tried h r g rule table = ap (λ (o : Outcome). entry (orNull o)) (g .means rule table) ∙ rw (is-entry v h rule table) refl
 
-  fitted : failed v ≡ false → (r : Value) (c : Bool) → failed r ≡ c → Gives (castEntry to) v r → Gives (λ e. entry (tryCastEntry to e)) v (cond c Null r)
-  fitted h r true k g = record {
+  -- of a value that has not failed it is null where the cast fails
+  pub tried-gives : failed v ≡ false → (r : Value) (c : Bool) → failed r ≡ c → Gives (castEntry to) v r → Gives (λ e. entry (tryCastEntry to e)) v (cond c Null r)
+  tried-gives h r true k g = record {
     means = λ rule table. ap (λ (x : Value). entry (orNull (meaning rule table x))) (sym (has-failed r k)) ∙ tried h r g rule table;
     stores = λ _. tt;
   }
-  fitted h r false k g = record { means = λ rule table. is-entry r k rule table ∙ tried h r g rule table; stores = g .stores }
+  tried-gives h r false k g = record { means = λ rule table. is-entry r k rule table ∙ tried h r g rule table; stores = g .stores }
 
   by-failing : (c : Bool) → failed v ≡ c → Gives (λ e. entry (tryCastEntry to e)) v (cond c Failed (cond (failed (castValue to v)) Null (castValue to v)))
   by-failing true h = rw (has-failed v h) (record { means = λ rule table. refl; stores = λ s. s })
-  by-failing false h = fitted h (castValue to v) (failed (castValue to v)) refl (cast-gives to v refl)
+  by-failing false h = tried-gives h (castValue to v) (failed (castValue to v)) refl (cast-gives to v refl)
 
 pub tryCast-gives : (to : DataType) (v : Value) {r : Value} → r ≡ tryCastValue to v → Gives (λ e. entry (tryCastEntry to e)) v r
 unfolding tryCastValue

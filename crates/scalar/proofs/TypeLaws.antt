@@ -12,13 +12,13 @@ use Rattle.scalar.specs.declared.types.TypeAnswer.{TypeAnswer}
 use Rattle.scalar.specs.declared.types.TypeAnswer.the-variants.{Known, Unknown}
 use Rattle.scalar.specs.declared.types.DataType.the-variants.{Boolean, Int32, Int64, Float64, Utf8}
 use Rattle.scalar.specs.Types.{typeNumber, sameType, typeNumbered, typeAnswer, typeMeans, markNumber, markNumbered}
-use Rattle.scalar.specs.Integer.{signed, bitsOf, inRange}
+use Rattle.scalar.specs.Integer.{signed, inRange}
 use Rattle.scalar.specs.Entry.{Entry, null, boolean, int32, int64, float64, utf8, Outcome, entry, unfit, ofType, outcomeOfType}
 use Rattle.scalar.specs.Pair.{Pair, bothNull, oneNull, unlike, booleans, int32s, int64s, float64s, texts, pairOf}
 use Rattle.scalar.specs.Not.{notEntry}
 use Rattle.scalar.specs.Negative.{negativeEntry}
 use Rattle.scalar.specs.IsNotNull.{isNotNullEntry}
-use Rattle.scalar.specs.Cast.{castEntry, narrowed}
+use Rattle.scalar.specs.Cast.{wholeFits, castEntry}
 use Rattle.scalar.specs.TryCast.{orNull, tryCastEntry}
 use Rattle.scalar.specs.Compare.{equalPair, equalEntry, lessPair, lessEntry}
 use Rattle.scalar.proofs.IntegerLaws.{bitsOf-below}
@@ -129,14 +129,10 @@ negative-typed t (int64 n) p = rw (int64-type t n p) (lt-ltb _ _ (bitsOf-below 6
 negative-typed t (float64 n) p = rw (float64-type t n p) (lt-ltb _ _ (signTurned-below 63 n (ltb-true _ _ (rw (float64-type t n p) at p))))
 negative-typed t (utf8 s) p = refl
 
--- a value that is outside the narrower range gives none
-narrowed-typed : (n : ℕ) → outcomeOfType Int32 (narrowed n) ≡ true
-unfolding ofType
-narrowed-typed n = go (inRange 31 (signed 63 n))
-  where
-    go : (t : Bool) → outcomeOfType Int32 (cond t (entry (int32 (bitsOf 31 (signed 63 n)))) unfit) ≡ true
-    go true = lt-ltb _ _ (bitsOf-below 31 _)
-    go false = refl
+-- a value that may not fit
+fitted-typed : (t : DataType) (v : Entry) (c : Bool) → ofType t v ≡ true → outcomeOfType t (cond c (entry v) unfit) ≡ true
+fitted-typed t v true p = p
+fitted-typed t v false p = refl
 
 -- a cast gives its target type
 pub cast-typed : (t : DataType) (v : Entry) (s : DataType) → ofType s v ≡ true → outcomeOfType t (castEntry t v) ≡ true
@@ -151,20 +147,20 @@ cast-typed Int32 null s p = refl
 cast-typed Int32 (boolean true) s p = refl
 cast-typed Int32 (boolean false) s p = refl
 cast-typed Int32 (int32 n) s p = rw (int32-type s n p) at p
-cast-typed Int32 (int64 n) s p = narrowed-typed n
-cast-typed Int32 (float64 n) s p = refl
+cast-typed Int32 (int64 n) s p = fitted-typed Int32 _ (inRange 31 (signed 63 n)) (lt-ltb _ _ (bitsOf-below 31 _))
+cast-typed Int32 (float64 n) s p = fitted-typed Int32 _ (wholeFits 31 n) (lt-ltb _ _ (bitsOf-below 31 _))
 cast-typed Int32 (utf8 x) s p = refl
 cast-typed Int64 null s p = refl
 cast-typed Int64 (boolean true) s p = refl
 cast-typed Int64 (boolean false) s p = refl
 cast-typed Int64 (int32 n) s p = lt-ltb _ _ (bitsOf-below 63 _)
 cast-typed Int64 (int64 n) s p = rw (int64-type s n p) at p
-cast-typed Int64 (float64 n) s p = refl
+cast-typed Int64 (float64 n) s p = fitted-typed Int64 _ (wholeFits 63 n) (lt-ltb _ _ (bitsOf-below 63 _))
 cast-typed Int64 (utf8 x) s p = refl
 cast-typed Float64 null s p = refl
 cast-typed Float64 (boolean b) s p = refl
 cast-typed Float64 (int32 n) s p = lt-ltb _ _ (floatBits-below _)
-cast-typed Float64 (int64 n) s p = refl
+cast-typed Float64 (int64 n) s p = lt-ltb _ _ (floatBits-below _)
 cast-typed Float64 (float64 n) s p = rw (float64-type s n p) at p
 cast-typed Float64 (utf8 x) s p = refl
 cast-typed Utf8 null s p = refl

@@ -1,34 +1,31 @@
 -- Casts of values, and what their steps give.
-use mathlib.Core.Bool.{Bool, cond}
+use mathlib.Core.Bool.{Bool, cond, _&&_}
 use Prim.Native.Nat.{ℕ}
 use lib.Dec.{eqb}
 use Rattle.scalar.specs.declared.types.DataType.{DataType}
 use Rattle.scalar.specs.declared.types.DataType.the-variants as type
 use Rattle.scalar.specs.declared.value.Value.{Value}
-use Rattle.scalar.specs.declared.value.Value.the-variants.{Null, Boolean, Int32, Int64, Float64, Nan, RuleText, TableText, Failed}
+use Rattle.scalar.specs.declared.value.Value.the-variants.{Null, Float64, Failed}
 use Rattle.scalar.specs.Types.{sameType}
+use Rattle.scalar.specs.Entry.{float64}
 use Rattle.scalar.specs.Cast.{castEntry}
-use Rattle.scalar.specs.Value.{kindOf, onValue}
-
--- a Boolean as the Int64 1 or 0, an Int64 as it is
-abbrev pub wholeBits : Value → ℕ
-wholeBits Null = 0
-wholeBits (Boolean b) = cond b 1 0
-wholeBits (Int32 n) = 0
-wholeBits (Int64 n) = n
-wholeBits (Float64 f) = 0
-wholeBits (Nan n) = 0
-wholeBits (RuleText start size) = 0
-wholeBits (TableText start size) = 0
-wholeBits Failed = 0
+use Rattle.scalar.specs.Value.{kindOf, valueSaying, onValue}
 
 -- a value of a type that is cast to itself alone: kept, or failed
 abbrev pub keptAs : DataType → DataType → Value → Value
 keptAs own to v = cond (sameType to own) v Failed
 
--- a cast (01, Modules: cast.rs): a float is kept as it is held, the rest is made of the entry
+-- a float, by its bits, as a type of integers: its whole part, or failed
+abbrev pub truncatedAs : DataType → ℕ → Value
+truncatedAs to bits = valueSaying Null (castEntry to (float64 bits))
+
+-- a float that has some bits: kept as it is held, or made of the bits
+abbrev pub floatAs : DataType → Value → ℕ → Value
+floatAs to v bits = cond (sameType to type.Float64) v (truncatedAs to bits)
+
+-- a cast (01, Modules: cast.rs): a float as a float is kept as it is held, the rest is made of the entry
 unfoldable pub castValue : DataType → Value → Value
-castValue to v = cond (eqb (kindOf v) 4) (keptAs type.Float64 to v) (onValue (castEntry to) v)
+castValue to v = cond (eqb (kindOf v) 4 && sameType to type.Float64) v (onValue (castEntry to) v)
 
 -- a value that has failed
 abbrev pub failed : Value → Bool

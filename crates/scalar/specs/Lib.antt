@@ -2,6 +2,8 @@
 pub mod Types
 pub mod Integer
 pub mod Float
+pub mod WholePart
+pub mod Nearest
 pub mod Text
 pub mod Entry
 pub mod Pair

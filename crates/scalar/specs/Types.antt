@@ -20,6 +20,14 @@ typeNumber Utf8 = 5
 abbrev pub sameType : DataType → DataType → Bool
 sameType a b = eqb (typeNumber a) (typeNumber b)
 
+-- the types of numbers: 2, 3, 4
+abbrev pub isNumber : DataType → Bool
+isNumber Boolean = false
+isNumber Int32 = true
+isNumber Int64 = true
+isNumber Float64 = true
+isNumber Utf8 = false
+
 -- the type of a number, or the refusal n where it has none (01, Where a call stops: 3 and 11)
 unfoldable pub typeNumbered : ℕ → ℕ → Result DataType
 typeNumbered n zero = refused n

@@ -1,10 +1,15 @@
-// Cast: a value that doesn't fit fails. Each type to itself, any pair among Boolean, Int32 and Int64, and Int32 to Float64.
+// Cast: a value that doesn't fit fails. Each type to itself, any pair among Boolean, Int32 and Int64, Int32 and Int64 to Float64, and Float64 to
+// Int32 and Int64.
+use crate::truncate::truncated_int32;
+use crate::truncate::truncated_int64;
 use crate::types::DataType;
+use crate::types::mark_number;
 use crate::value::Value;
+use crate::value::float_bits;
 ghost use mathlib.Core.Path.{_≡_};
 ghost use lib.Ieee.{binary64, ofInt};
 ghost use Rattle.scalar.specs.Integer.{signed, bitsOf};
-ghost use Rattle.scalar.specs.Casts.{wholeBits, keptAs, castValue};
+ghost use Rattle.scalar.specs.Casts.{floatAs, keptAs, castValue};
 
 // Int64 to Int32: a value outside of Int32's range fails.
 pub fn narrowed(n: u64) -> Value
@@ -30,66 +35,69 @@ pub fn widened(n: u32) -> u64
     }
 }
 
-// An Int32 as a float, exactly.
-pub fn floated(n: u32) -> f64
-    ensures { λ r. ⌜ r ≡ ofInt binary64 (signed 31 n) ⌝ }
+// An Int64 as the nearest float; of two that are equally near, the even one.
+pub fn floated(n: u64) -> f64
+    ensures { λ r. ⌜ r ≡ ofInt binary64 (signed 63 n) ⌝ }
 {
-    if n < 0x8000_0000 {
-        n as f64
+    if n < 0x8000_0000_0000_0000 {
+        std::num::nearest_u64_to_f64(n)
     } else {
-        let magnitude = 0x1_0000_0000 - (n as u64);
-        -(magnitude as f64)
+        -std::num::nearest_u64_to_f64(0xffff_ffff_ffff_ffff - n + 1)
+    }
+}
+
+// A Boolean as the type; to an integer it is 1 or 0.
+pub fn from_boolean(to: DataType, b: bool) -> Value
+    ensures { λ r. ⌜ r ≡ castValue to (Value.Boolean b) ⌝ }
+{
+    match to {
+        DataType::Boolean => Value::Boolean(b),
+        DataType::Int32 => Value::Int32(mark_number(b) as u32),
+        DataType::Int64 => Value::Int64(mark_number(b) as u64),
+        _ => Value::Failed,
     }
 }
 
 // An Int32 as the type; to Boolean it is "not zero".
-fn from_int32(to: DataType, n: u32) -> Value
+pub fn from_int32(to: DataType, n: u32) -> Value
     ensures { λ r. ⌜ r ≡ castValue to (Value.Int32 n) ⌝ }
 {
     match to {
         DataType::Boolean => Value::Boolean(n != 0),
         DataType::Int32 => Value::Int32(n),
         DataType::Int64 => Value::Int64(widened(n)),
-        DataType::Float64 => Value::Float64(floated(n)),
+        DataType::Float64 => Value::Float64(floated(widened(n))),
         DataType::Utf8 => Value::Failed,
     }
 }
 
 // An Int64 as the type; to Boolean it is "not zero".
-fn from_int64(to: DataType, n: u64) -> Value
+pub fn from_int64(to: DataType, n: u64) -> Value
     ensures { λ r. ⌜ r ≡ castValue to (Value.Int64 n) ⌝ }
 {
     match to {
         DataType::Boolean => Value::Boolean(n != 0),
         DataType::Int32 => narrowed(n),
         DataType::Int64 => Value::Int64(n),
-        _ => Value::Failed,
+        DataType::Float64 => Value::Float64(floated(n)),
+        DataType::Utf8 => Value::Failed,
     }
 }
 
-// A Boolean as 1 or 0, an Int64 as it is.
-fn whole(v: Value) -> u64
-    ensures { λ r. ⌜ r ≡ wholeBits v ⌝ }
-{
-    match v {
-        Value::Boolean(b) => if b { 1 } else { 0 },
-        Value::Int64(n) => n,
-        _ => 0,
-    }
-}
-
-// A value of Float64, where that is the type.
-fn kept_float(to: DataType, v: Value) -> Value
-    ensures { λ r. ⌜ r ≡ keptAs DataType.Float64 to v ⌝ }
+// A float of some bits as the type: kept as it is held, or its whole part.
+pub fn from_float(to: DataType, v: Value, bits: u64) -> Value
+    ensures { λ r. ⌜ r ≡ floatAs to v bits ⌝ }
 {
     match to {
+        DataType::Int32 => truncated_int32(bits),
+        DataType::Int64 => truncated_int64(bits),
         DataType::Float64 => v,
         _ => Value::Failed,
     }
 }
 
 // A text, where that is the type.
-fn kept_text(to: DataType, v: Value) -> Value
+pub fn kept_text(to: DataType, v: Value) -> Value
     ensures { λ r. ⌜ r ≡ keptAs DataType.Utf8 to v ⌝ }
 {
     match to {
@@ -103,9 +111,11 @@ pub fn cast(to: DataType, v: Value) -> Value
     ensures { λ r. ⌜ r ≡ castValue to v ⌝ }
 {
     match v {
+        Value::Boolean(b) => from_boolean(to, b),
         Value::Int32(n) => from_int32(to, n),
-        Value::Boolean(_) | Value::Int64(_) => from_int64(to, whole(v)),
-        Value::Float64(_) | Value::Nan(_) => kept_float(to, v),
+        Value::Int64(n) => from_int64(to, n),
+        Value::Float64(f) => from_float(to, v, float_bits(f)),
+        Value::Nan(n) => from_float(to, v, n),
         Value::RuleText(_, _) | Value::TableText(_, _) => kept_text(to, v),
         _ => v,
     }

@@ -7,6 +7,7 @@ pub mod negative;
 pub mod not;
 pub mod order;
 pub mod text;
+pub mod truncate;
 pub mod try_cast;
 pub mod types;
 pub mod value;

@@ -129,6 +129,97 @@ fn casts_4() {
     );
 }
 
+// A float, by its bits, to Int32 and to Int64.
+fn whole_parts(label: &[u8], bits: u64) {
+    io::write_all(STDOUT_FILENO, label);
+    show(b" to Int32", cast(DataType::Int32, float_value(bits)));
+    io::write_all(STDOUT_FILENO, label);
+    show(b" to Int64", cast(DataType::Int64, float_value(bits)));
+}
+
+// An Int64, by its bits, to Float64.
+fn nearest(label: &[u8], bits: u64) {
+    io::write_all(STDOUT_FILENO, label);
+    show(b" to Float64", cast(DataType::Float64, Value::Int64(bits)));
+}
+
+fn casts_5() {
+    whole_parts(b"0.0", 0);
+    whole_parts(b"-0.0", 0x8000_0000_0000_0000);
+    whole_parts(b"0.9", 0x3fec_cccc_cccc_cccd);
+    whole_parts(b"-0.9", 0xbfec_cccc_cccc_cccd);
+    whole_parts(b"-2.9", 0xc007_3333_3333_3333);
+}
+
+fn casts_6() {
+    whole_parts(b"2147483647.9", 0x41df_ffff_fff9_999a);
+    whole_parts(b"2147483648.0", 0x41e0_0000_0000_0000);
+    whole_parts(b"-2147483648.9", 0xc1e0_0000_001c_cccd);
+    whole_parts(b"-2147483649.0", 0xc1e0_0000_0020_0000);
+}
+
+fn casts_7() {
+    whole_parts(b"the float below 2^63", 0x43df_ffff_ffff_ffff);
+    whole_parts(b"2^63", 0x43e0_0000_0000_0000);
+    whole_parts(b"-2^63", 0xc3e0_0000_0000_0000);
+    whole_parts(b"the float below -2^63", 0xc3e0_0000_0000_0001);
+}
+
+fn casts_8() {
+    whole_parts(b"least subnormal", 1);
+    whole_parts(b"largest subnormal", 0x000f_ffff_ffff_ffff);
+    whole_parts(b"-(largest subnormal)", 0x800f_ffff_ffff_ffff);
+}
+
+fn casts_9() {
+    whole_parts(b"infinity", 0x7ff0_0000_0000_0000);
+    whole_parts(b"-infinity", 0xfff0_0000_0000_0000);
+    whole_parts(b"NaN", 0x7ff8_0000_0000_0001);
+    whole_parts(b"-NaN", 0xfff8_0000_0000_0001);
+}
+
+fn casts_10() {
+    nearest(b"2^53 + 1", 0x0020_0000_0000_0001);
+    nearest(b"-(2^53 + 3)", 0xffdf_ffff_ffff_fffd);
+    nearest(b"2^54 + 2", 0x0040_0000_0000_0002);
+    nearest(b"2^63 - 1", 0x7fff_ffff_ffff_ffff);
+    nearest(b"-2^63", 0x8000_0000_0000_0000);
+}
+
+fn casts_11() {
+    show(
+        b"try 2147483648.0 to Int32",
+        try_cast(DataType::Int32, float_value(0x41e0_0000_0000_0000)),
+    );
+    show(
+        b"try NaN to Int64",
+        try_cast(DataType::Int64, float_value(0x7ff8_0000_0000_0001)),
+    );
+    show(
+        b"try 2147483647.9 to Int32",
+        try_cast(DataType::Int32, float_value(0x41df_ffff_fff9_999a)),
+    );
+}
+
+fn casts_12() {
+    show(
+        b"1.0 to Boolean",
+        cast(DataType::Boolean, float_value(0x3ff0_0000_0000_0000)),
+    );
+    show(
+        b"true to Float64",
+        cast(DataType::Float64, Value::Boolean(true)),
+    );
+    show(
+        b"1.0 to Utf8",
+        cast(DataType::Utf8, float_value(0x3ff0_0000_0000_0000)),
+    );
+    show(
+        b"text to Float64",
+        cast(DataType::Float64, Value::RuleText(0, 4)),
+    );
+}
+
 fn equals_1() {
     let none = b"";
     show(
@@ -293,6 +384,14 @@ fn main() {
     casts_2();
     casts_3();
     casts_4();
+    casts_5();
+    casts_6();
+    casts_7();
+    casts_8();
+    casts_9();
+    casts_10();
+    casts_11();
+    casts_12();
     equals_1();
     equals_2();
     lesses_1();
