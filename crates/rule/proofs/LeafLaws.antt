@@ -12,11 +12,11 @@ use Rattle.layout.specs.Result.{Result, refused, ok, _>>=_, require}
 use Rattle.layout.specs.Bytes.{byte, number}
 use Rattle.scalar.specs.declared.types.DataType.{DataType}
 use Rattle.scalar.specs.declared.types.DataType.the-variants.{Boolean, Utf8}
-use Rattle.scalar.specs.Types.{typeNumber, typeNumbered, markNumber, markNumbered, sameType}
+use Rattle.scalar.specs.Types.{typeNumber, typeNumbered, markNumber, markNumbered, sameType, isNumber}
 use Rattle.scalar.specs.Entry.{Entry, null, boolean, utf8, isNull}
 use Rattle.rule.specs.declared.node.FieldFound.{FieldFound}
 use Rattle.rule.specs.Tree.{Column, Expr, column, literal, negation, isNotNull}
-use Rattle.rule.specs.Typing.{typeOf, isNumber, nodeTyped}
+use Rattle.rule.specs.Typing.{typeOf, nodeTyped}
 use Rattle.rule.specs.Reading.{Read, unlikeEarlier, readColumn, numberOf, literalValue, markedValue, readLiteral}
 use Rattle.rule.specs.Seen.{markOf, Marked}
 use Rattle.rule.specs.Steps.{accepted, ReadGives, meetColumn, valueOf, ValueGives, unaryOf}

@@ -1,8 +1,8 @@
 -- The type of an expression, and which types a node's children may have (01, Bytes of a rule: Types).
-use mathlib.Core.Bool.{Bool, true, false, _&&_, _||_}
+use mathlib.Core.Bool.{Bool, true, _&&_, _||_}
 use Rattle.scalar.specs.declared.types.DataType.{DataType}
-use Rattle.scalar.specs.declared.types.DataType.the-variants.{Boolean, Int32, Int64, Float64, Utf8}
-use Rattle.scalar.specs.Types.{sameType}
+use Rattle.scalar.specs.declared.types.DataType.the-variants.{Boolean}
+use Rattle.scalar.specs.Types.{sameType, isNumber}
 use Rattle.scalar.specs.Cast.{listed}
 use Rattle.rule.specs.Tree.{Expr, column, literal, negation, negative, isNotNull, cast, tryCast, equal, less, caseWhen, Branches, noMore, branch, Optional, absent, present, isNullLiteral}
 
@@ -25,14 +25,6 @@ unfoldable mutual
   resultType noMore = Boolean
   resultType (branch w t bs) = typeOf t
 
--- negative takes 2, 3, 4
-abbrev pub isNumber : DataType → Bool
-isNumber Boolean = false
-isNumber Int32 = true
-isNumber Int64 = true
-isNumber Float64 = true
-isNumber Utf8 = false
-
 -- without a base a WHEN is Boolean, with one it has the base's type
 abbrev pub whenType : Optional → DataType
 whenType absent = Boolean
@@ -48,7 +40,7 @@ abbrev pub elseTyped : DataType → Optional → Bool
 elseTyped result absent = true
 elseTyped result (present e) = isNullLiteral e || listed (typeOf e) result
 
--- the types of a node's children fit
+-- the types of a node's children fit; negative takes 2, 3, 4
 unfoldable pub nodeTyped : Expr → Bool
 nodeTyped (column c) = true
 nodeTyped (literal t v) = true

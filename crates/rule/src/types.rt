@@ -2,9 +2,8 @@
 use scalar::types::DataType;
 use scalar::types::TypeAnswer;
 ghost use mathlib.Core.Path.{_≡_};
-ghost use Rattle.scalar.specs.Types.{typeNumber, sameType};
+ghost use Rattle.scalar.specs.Types.{typeNumber, sameType, isNumber};
 ghost use Rattle.scalar.specs.Cast.{whole, listed};
-ghost use Rattle.rule.specs.Typing.{isNumber};
 ghost use Rattle.rule.specs.Steps.{typeOr};
 
 // The number of a type.
@@ -53,15 +52,15 @@ fn is_whole(t: DataType) -> bool
     }
 }
 
-// Whether a cast from a type to a type is listed: each type to itself, any pair among Boolean, Int32 and Int64, and Int32 to Float64.
+// Whether a cast from a type to a type is listed: each type to itself, any pair among Boolean, Int32 and Int64 and any among the numbers' types.
 pub(crate) fn is_listed(from: DataType, to: DataType) -> bool
     ensures { λ r. ⌜ r ≡ listed from to ⌝ }
 {
     match from {
         DataType::Boolean => is_whole(to),
         DataType::Int32 => is_whole(to) || same_type(to, DataType::Float64),
-        DataType::Int64 => is_whole(to),
-        DataType::Float64 => same_type(to, DataType::Float64),
+        DataType::Int64 => is_whole(to) || same_type(to, DataType::Float64),
+        DataType::Float64 => is_number(to),
         DataType::Utf8 => same_type(to, DataType::Utf8),
     }
 }
