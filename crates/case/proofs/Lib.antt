@@ -4,6 +4,7 @@ pub mod RunLaws
 pub mod FitsLaws
 pub mod SlotLaws
 pub mod RowsLaws
+pub mod CastingLaws
 pub mod CodeLaws
 pub mod TruthLaws
 pub mod ClassLaws

@@ -4,6 +4,7 @@ pub mod Fitting
 pub mod Run
 pub mod Promise
 pub mod Frame
+pub mod Casting
 pub mod Choosing
 pub mod Parting
 pub mod Taking

@@ -4,6 +4,7 @@ pub(crate) mod boolean_lookup_table;
 pub(crate) mod bytes_like_lookup_table;
 pub(crate) mod case;
 pub(crate) mod case_values;
+pub(crate) mod casting;
 pub(crate) mod cells;
 pub(crate) mod column;
 pub(crate) mod column_lookup;

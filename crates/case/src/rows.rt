@@ -1,23 +1,24 @@
 // The lists of rows of the work buffer, and what is done to the slots of the listed rows.
+use crate::casting::cast_rows;
 use crate::slot::get_slot;
 use crate::slot::put_slot;
 use crate::slot::wide;
 use crate::truth::choose;
 use layout::number::byte_at;
 use rule::type_of::type_numbered;
-use scalar::cast::cast;
 use scalar::is_not_null::is_not_null;
 use scalar::negative::negative;
 use scalar::not::not_value;
-use scalar::try_cast::try_cast;
 use scalar::types::DataType;
 use scalar::value::Value;
 ghost use mathlib.Core.Path.{_≡_};
+ghost use mathlib.Core.Bool.{true};
 ghost use Prim.Native.Nat.{_+_, _*_, _<_, _≤_};
 ghost use lib.ListN.{length};
 ghost use Rattle.scalar.specs.Value.{Storable, Gives};
 ghost use Rattle.case.specs.Evaluation.{OperatorGives};
 ghost use Rattle.case.specs.Frame.{rowAt, slotAt, Fillable, Filled, operationOf, Copied, AllRows};
+ghost use Rattle.case.specs.Casting.{castless};
 ghost use Rattle.case.specs.Parting.{RowPut};
 ghost use Rattle.case.specs.Taking.{ScalarRight};
 
@@ -103,22 +104,22 @@ pub(crate) fn fill_value(work: &mut [u8], n: usize, v: Value)
     }
 }
 
-// An operation on one value.
-pub(crate) fn apply_one(op: Op, v: Value) -> Value
+// An operation on one value that is no cast.
+fn apply_one(op: Op, v: Value) -> Value
+    requires { ⌜ castless op ≡ true ⌝ }
     ensures { λ r. ⌜ Gives (operationOf op) v r ⌝ }
 {
     match op {
         Op::Not => not_value(v),
         Op::Negative => negative(v),
         Op::IsNotNull => is_not_null(v),
-        Op::Cast(to) => cast(to, v),
-        Op::TryCast(to) => try_cast(to, v),
+        _ => v,
     }
 }
 
-// An operation on the value in the slot of each listed row.
-pub(crate) fn apply(work: &mut [u8], n: usize, op: Op)
-    requires { ⌜ Fillable (now work) n ⌝ }
+// The same on the value in the slot of each listed row.
+fn apply_castless(work: &mut [u8], n: usize, op: Op)
+    requires { ⌜ Fillable (now work) n × (castless op ≡ true) ⌝ }
     ensures { λ _. ⌜ Filled (λ r x. Gives (operationOf op) (slotAt (now (work .entry)) r) x) (now (work .entry)) n (now (work .exit)) ⌝ }
 {
     let mut i = 0;
@@ -127,6 +128,18 @@ pub(crate) fn apply(work: &mut [u8], n: usize, op: Op)
         let v = get_slot(work, r);
         put_slot(work, r, apply_one(op, v));
         i += 1;
+    }
+}
+
+// An operation on the value in the slot of each listed row.
+pub(crate) fn apply(work: &mut [u8], n: usize, op: Op)
+    requires { ⌜ Fillable (now work) n ⌝ }
+    ensures { λ _. ⌜ Filled (λ r x. Gives (operationOf op) (slotAt (now (work .entry)) r) x) (now (work .entry)) n (now (work .exit)) ⌝ }
+{
+    match op {
+        Op::Cast(to) => cast_rows(work, n, to, false),
+        Op::TryCast(to) => cast_rows(work, n, to, true),
+        _ => apply_castless(work, n, op),
     }
 }
 
