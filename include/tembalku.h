@@ -148,9 +148,9 @@ static inline const char *tembalku_refusal_sentence(uint32_t number) {
     case TEMBALKU_REFUSED_CASE_BRANCHES:
         return "A CASE has more than 32 WHENs: move some of them into a CASE in its ELSE.";
     case TEMBALKU_REFUSED_RULE_TYPES:
-        return "Types don't go together, or a column is named in two ways: cast one side to the other's type, and mark a column alike each time.";
+        return "Types don't go together, or a column is named in two ways: cast one side to the other's type, if there is such a cast, and mark a column alike each time.";
     case TEMBALKU_REFUSED_CONSTANT_CAST:
-        return "A cast of a constant doesn't fit, wherever in the rule it stands: correct the constant, or use a try-cast.";
+        return "A constant doesn't fit the integer type that it is cast to, wherever in the rule it stands: correct the constant, or use a try-cast.";
     case TEMBALKU_REFUSED_TABLE_FIELDS:
         return "The table is empty, too long, cut off or out of order: the display's program must write it anew.";
     case TEMBALKU_REFUSED_TABLE_SIZE:
@@ -164,7 +164,7 @@ static inline const char *tembalku_refusal_sentence(uint32_t number) {
     case TEMBALKU_REFUSED_WORK_SIZE:
         return "The work buffer has fewer than 65,536 bytes: the display's program must lend more.";
     case TEMBALKU_REFUSED_CAST:
-        return "A target's value doesn't fit the type that the rule casts it to: use a try-cast, which gives null, or test the value in an earlier WHEN.";
+        return "A target's value doesn't fit the integer type that the rule casts it to, or is a NaN: use a try-cast, which gives null, or test the value in an earlier WHEN.";
     case TEMBALKU_REFUSED_TEXT_SIZE:
         return "The classes' texts have more than 65,535 bytes in all: use shorter texts, or fewer targets at a time.";
     case TEMBALKU_REFUSED_OUTPUT_SIZE:

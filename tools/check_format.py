@@ -5,8 +5,8 @@ check_format.py LIBRARY --print    prints the three blocks instead
 
 The rule and the table are made from examples/targets/targets.txt as `casetext.py make` does; the answer is that of the static library.
 Every line of the three blocks is compared: the place of its first byte, the bytes, and what they say; the table's entries; and what the
-functions say of the example. The bytes of the page's short examples are compared with what is made of their text. Prints each
-difference, and fails where there is one.
+functions say of the example. The bytes of the page's short examples are compared with what is made of their text, and what its casts of
+constants give with what the library says. Prints each difference, and fails where there is one.
 """
 import ctypes
 import os
@@ -19,7 +19,7 @@ HERE = os.path.dirname(os.path.abspath(__file__))
 ROOT = os.path.dirname(HERE)
 sys.path.insert(0, HERE)
 import casetext  # noqa: E402
-from dealer.layout import rule_bytes  # noqa: E402
+from dealer.layout import rule_bytes, table_bytes  # noqa: E402
 from dealer.library import Library  # noqa: E402
 from dealer.reading import read_answer, read_rule, read_table  # noqa: E402
 from dealer.text import FileError, load_bytes, parse  # noqa: E402
@@ -156,6 +156,25 @@ def short_examples(page):
         yield text, given, rule_bytes(tree[2][0][1]).hex(" ").upper()
 
 
+def constant_casts(page, library):
+    """Casts of the page as `text`: what it gives; yields the text, what the page says and what the library does."""
+    for text, given in re.findall(r"^\| `(\(cast .*\))`.* \| (\S+) \|$", page, re.M):
+        tree, _ = parse(f"rule (case (when (boolean true) (then {text})))")
+        number, answer = library.entries(rule_bytes(tree), table_bytes((1, [])))
+        yield text, given, "fails" if number == 8 else f"refused {number}" if number else value_text(answer[0], answer[1][0])
+
+
+def differences(page, library, wanted):
+    """What was compared, in words, and a line for each difference."""
+    wrong = [f"{heading}: its lines aren't those of check_format.py --print" for heading, block in wanted.items() if block not in section(page, heading)]
+    said = [f"{len(wanted)} blocks"]
+    for name, found in (("short examples", list(short_examples(page))), ("casts", list(constant_casts(page, library)))):
+        wrong += [f"{text}: {given}, but {own}" for text, given, own in found if given != own]
+        wrong += [] if found else [f"no {name} were found"]
+        said.append(f"{len(found)} {name}")
+    return ", ".join(said), wrong
+
+
 def main(args):
     library = Library(args[0])
     wanted = blocks(library)
@@ -164,14 +183,8 @@ def main(args):
         return 0
     with open(os.path.join(ROOT, "docs", "FORMAT.md"), encoding="utf-8") as f:
         page = f.read()
-    wrong = []
-    for heading, block in wanted.items():
-        if block not in section(page, heading):
-            wrong.append(f"docs/FORMAT.md: {heading}: its lines aren't those of check_format.py --print")
-    shorts = list(short_examples(page))
-    wrong += [f"docs/FORMAT.md: {text}: {given}, but {own}" for text, given, own in shorts if given != own]
-    wrong += [] if shorts else ["docs/FORMAT.md: no short example was found"]
-    print("\n".join(wrong + [f"docs/FORMAT.md: {len(wanted)} blocks and {len(shorts)} short examples compared, {len(wrong)} differ"]))
+    compared, wrong = differences(page, library, wanted)
+    print("\n".join(f"docs/FORMAT.md: {line}" for line in wrong + [f"{compared} compared, {len(wrong)} differ"]))
     return 1 if wrong else 0
 
 

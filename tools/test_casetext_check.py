@@ -11,7 +11,7 @@ from unittest import mock
 
 sys.dont_write_bytecode = True
 sys.path.insert(0, os.path.dirname(os.path.abspath(__file__)))
-from dealer.evaluation import Evaluation  # noqa: E402
+from dealer.evaluation import Evaluation, literal_classes  # noqa: E402
 from dealer.layout import rule_bytes  # noqa: E402
 from dealer.plan import drawn, point, ring_step  # noqa: E402
 from dealer.reading import Refused, read_answer  # noqa: E402
@@ -84,8 +84,8 @@ class Refusals(InFolder):
             (when("(isnotnull (neg (utf8 \"a\")))"), "line 6: - utf8: types don't go together, 7 (-'a')"),
             (when("(equal (cast int64 (utf8 \"a\")) (col far))"),
              "line 6: CAST(utf8 AS int64): types don't go together, 7 (CAST('a' AS int64))"),
-            (when("(isnotnull (trycast float64 (col far)))"),
-             "line 6: TRY_CAST(int64 AS float64): types don't go together, 7 (TRY_CAST(far AS float64))"),
+            (when("(isnotnull (trycast utf8 (col far)))"),
+             "line 6: TRY_CAST(int64 AS utf8): types don't go together, 7 (TRY_CAST(far AS utf8))"),
             (when("(col speed)"), "line 6: WHEN 1 is int32, a WHEN without a base is boolean: types don't go together, 7 (speed)"),
             (then("(utf8 \"b\")"), "line 7: THEN 2 is utf8, THEN 1 is int32: types don't go together, 7 ('b')"),
             (HEAD + "(case (base (col far))\n (when (int32 1) (then (int32 1))))",
@@ -465,6 +465,14 @@ rule (case (when (equal (col kind) (utf8 "c")) (then (utf8 "c & d"))) (else (utf
         both = colours(self.TEXT)
         self.assertEqual(len(set(both.values())), 2)
         self.assertEqual(colours(self.TEXT.replace('"c" "a<b" "c" "c"', '"a<b" "a<b" "a<b" "a<b"'))["a<b"], both["a<b"])
+
+    def test_else_class(self):
+        """A literal under an ELSE is a class of the THENs' type; one that doesn't fit is none."""
+        for then, other, want in [("(int32 1)", "(float64 2.9)", ["1", "2"]), ("(int32 1)", "(float64 0x7ff8000000000000)", ["1"]),
+                                  ("(float64 1.5)", "(int64 2)", ["1.5", "2.0"]), ("(boolean true)", "(int32 5)", ["true"]),
+                                  ("(int32 1)", "(case (when (boolean true) (then (float64 2.9))) (else (int64 7)))", ["1", "2", "7"])]:
+            e, _ = parse(f"rule (case (when (boolean true) (then {then})) (else {other}))")
+            self.assertEqual(literal_classes(e), want)
 
     def test_rings(self):
         for most, want in [(0, 1), (1, 0.2), (1.3, 0.5), (9, 2), (10, 2), (12, 2), (13, 5), (40, 10), (99, 20), (1e9, 2e8), (0.003, 0.0005),

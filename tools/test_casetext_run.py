@@ -14,13 +14,14 @@ from collections import Counter
 
 sys.dont_write_bytecode = True
 sys.path.insert(0, os.path.dirname(os.path.abspath(__file__)))
+import test_casetext_casts  # noqa: E402
 from dealer.checking import check_bytes  # noqa: E402
 from dealer.evaluation import Disagreement, evaluated  # noqa: E402
 from dealer.library import Library  # noqa: E402
 from dealer.reading import Refused, read_rule, read_table  # noqa: E402
 from dealer.source import Source, SourceRefused  # noqa: E402
 from dealer.text import TextError, parse  # noqa: E402
-from dealer.words import text_of  # noqa: E402
+from dealer.words import sql, text_of  # noqa: E402
 from test_casetext import TARGETS, run, shown, stored  # noqa: E402
 from test_casetext_check import InFolder  # noqa: E402
 
@@ -30,8 +31,11 @@ LIBRARY = os.environ.get("TEMBALKU_LIBRARY")
 # ---- texts with slips ----
 
 VALUES = {1: [True, False], 2: [0, 1, -1, 5, 2 ** 31 - 1, -2 ** 31], 3: [0, 1, 5, 2 ** 31 - 1, 2 ** 31, -2 ** 31 - 1, -2 ** 63],
-          4: [0, 1 << 63, 0x3ff0000000000000, 0x7ff8000000000001, 0xfff8000000000000, 0x7ff0000000000000],
+          4: [0, 1 << 63, 0x3ff0000000000000, 0xc00c000000000000, 0x41dfffffffffffff, 0x41e0000000000000, 0x7ff8000000000001,
+              0xfff8000000000000, 0x7ff0000000000000],
           5: [b"", b"a", b"ab", "b\u00e9".encode(), b"boat", b"buoy"]}
+# from which types a cast to a type is listed
+SOURCES = {1: [1, 2, 3, 3], 2: [1, 2, 3, 3, 4, 4], 3: [1, 2, 3, 4, 4], 4: [2, 3, 3, 4], 5: [5]}
 
 
 class Maker:
@@ -77,8 +81,8 @@ class Maker:
             return self.column(kind) if self.rng.random() < 0.6 else self.literal(kind)
         if choice < 0.45:
             return self.case(kind, depth)
-        if choice < 0.65 and kind in (1, 2, 3):
-            return (self.rng.choice(["cast", "cast", "trycast"]), kind, self.expr(self.rng.choice([1, 2, 3, 3]), depth - 1))
+        if choice < 0.65 and kind != 5:
+            return (self.rng.choice(["cast", "cast", "trycast"]), kind, self.expr(self.rng.choice(SOURCES[kind]), depth - 1))
         if choice < 0.8 and kind in (2, 3, 4):
             return ("neg", self.expr(kind, depth - 1))
         return self.boolean(depth) if kind == 1 else self.column(kind)
@@ -94,7 +98,8 @@ class Maker:
         count = self.count()
         below = depth - 1 if count < 5 else 1
         branches = [(self.expr(base_kind or 1, below), self.expr(kind, below)) for _ in range(count)]
-        return ("case", base, branches, self.expr(kind, depth - 1) if self.rng.random() < 0.6 else None)
+        other = self.rng.choice(SOURCES[kind]) if self.rng.random() < 0.3 else kind
+        return ("case", base, branches, self.expr(other, depth - 1) if self.rng.random() < 0.6 else None)
 
     def table(self):
         rows = self.rng.choice([0, 1, 2, 3, 5, 9]) if not self.slip(0.2) else self.rng.choice([511, 512, 513, 600])
@@ -226,6 +231,17 @@ class Agreement(unittest.TestCase):
         self.assertRaises(SourceRefused, evaluated, refused, Fixed((7, None)))
 
 
+class Casts(test_casetext_casts.Casts):
+    """The same texts through the library; a Disagreement fails."""
+
+    @classmethod
+    def setUpClass(cls):
+        cls.library = Library(LIBRARY)
+
+    def entries(self, source):
+        return evaluated(source, self.library).entries
+
+
 CHANGED = "rows 2\ncolumn a int32 4 5\nrule (case (when {} (then (int32 1))) (else (int32 2)))"
 
 
@@ -254,6 +270,17 @@ class Run(InFolder):
         self.assertIn("```\n" + out + "```", readme)
         self.assertEqual(self.ran("run", TARGETS), out)
         self.assertIn("```\n" + self.ran("compare", targets, other, targets).replace(TARGETS, "examples/targets") + "```", readme)
+
+    def test_knots(self):
+        """The same README has the rule of knots.txt, what run prints, and the refusal of a cast in place of the try-cast."""
+        path = os.path.join(TARGETS, "knots.txt")
+        with open(os.path.join(TARGETS, "README.md"), encoding="utf-8") as f, open(path, encoding="utf-8") as g:
+            readme, text = f.read(), g.read()
+        self.assertIn("```\n" + sql(parse(text)[0], ["speed"]) + "\n```", readme)
+        self.assertIn("```\n" + self.ran("run", path) + "```", readme)
+        code, out, err = run("check", self.write("knots.txt", text.replace("trycast", "cast")))
+        self.assertEqual((code, out), (1, ""))
+        self.assertIn("```\n" + err.replace(self.path(""), "") + "```", readme)
 
     def test_readme(self):
         """README's text gives the table under it, and the refusal for the slip that it names."""

@@ -33,8 +33,7 @@ def check_rows(rule, table):
         try:
             entries.append(at_row(rule, row_of(table, i)))
         except Unfit as unfit:
-            said = f"row {i}: {unfit.value} doesn't fit {WORDS[unfit.tree[1]]}"
-            raise Refused(15, said, "rule.bin", unfit.tree.at, unfit.tree) from None
+            raise Refused(15, f"row {i}: {unfit.words()}", "rule.bin", unfit.tree.at, unfit.tree) from None
     if type_of(rule) == UTF8:
         size = sum(len(v) for v in entries if v is not None)
         if size > TEXT_MOST:

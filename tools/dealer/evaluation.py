@@ -1,8 +1,8 @@
 """Evaluates a source through the library and, row by row, apart from it, and holds the two against each other."""
 from dealer.reading import Refused
-from dealer.rows import at_row, decided_at_row, result_of, row_of
+from dealer.rows import at_row, decided_at_row, result_of, row_of, try_cast
 from dealer.source import SourceRefused
-from dealer.tree import UTF8, counted, is_null, type_of
+from dealer.tree import UTF8, counted, type_of
 from dealer.words import branch_words, printable, value_text
 
 
@@ -51,16 +51,19 @@ def all_paths(e):
             yield (taken,)
 
 
+def literal_at(e, path):
+    """What a CASE gives at the end of a path, if a literal stands there; None if none does, or a null."""
+    result = result_of(e, path[0])
+    if result is None:
+        return None
+    v = literal_at(result, path[1:]) if path[1:] else result[2] if result[0] == "literal" else None
+    return try_cast(type_of(result), type_of(e), v)
+
+
 def literal_classes(e):
     """The classes that a rule names as literals, each once, in the order of its branches."""
-    found = []
-    for path in all_paths(e):
-        result = e
-        for taken in path:
-            result = result_of(result, taken)
-        if result is not None and result[0] == "literal" and not is_null(result):
-            found.append(class_text(result[1], result[2]))
-    return list(dict.fromkeys(found))
+    found = [literal_at(e, path) for path in all_paths(e)]
+    return list(dict.fromkeys(class_text(type_of(e), v) for v in found if v is not None))
 
 
 def said_of(number):

@@ -1,10 +1,9 @@
 """Draws the targets as a plan position view in SVG: north up, own ship in the middle, range rings, a colour and shape for each class."""
 import math
-import struct
 from xml.sax.saxutils import escape
 
 from dealer.evaluation import literal_classes
-from dealer.layout import number
+from dealer.floats import float_of
 from dealer.text import FileError
 from dealer.tree import FLOAT64, INT32, INT64
 
@@ -33,7 +32,7 @@ def column_of(table, name, option):
 def as_float(kind, v):
     if v is None:
         return None
-    f = struct.unpack("<d", number(v, 8))[0] if kind == FLOAT64 else float(v)
+    f = float_of(v) if kind == FLOAT64 else float(v)
     return f if abs(f) < FAR else None
 
 

@@ -77,7 +77,7 @@ class RuleReader(Fields):
             self.refuse(3, "bytes left over behind the rule", stop)
         unfit = constant_unfit(e) if self.strict else None
         if unfit:
-            self.refuse(8, f"{unfit.value} doesn't fit {WORDS[unfit.tree[1]]}", unfit.tree.at, tree=unfit.tree)
+            self.refuse(8, unfit.words(), unfit.tree.at, tree=unfit.tree)
         return e
 
     def expr(self, at, end, depth, cases):

@@ -1,7 +1,7 @@
 """One row: the entry of a rule, and the branch that decides it. Written from the meaning of a row, apart from the library."""
-import struct
-
-from dealer.tree import BOOLEAN, CASTS, FLOAT64, INT32, columns_of, is_null, nodes, type_of
+from dealer.floats import bits_of, whole_part
+from dealer.tree import BOOLEAN, CASTS, FLOAT64, INT32, WORDS, columns_of, is_null, nodes, type_of
+from dealer.words import named_value
 
 
 class Unfit(Exception):
@@ -11,6 +11,9 @@ class Unfit(Exception):
         super().__init__(value)
         self.value, self.tree = value, None
 
+    def words(self):
+        return f"{named_value(type_of(self.tree[2]), self.value)} doesn't fit {WORDS[self.tree[1]]}"
+
 
 def order_key(kind, v):
     """Goes with the order of two values; floats by totalOrder."""
@@ -19,16 +22,21 @@ def order_key(kind, v):
     return v
 
 
+def lowest(kind):
+    return -2 ** (31 if kind == INT32 else 63)
+
+
 def cast(kind, to, v):
     if v is None or kind == to:
         return v
     if to == BOOLEAN:
         return v != 0
     if to == FLOAT64:
-        return int.from_bytes(struct.pack("<d", v), "little")
-    if to == INT32 and not -2 ** 31 <= v < 2 ** 31:
+        return bits_of(v)
+    n = whole_part(v) if kind == FLOAT64 else int(v)
+    if n is None or not lowest(to) <= n < -lowest(to):
         raise Unfit(v)
-    return int(v)
+    return n
 
 
 def try_cast(kind, to, v):
@@ -42,8 +50,7 @@ def negated(kind, v):
     """The lowest integer stays; a float's sign bit turns."""
     if kind == FLOAT64:
         return v ^ 1 << 63
-    low = -2 ** (31 if kind == INT32 else 63)
-    return v if v == low else -v
+    return v if v == lowest(kind) else -v
 
 
 def compared(e, row):

@@ -3,8 +3,8 @@
 A text has a table (rows, columns), a rule, or both. Line numbers stay with the nodes and columns.
 """
 import re
-import struct
 
+from dealer.floats import bits_of
 from dealer.layout import column_bytes, rule_bytes
 from dealer.mistakes import hint, sql_sentence
 from dealer.tree import (BOOLEAN, BRANCHES_MOST, CASTS, COLUMNS_MOST, FLOAT64, INT32, INT64, NESTED_MOST, PLAIN, ROWS_MOST, RULE_MOST, TABLE_MOST,
@@ -99,7 +99,7 @@ def float_bits(token, line):
     f = float(token)
     if f in (float("inf"), float("-inf")):
         raise TextError(line, f"{token} is outside of float64")
-    return int.from_bytes(struct.pack("<d", f), "little")
+    return bits_of(f)
 
 
 def value_of(kind, token, line):

@@ -6,7 +6,7 @@ WHOLE = (BOOLEAN, INT32, INT64)
 
 
 def cast_listed(kind, to):
-    return kind == to or kind in WHOLE and to in WHOLE or (kind, to) == (INT32, FLOAT64)
+    return kind == to or any(kind in group and to in group for group in (WHOLE, NUMBERS))
 
 
 def case_misfit(e):

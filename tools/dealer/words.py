@@ -1,7 +1,6 @@
 """Writes a tree and a table: as text that can be read again, in the words of SQL, and byte by byte."""
-import struct
-
-from dealer.layout import number, rule_bytes
+from dealer.floats import float_of, name_of
+from dealer.layout import rule_bytes
 from dealer.tree import BOOLEAN, CASTS, FLOAT64, NAMES, TITLES, UTF8, WORDS
 
 
@@ -13,12 +12,17 @@ def value_text(kind, value):
     if kind == BOOLEAN:
         return "true" if value else "false"
     if kind == FLOAT64:
-        f = struct.unpack("<d", number(value, 8))[0]
-        return repr(f) if value >> 52 & 0x7ff != 0x7ff else f"0x{value:016x}"
+        return repr(float_of(value)) if name_of(value) is None else f"0x{value:016x}"
     if kind != UTF8:
         return str(value)
     text = printable(value)
     return f'x"{value.hex()}"' if text is None else '"' + text.replace("\\", "\\\\").replace('"', '\\"') + '"'
+
+
+def named_value(kind, value):
+    """As a text has it; a NaN or an infinity, of which a text has the bits, with its name."""
+    name = name_of(value) if kind == FLOAT64 else None
+    return value_text(kind, value) + (f" ({name})" if name else "")
 
 
 def printable(value):
