@@ -1,12 +1,12 @@
 #!/usr/bin/env python3
-"""check_definitions.py SCRATCH [--cases FOLDER] [--listing N] [--runs N] [--most BYTES] [--part K]
+"""check_definitions.py SCRATCH [--cases FOLDER..] [--listing N] [--runs N] [--most BYTES] [--part K]
 
 Has the checker compute the definitions of specs/ on stored cases, each by `refl`, in a scratch crate outside of the tree.
 
 SCRATCH  a folder to make; it must not lie in this repository
-FOLDER   the folder with rules.txt, listing.txt and runs.txt; tools/cases unless said
+FOLDER   a folder with rules.txt, listing.txt and runs.txt; tools/cases and tools/cases/change-2 unless said
 rules.txt is taken whole: strategy, nullability and projection. Of listing.txt and runs.txt N cases each are taken (default
-300; `--listing 618 --runs 250` takes all), refusals and strategies in turn so that each kind is among them, those of at most BYTES
+300; `--listing 976 --runs 450` takes all), refusals and strategies in turn so that each kind is among them, those of at most BYTES
 bytes of rule and table first. Prints how many agreed, by kind, and the first that did not.
 """
 import argparse
@@ -16,7 +16,7 @@ import re
 import subprocess
 import sys
 
-from stored_cases import CASES, HERE, listed_runs, rules, runs
+from stored_cases import FOLDERS, HERE, listed_runs, rules, runs
 
 CRATES = ["layout", "scalar", "rule", "table", "builder", "writer", "case"]
 
@@ -104,10 +104,10 @@ def write(folder, parts):
     open(os.path.join(folder, "crates.txt"), "w", encoding="utf-8").write("".join(lines))
 
 
-def of_rules(folder):
+def of_rules(folders):
     """The statements about rules.txt, and the strategy of each rule."""
     statements, strategies = [], {}
-    for i, (rule, strategy, nullable, columns) in enumerate(rules(folder)):
+    for i, (rule, strategy, nullable, columns) in enumerate(rules(folders)):
         strategies[rule] = strategy
         listed = "".join(f"{c} ∷ " for c in columns)
         mark = "true" if nullable else "false"
@@ -139,7 +139,7 @@ def check(scratch, parts):
 def arguments():
     a = argparse.ArgumentParser(usage=__doc__)
     a.add_argument("scratch")
-    a.add_argument("--cases", default=CASES)
+    a.add_argument("--cases", nargs="+", default=FOLDERS)
     a.add_argument("--listing", type=int, default=300)
     a.add_argument("--runs", type=int, default=300)
     a.add_argument("--most", type=int, default=1500)

@@ -30,7 +30,7 @@ def listed(rule, table, lines):
 
 
 def stored_listings():
-    return [listed(*case) for case in listings()]
+    return [listed(*case) for _, *case in listings()]
 
 
 def as_run(rule, table, work, output, want):

@@ -7,6 +7,7 @@ import os
 
 HERE = os.path.dirname(os.path.dirname(os.path.abspath(__file__)))
 CASES = os.path.join(HERE, "tools", "cases")
+FOLDERS = [CASES, os.path.join(CASES, "change-2")]
 CRATES = os.path.join(HERE, "crates")
 FULL = 65536
 
@@ -54,9 +55,16 @@ def keyed(lines):
     return dict((l.split(" ", 1) + [""])[:2] for l in lines)
 
 
-def rules(folder=CASES):
+def numbered(folders, name):
+    """The paragraphs of a file of each folder, with the folder's and the file's name, and numbers from 1."""
+    for folder in folders:
+        for i, lines in enumerate(blocks(folder, name + ".txt")):
+            yield f"{os.path.basename(folder)}/{name}", i + 1, lines
+
+
+def rules(folders=FOLDERS):
     """Each rule of rules.txt with its strategy, whether it is nullable (0 or 1), and the columns that it names."""
-    for lines in blocks(folder, "rules.txt"):
+    for _, _, lines in numbered(folders, "rules"):
         f = keyed(lines)
         columns = [] if f["projection"] == "none" else [int(c) for c in f["projection"].split()]
         yield bytes.fromhex(f["rule"]), int(f["strategy"]), int(f["nullable"]), columns
@@ -82,25 +90,25 @@ def answer(head, rows):
     return out + field(4, values)
 
 
-def listings(folder=CASES):
-    """Each rule and table of listing.txt, with the lines of their listing."""
-    for i, lines in enumerate(blocks(folder, "listing.txt")):
+def listings(folders=FOLDERS):
+    """A label, the rule and the table of each case of listing.txt, with the lines of their listing."""
+    for name, i, lines in numbered(folders, "listing"):
         f = keyed(lines[:3])
-        assert int(f["case"]) == i + 1 and lines[-1] == "end"
-        yield bytes.fromhex(f["rule"]), bytes.fromhex(f["table"]), lines[3:-1]
+        assert int(f["case"]) == i and lines[-1] == "end"
+        yield f"{name} {i}", bytes.fromhex(f["rule"]), bytes.fromhex(f["table"]), lines[3:-1]
 
 
-def listed_runs(folder=CASES):
+def listed_runs(folders=FOLDERS):
     """The listings as cases to run, with full buffers."""
-    for i, (rule, table, lines) in enumerate(listings(folder)):
+    for label, rule, table, lines in listings(folders):
         head = lines[0]
         want = ("refused", int(head.split()[1])) if head.startswith("refused") else ("ok", answer(head, lines[1:]))
-        yield f"listing {i + 1}", rule, table, FULL, FULL, want
+        yield label, rule, table, FULL, FULL, want
 
 
-def runs(folder=CASES):
+def runs(folders=FOLDERS):
     """The cases of runs.txt."""
-    for i, lines in enumerate(blocks(folder, "runs.txt")):
+    for name, i, lines in numbered(folders, "runs"):
         f = keyed(lines)
         want = ("refused", int(f["refused"])) if "refused" in f else ("ok", bytes.fromhex(f["answer"]))
-        yield f"runs {i + 1}", bytes.fromhex(f["rule"]), bytes.fromhex(f["table"]), int(f["work"]), int(f["output"]), want
+        yield f"{name} {i}", bytes.fromhex(f["rule"]), bytes.fromhex(f["table"]), int(f["work"]), int(f["output"]), want

@@ -1,5 +1,6 @@
 #!/usr/bin/env python3
 """Tests of make_cases.py and make_run_cases.py: the programs' data is what they write from tools/cases, and the limits are met exactly."""
+import collections
 import contextlib
 import io
 import os
@@ -12,8 +13,12 @@ sys.dont_write_bytecode = True
 sys.path.insert(0, os.path.dirname(os.path.abspath(__file__)))
 import make_cases  # noqa: E402
 import make_run_cases  # noqa: E402
-from stored_cases import CRATES, answer, field, listings, number, runs  # noqa: E402
+from case_classes import FLOAT_CASTS, cast_pairs  # noqa: E402
+from casetext import read_rule  # noqa: E402
+from stored_cases import CRATES, FOLDERS, answer, field, listed_runs, listings, number, rules, runs  # noqa: E402
 
+# rules, listings and runs of each folder
+STORED = [(400, 618, 250), (200, 358, 200)]
 PROGRAMS = ["caserun", "rule_cases", "run_cases", "table_cases"]
 NOT_MADE = ("rule.bin", "batch.bin", "rust")
 
@@ -30,6 +35,12 @@ def made_files(folder):
                     with open(path, "rb") as source:
                         found[os.path.relpath(path, folder)] = source.read()
     return found
+
+
+def printed(program):
+    """The lines that a program must print."""
+    with open(os.path.join(CRATES, program, "stdout"), encoding="utf-8") as source:
+        return list(source)
 
 
 def make_again(folder):
@@ -55,11 +66,43 @@ class Data(unittest.TestCase):
         for path, data in committed.items():
             self.assertTrue(data == again[path], path)
 
+    def test_stored(self):
+        counts = [tuple(len(list(cases([folder]))) for cases in (rules, listings, runs)) for folder in FOLDERS]
+        self.assertEqual(counts, STORED)
+
     def test_counts(self):
-        with open(os.path.join(CRATES, "run_cases", "stdout"), encoding="utf-8") as source:
-            counts = [int(l.split()[1]) for l in source]
-        self.assertEqual(counts[0], len(list(runs())))
-        self.assertGreaterEqual(counts[3], 3000)
+        """No case is left out of the programs' data."""
+        every_rule, every_listing, every_run = map(sum, zip(*STORED))
+        refused = [n for *_, (outcome, n) in listed_runs() if outcome == "refused"]
+        with open(os.path.join(CRATES, "caserun", "data", "listings.bin"), "rb") as source:
+            self.assertEqual(len(list(make_run_cases.records_in(source.read()))), every_listing)
+        of_rules = [int(l.split()[1]) for l in printed("rule_cases") if l.startswith("rules")]
+        self.assertEqual(sum(of_rules), every_rule + make_cases.BEHIND_ROOT + sum(n <= 8 for n in refused))
+        of_runs = [int(l.split()[1]) for l in printed("run_cases")]
+        self.assertEqual(of_runs[:2], [every_run, len(refused)])
+        self.assertGreaterEqual(of_runs[3], 3000)
+
+    def test_sizes(self):
+        """What each program can hold of a file; table_cases reads one file and at most 400 tables."""
+        most = {"caserun": make_run_cases.MOST_FILE, "run_cases": make_run_cases.MOST_FILE, "rule_cases": make_cases.MOST, "table_cases": make_cases.MOST}
+        for program, size in most.items():
+            folder = os.path.join(CRATES, program, "data")
+            for name in os.listdir(folder):
+                self.assertLessEqual(os.path.getsize(os.path.join(folder, name)), size)
+        self.assertEqual(os.listdir(os.path.join(CRATES, "table_cases", "data")), ["tables0.bin"])
+        self.assertLessEqual(sum(l.startswith("table ") for l in printed("table_cases")), 400)
+
+    def test_rust(self):
+        """The Rust's answers hold each cast of change 2, in runs that fail and in runs that answer."""
+        found = collections.Counter()
+        with open(os.path.join(CRATES, "run_cases", "data", "rust.bin"), "rb") as source:
+            for record in make_run_cases.records_in(source.read()):
+                size = int.from_bytes(record[:4], "little")
+                pairs = cast_pairs(read_rule(record[make_run_cases.HEAD:make_run_cases.HEAD + size]))
+                found.update((pair, make_run_cases.wanted(record) == b"\x0f") for pair in pairs & FLOAT_CASTS)
+        for pair in FLOAT_CASTS:
+            for failed in (True, False):
+                self.assertGreaterEqual(found[pair, failed], 50)
 
 
 class Limits(unittest.TestCase):
@@ -90,7 +133,7 @@ class Types(unittest.TestCase):
 
     def test_listing_to_answer(self):
         """The answer's bytes of document 01's listing."""
-        lines = next(lines for _, _, lines in listings() if not lines[0].startswith("refused"))
+        lines = next(lines for *_, lines in listings() if not lines[0].startswith("refused"))
         self.assertEqual(answer(lines[0], lines[1:])[3], int(lines[0].split()[3]))
         self.assertEqual(answer("rows 2 type 2 nullable 1", ["0 -1", "1 null"]).hex(), "020200020103010001040800ffffffff00000000")
 
