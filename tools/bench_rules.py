@@ -90,6 +90,7 @@ class Columns:
         self.keys = [rng.randrange(12) for _ in range(rows)]
         self.four = [[rng.randrange(1000) for _ in range(rows)] for _ in range(4)]
         self.half = [[rng.random() < 0.5 for _ in range(rows)] for _ in range(4)]
+        self.floats = [v - 500 + k / 12 for v, k in zip(self.values, self.keys)]
 
     def one(self, kind, values, nulls=None):
         return table(self.rows, stored(kind, values, nulls))
@@ -154,6 +155,16 @@ def by_operators(c):
     yield "Boolean columns as four WHENs", case(None, [(column(i, BOOLEAN, 1), int32(i)) for i in range(4)], int32(9)), marks
 
 
+def by_float_casts(c):
+    floats, longs = c.one(FLOAT64, c.floats), c.one(INT64, c.values)
+    whole = cast(INT32, column(0, FLOAT64))
+    yield "two WHENs `CAST(c0 AS Int32) < literal`, c0 Float64", case(None, [(less(whole, int32(a)), int32(a)) for a in (-200, 200)], int32(3)), floats
+    then_cast = lambda to, of: case(None, [(literal(BOOLEAN, 1), cast(to, column(0, of)))], None)
+    yield "`THEN CAST(c0 AS Int32)` at every row, c0 Float64", then_cast(INT32, FLOAT64), floats
+    yield "`THEN CAST(c0 AS Int64)` at every row, c0 Float64", then_cast(INT64, FLOAT64), floats
+    yield "`THEN CAST(c0 AS Float64)` at every row, c0 Int64", then_cast(FLOAT64, INT64), longs
+
+
 def two_steps(a):
     return case(None, [(less(C0, int32(a)), int32(1)), (less(C0, int32(a + 150)), int32(2))], int32(3))
 
@@ -182,7 +193,7 @@ def targets(c):
 
 def measured():
     c = Columns(ROWS)
-    for group in (by_one_column, by_keys, by_one_branch, by_operators, by_nesting):
+    for group in (by_one_column, by_keys, by_one_branch, by_operators, by_float_casts, by_nesting):
         yield from group(c)
     yield ("four columns of four types, text results", *targets(c))
     for rows in (24, 8):

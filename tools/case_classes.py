@@ -1,11 +1,16 @@
 """case_classes.py: which named differences between the Rust and the port a case can show, told from the rule and the table alone.
 
-classes(rule, table) gives the names, in the order below, of a tree and a table as casetext.py has them. Rows.value is document 01's
-meaning of a rule, for several rows at once; it is asked only where a class depends on which rows reach a CASE.
+classes(rule, table) gives the names, in the order below, of a tree and a table as casetext.py has them. Rows.value is the meaning of a
+rule by documents 01 and 02, for several rows at once; it is asked only where a class depends on which rows reach a CASE.
 """
+import math
 import struct
 
-LOWEST = (-2 ** 31, -2 ** 63)
+# the lowest Int32 and Int64, and the casts that may fail, from and to
+LOWEST = {2: -2 ** 31, 3: -2 ** 63}
+MAY_FAIL = ((3, 2), (4, 2), (4, 3))
+# the casts of change 2 (02)
+FLOAT_CASTS = {(4, 2), (4, 3), (3, 4)}
 CONSTANT_CAST = "refused 8: the Rust has no such test"
 LONG_TEXT = "refused 16: the Rust has no such limit"
 UNCAST_ELSE = "ELSE left uncast by expr_or_expr"
@@ -81,74 +86,108 @@ def other_type(e):
     return e[0] == "case" and else_of(e) is not None and kind_of(e[3]) != kind_of(e)
 
 
-# ---- constants ----
+def cast_pairs(e):
+    """The types that a rule's casts go from and to, those of ELSEs included."""
+    casts = {(kind_of(x[2]), x[1]) for x in nodes(e) if x[0] in ("cast", "trycast")}
+    return casts | {(kind_of(x[3]), kind_of(x)) for x in nodes(e) if other_type(x)}
 
-def fits(v):
-    return -2 ** 31 <= v < 2 ** 31
+
+def casts_floats(e):
+    """Whether a rule casts a float to an integer, or an Int64 to a float."""
+    return bool(FLOAT_CASTS & cast_pairs(e))
+
+
+# ---- values ----
+
+def fits(kind, v):
+    """Whether an integer is in a type's range."""
+    return LOWEST[kind] <= v < -LOWEST[kind]
 
 
 def wrapped(kind, v):
-    half = 2 ** (31 if kind == 2 else 63)
+    half = -LOWEST[kind]
     return (v + half) % (2 * half) - half
 
 
-def constants(e):
-    """The integers that an expression can be without reading a column."""
-    word = e[0]
-    if kind_of(e) not in (2, 3):
-        return set()
-    if word == "literal":
-        return set() if e[2] is None else {e[2]}
-    if word == "neg":
-        return {wrapped(kind_of(e), -v) for v in constants(e[1])}
-    if word in ("cast", "trycast"):
-        return {v for v in constants(e[2]) if e[1] == 3 or fits(v)}
-    if word == "case":
-        ends = [t for _, t in e[2]] + ([] if else_of(e) is None else [e[3]])
-        return {v for x in ends for v in constants(x) if kind_of(e) == 3 or fits(v)}
-    return set()
+def negative(kind, v):
+    return v ^ 1 << 63 if kind == 4 else wrapped(kind, -v)
 
 
-def negates_lowest(e):
-    """Whether a constant lowest integer may be negated."""
-    return any(x[0] == "neg" and kind_of(x) in (2, 3) and (-2 ** 31 if kind_of(x) == 2 else -2 ** 63) in constants(x[1]) for x in nodes(e))
+def float_bits(f):
+    return int.from_bytes(struct.pack("<d", f), "little")
 
 
-def cast_above_case(e):
-    return [x for x in nodes(e) if x[0] == "cast" and holds(x[2], "case")]
+def whole_part(bits):
+    """A float without its fraction; None for a NaN or an infinity."""
+    f, = struct.unpack("<d", bits.to_bytes(8, "little"))
+    return math.trunc(f) if math.isfinite(f) else None
 
 
-def narrows(x):
-    """Whether a cast can fail."""
-    return x[0] == "cast" and x[1] == 2 and kind_of(x[2]) == 3
+def converted(source, target, v):
+    """The value cast from a type to a type, or FAILED. Python's float() of an integer is the nearest, ties to even."""
+    if source == target:
+        return v
+    if target == 1:
+        return v != 0
+    if target == 4:
+        return float_bits(float(v))
+    whole = whole_part(v) if source == 4 else int(v)
+    return whole if whole is not None and fits(target, whole) else FAILED
 
-
-def constant_cast_fails(e):
-    """Whether a cast with no column under it fails (01, number 8)."""
-    return any(narrows(x) and not holds(x, "col") and Rows([]).value(x, [0])[0] is FAILED for x in nodes(e))
-
-
-# ---- one row (01), for several rows at once ----
 
 def sort_key(kind, v):
     """Floats by totalOrder."""
     return v if kind != 4 else v ^ (2 ** 64 - 1 if v >> 63 else 2 ** 63)
 
 
-def converted(source, target, v, word):
-    if source == target:
-        return v
-    if target == 1:
-        return v != 0
-    if target == 4:
-        return int.from_bytes(struct.pack("<d", float(v)), "little")
-    v = int(v)
-    return v if target == 3 or fits(v) else FAILED if word == "cast" else None
+# ---- constants ----
+
+def constants(e):
+    """The numbers that an expression can be without reading a column."""
+    word, kind = e[0], kind_of(e)
+    if kind not in (2, 3, 4):
+        return set()
+    if word == "literal":
+        return set() if e[2] is None else {e[2]}
+    if word == "neg":
+        return {negative(kind, v) for v in constants(e[1])}
+    if word in ("cast", "trycast"):
+        return cast_constants(kind, e[2])
+    if word == "case":
+        ends = [t for _, t in e[2]] + ([] if else_of(e) is None else [e[3]])
+        return set().union(*(cast_constants(kind, x) for x in ends))
+    return set()
 
 
-def negative(kind, v):
-    return v ^ 1 << 63 if kind == 4 else wrapped(kind, -v)
+def cast_constants(kind, e):
+    """Those that fit the type that they are cast to."""
+    return {converted(kind_of(e), kind, v) for v in constants(e)} - {FAILED}
 
+
+def negates_lowest(e):
+    """Whether a constant lowest integer may be negated."""
+    return any(x[0] == "neg" and LOWEST.get(kind_of(x)) in constants(x[1]) for x in nodes(e))
+
+
+def cast_above_case(e):
+    return [x for x in nodes(e) if x[0] == "cast" and holds(x[2], "case")]
+
+
+def may_fail(x):
+    return x[0] == "cast" and (kind_of(x[2]), x[1]) in MAY_FAIL
+
+
+def constant_cast_fails(e):
+    """Whether a cast with no column under it fails (01, number 8)."""
+    return any(may_fail(x) and not holds(x, "col") and Rows([]).value(x, [0])[0] is FAILED for x in nodes(e))
+
+
+def fails_on_constant(x):
+    """Whether a cast fails on what its child can be without reading a column."""
+    return may_fail(x) and any(converted(kind_of(x[2]), x[1], v) is FAILED for v in constants(x[2]))
+
+
+# ---- one row (01), for several rows at once ----
 
 class Rows:
     """Values of expressions at rows of a table's columns. `uncast` is set once a strategy-5 CASE with an ELSE of another type is
@@ -173,8 +212,12 @@ class Rows:
         if word == "isnotnull":
             return [v if v is FAILED else v is not None for v in values]
         source = kind_of(e[-1])
-        step = {"not": lambda v: not v, "neg": lambda v: negative(source, v)}.get(word) or (lambda v: converted(source, e[1], v, word))
+        step = {"not": lambda v: not v, "neg": lambda v: negative(source, v)}.get(word) or (lambda v: self.cast(word, source, e[1], v))
         return [v if v is None or v is FAILED else step(v) for v in values]
+
+    def cast(self, word, source, target, v):
+        found = converted(source, target, v)
+        return None if found is FAILED and word == "trycast" else found
 
     def comparison(self, e, rows):
         kind, out = kind_of(e[1]), []
@@ -263,7 +306,7 @@ def classes(rule, table):
     if uncast_else(rule, table):
         found.append(UNCAST_ELSE)
     above = cast_above_case(rule)
-    if rows == 0 and any(narrows(x) and not all(map(fits, constants(x[2]))) for x in above):
+    if rows == 0 and any(map(fails_on_constant, above)):
         found.append(NO_ROWS)
     if negates_lowest(rule):
         found.append(NEGATED)

@@ -235,7 +235,12 @@ class Tally:
     def count(self, c, port):
         words = [f"strategy {port.strategy}", f"type {WORDS.get(port.read - 256)}", f"nested {min(3, sum(x[0] == 'case' for x in nodes(c.rule)) - 1)}"]
         words.append("failed" if port.entries == "refused 15" else "no rows" if c.table[0] == 0 else "answered")
-        self.spread.update(words)
+        self.spread.update(words + float_words(c.rule, port.entries == "refused 15"))
+
+
+def float_words(rule, failed):
+    """What is counted of a rule with a cast between Float64 and an integer (02, Change 2)."""
+    return ["float cast"] + ["float cast failed"] * failed if case_classes.casts_floats(rule) else []
 
 
 # ---- shrinking ----
@@ -427,7 +432,9 @@ def store_answers(args, programs):
     print(f"{len(runs)} runs of the Rust in {sum(map(len, runs))} bytes (at most {MOST_FILE}), {len(rules)} rules in {write('rule_cases', 'rust', rules)} files")
     spread = collections.Counter()
     for c, rust in both:
-        spread.update([f"strategy {rust.strategy}", f"type {case_classes.kind_of(c.rule)}", "failed" if rust.entries == "failed" else "answered"])
+        failed = rust.entries == "failed"
+        spread.update([f"strategy {rust.strategy}", f"type {case_classes.kind_of(c.rule)}", "failed" if failed else "answered"])
+        spread.update(float_words(c.rule, failed))
     print(", ".join(f"{k} {spread[k]}" for k in sorted(spread)))
     return 0
 

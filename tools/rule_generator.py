@@ -1,4 +1,4 @@
-"""rule_generator.py: random rules with tables, written from document 01, for compare_rust.py.
+"""rule_generator.py: random rules with tables, written from documents 01 and 02, for compare_rust.py.
 
 case(rng, theme, small) gives a Case: a tree and a table as casetext.py has them, and a number that chooses what stands in spare bits and
 under nulls (0: zeros). The theme "inside" keeps to what is compared with the Rust without exception: UTF-8 text, ELSE of the result's
@@ -8,7 +8,7 @@ likelier. With `small` rules and tables are short. limit(rng) gives a case at a 
 import random
 from collections import namedtuple
 
-from case_classes import LOWEST, negates_lowest
+from case_classes import FAILED, LOWEST, MAY_FAIL, converted, float_bits, negates_lowest
 from casetext import WIDTHS, bitmap, field, number, rule_bytes
 
 Case = namedtuple("Case", "rule table junk")
@@ -16,13 +16,20 @@ Case = namedtuple("Case", "rule table junk")
 RULE_MOST, TABLE_MOST, TEXT_MOST, ROWS_MOST, COLUMNS_MOST, BRANCHES_MOST, DEPTH_MOST, CASES_MOST = 4096, 65536, 65535, 512, 16, 32, 8, 3
 THEMES = ("outside", "else", "no rows", "lowest", "bytes")
 KINDS = (1, 2, 3, 4, 5)
-# casts by target; the pairs that document 01 lists
-FROM = {1: (1, 2, 3), 2: (1, 2, 3, 3, 3, 3), 3: (1, 2, 3), 4: (4, 2), 5: (5,)}
+# casts by target; the listed pairs (01, Bytes of a rule; 02, Change 2), those that may fail and those that may round more often
+FROM = {1: (1, 2, 3), 2: (1, 2, 3, 3, 3, 4, 4, 4), 3: (1, 2, 3, 4, 4), 4: (4, 2, 3, 3), 5: (5,)}
 INT32 = [0, 1, -1, 2, 7, -7, 100, 2 ** 31 - 1, -2 ** 31 + 1, -2 ** 31]
 INT64 = INT32 + [2 ** 31, -2 ** 31 - 1, 2 ** 32, 2 ** 63 - 1, -2 ** 63 + 1, -2 ** 63]
+# halfway between two floats, and beside that
+TIES = [2 ** 53 + 1, -2 ** 53 - 3, 2 ** 54 + 2, 2 ** 54 + 3, 2 ** 63 - 512, 2 ** 63 - 513]
 # 0.0, 1.0, 1.5, the least and the greatest, infinity, NaNs quiet and not, with the least and the greatest payload; then the negative ones
 FLOATS = [0, 0x3ff0 << 48, 0x3ff8 << 48, 1, 0x7fef << 48 | 2 ** 48 - 1, 0x7ff0 << 48, 0x7ff8 << 48, 0x7ff0 << 48 | 1, 0x7fff << 48 | 2 ** 48 - 1]
 FLOATS += [1 << 63 | b for b in FLOATS]
+# the greatest subnormal, below 1, at the ends of Int32, 2^53 - 1, at the ends of Int64; then the negative ones
+ENDS = [2 ** 52 - 1] + list(map(float_bits, (0.5, 0.9, 1 - 2 ** -53, 2147483647.0, 2147483647.9, 2147483648.0, 2147483648.9, 2147483649.0,
+                                             2.0 ** 53 - 1, 2.0 ** 63 - 1024, 2.0 ** 63, 2.0 ** 63 + 2048)))
+ENDS += [1 << 63 | b for b in ENDS]
+FITTING = [b for b in FLOATS + ENDS if converted(4, 2, b) is not FAILED]
 TEXTS = [b"", b"a", b"ab", b"abc", b"b", b"ba", b"\0", b"a\0", b"boat", b"boats", "é".encode(), "日本".encode(), b"\x7f", "\U0010ffff".encode()]
 NOT_UTF8 = [b"\xff", b"a\xff", b"\xc3", b"\x80a"]
 
@@ -34,10 +41,18 @@ def any_value(rng, kind):
     if kind == 5:
         return rng.choice(TEXTS)
     if kind == 4:
-        return rng.choice(FLOATS) if rng.random() < 0.9 else rng.getrandbits(64)
+        return any_float(rng)
     if rng.random() < 0.8:
-        return rng.choice(INT32 if kind == 2 else INT64)
-    return rng.randrange(-300, 300)
+        return rng.choice(INT32 if kind == 2 else INT64 + TIES)
+    return rng.randrange(-300, 300) if kind == 2 or rng.random() < 0.5 else rng.randrange(-2 ** 63, 2 ** 63)
+
+
+def any_float(rng):
+    """The bits of a float; where it isn't an edge, often of a magnitude that some integer has."""
+    pick = rng.random()
+    if pick < 0.85:
+        return rng.choice(FLOATS if pick < 0.4 else ENDS)
+    return rng.getrandbits(64) if pick < 0.9 else rng.getrandbits(1) << 63 | rng.randrange(1021, 1089) << 52 | rng.getrandbits(52)
 
 
 class Maker:
@@ -49,21 +64,22 @@ class Maker:
         # type, whether the table's column is nullable, whether the rule says so
         count = rng.choice((0, 1, 2, 2, 3, 3, 4, 5) if small else (0, 1, 2, 3, 3, 4, 4, 5, 6, 8, COLUMNS_MOST))
         self.schema = [self.marks() for _ in range(count)]
-        # whether Int64 is often cast to Int32, which may fail
-        self.narrowing = rng.random() < 0.3
+        # the types of a cast that may fail and stands often, if any
+        self.narrowing = rng.choice(MAY_FAIL) if rng.random() < 0.3 else None
         if self.narrowing:
-            self.schema = self.schema[1:] + [(3,) + self.marks()[1:]]
+            self.schema = self.schema[1:] + [(self.narrowing[0],) + self.marks()[1:]]
         self.budget = rng.choice((3, 5, 7, 9) if small else (4, 8, 12, 20, 40, 80))
 
     def palette(self, kind):
         """The few values that columns and literals of a type are drawn from, so that they meet."""
         values = [any_value(self.rng, kind) for _ in range(self.rng.randint(2, 5))]
-        if kind == 3 and self.theme != "no rows" and self.rng.random() < 0.5:
-            values = [v if -2 ** 31 <= v < 2 ** 31 else self.rng.choice(INT32) for v in values]
+        if kind in (3, 4) and self.theme != "no rows" and self.rng.random() < 0.5:
+            values = [v if converted(kind, 2, v) is not FAILED else self.rng.choice(INT32 if kind == 3 else FITTING) for v in values]
         if kind == 5 and self.theme == "bytes":
             values.append(self.rng.choice(NOT_UTF8))
-        if kind in (2, 3) and self.theme == "lowest":
-            values.append(LOWEST[kind - 2])
+        if kind in (2, 3, 4) and self.theme == "lowest":
+            lowest = LOWEST[kind if kind < 4 else self.rng.choice((2, 3))]
+            values.append(lowest if kind < 4 else float_bits(float(lowest)))
         return values
 
     def marks(self):
@@ -92,15 +108,16 @@ class Maker:
 
     def leaf(self, kind, depth=DEPTH_MOST):
         if self.narrowing and kind != 5 and depth + 2 <= DEPTH_MOST and self.rng.random() < 0.5:
-            cast = ("cast", 2, self.column(3))
-            return cast if kind == 2 else ("cast", kind, cast)
+            source, target = self.narrowing
+            cast = ("cast", target, self.column(source))
+            return cast if kind == target else ("cast", kind, cast)
         return self.column(kind) if self.rng.random() < 0.65 else self.literal(kind)
 
     def expr(self, kind, depth, cases):
         """An expression of a type: depth is its own, cases the number of CASEs above it."""
         self.budget -= 1
         if depth >= DEPTH_MOST or self.budget <= 0 or self.rng.random() < 0.3:
-            return self.wide_case(depth, cases) if self.theme == "no rows" and kind == 2 else self.leaf(kind, depth)
+            return self.wide_case(kind, depth, cases) if self.theme == "no rows" and kind in LOWEST else self.leaf(kind, depth)
         forms = ["cast", "cast", "trycast"] + ["cast"] * (3 if self.theme == "no rows" or kind == 2 else 0)
         if cases < CASES_MOST:
             forms += ["case"] * 3
@@ -110,11 +127,12 @@ class Maker:
             forms += ["neg"] * (9 if self.theme == "lowest" else 3)
         return self.form(self.rng.choice(forms), kind, depth, cases)
 
-    def wide_case(self, depth, cases):
-        """A cast to Int32 above a CASE of Int64 literals, if there is room for it."""
+    def wide_case(self, kind, depth, cases):
+        """A cast to an integer that may fail, above a CASE of literals, if there is room for it."""
         if depth + 2 > DEPTH_MOST or cases >= CASES_MOST:
-            return self.leaf(2)
-        return ("cast", 2, ("case", None, [(self.column(1), self.literal(3))], self.rng.choice((None, self.literal(3), self.column(3)))))
+            return self.leaf(kind)
+        of = self.rng.choice([source for source, target in MAY_FAIL if target == kind])
+        return ("cast", kind, ("case", None, [(self.column(1), self.literal(of))], self.rng.choice((None, self.literal(of), self.column(of)))))
 
     def form(self, word, kind, depth, cases):
         if word == "case":
@@ -212,7 +230,7 @@ class Maker:
             return self.constant_case(then, low, inner)
         if self.theme == "lowest" and pick < 0.6 and low + 2 <= DEPTH_MOST:
             kind = self.rng.choice((2, 3))
-            return (self.rng.choice(("equal", "less")), ("neg", ("literal", kind, LOWEST[kind - 2])), self.literal(kind))
+            return (self.rng.choice(("equal", "less")), ("neg", ("literal", kind, LOWEST[kind])), self.literal(kind))
         return self.expr(1, low, inner)
 
     def constant_case(self, then, low, inner):
@@ -331,7 +349,7 @@ def deep(rng):
     """Depth 8, with three CASEs on the path."""
     made = Maker(rng, "inside", True)
     made.schema = [(1, 1, 1), (2, 1, 1)]
-    made.palettes[2] = [v for v in made.palettes[2] if v not in LOWEST] or [5]
+    made.palettes[2] = [v for v in made.palettes[2] if v != LOWEST[2]] or [5]
     flag, e = ("col", 0, 1, 1), ("col", 1, 2, 1)
     for _ in range(DEPTH_MOST - 1 - CASES_MOST):
         e = ("neg", e)

@@ -1,10 +1,11 @@
 """shrinking.py: shrunk(case, test) gives the smallest case that it finds by single steps. test takes a list of cases and says of each
 whether it still shows what is looked for."""
-from case_classes import children, kind_of, nodes
+from case_classes import children, float_bits, kind_of, nodes
 from casetext import rule_bytes
 from rule_generator import Case, table_bytes
 
-SIMPLE = {1: (False, True), 2: (0, 1), 3: (0, 1), 4: (0,), 5: (b"", b"a")}
+# among them 2^31 and the float 2^63, which no narrower type of integers takes
+SIMPLE = {1: (False, True), 2: (0, 1), 3: (0, 1, 2 ** 31), 4: (0, float_bits(2.0 ** 63)), 5: (b"", b"a")}
 
 
 def size(c):

@@ -170,18 +170,31 @@ rule
         self.assertEqual(classes(text.format(0, "", 2 ** 31 - 1)), [cc.OUTSIDE])
         self.assertEqual(classes(text.format(1, " true", 2 ** 31)), [cc.OUTSIDE])
 
+    def test_no_rows_floats(self):
+        text = "rows 0\ncolumn a boolean\nrule\n(case (when (boolean true) (then (cast {} {}))))"
+        case = "(case (when (col a) (then ({} {}))))"
+        for target, kind, value, want in (("int32", "float64", "2147483648.0", cc.NO_ROWS), ("int32", "float64", "2147483647.9", cc.OUTSIDE),
+                                          ("int64", "float64", "9223372036854775808.0", cc.NO_ROWS),
+                                          ("int64", "float64", "-9223372036854775808.0", cc.OUTSIDE), ("float64", "int64", 2 ** 63 - 1, cc.OUTSIDE)):
+            self.assertEqual(classes(text.format(target, case.format(kind, value))), [want])
+        self.assertEqual(classes(text.format("int64", f"(cast float64 {case.format('int64', 2 ** 63 - 1)})")), [cc.NO_ROWS])
+
     def test_negated(self):
         text = "rows 1\ncolumn a int32 -2147483648\nrule\n(case (when (boolean true) (then {})))"
         self.assertEqual(classes(text.format("(neg (int32 -2147483648))")), [cc.NEGATED])
         self.assertEqual(classes(text.format("(neg (cast int32 (neg (int64 2147483648))))")), [cc.NEGATED])
         self.assertEqual(classes(text.format("(neg (case (when (boolean true) (then (int32 -2147483648)))))")), [cc.NEGATED])
         self.assertEqual(classes(text.format("(neg (int64 -2147483648))")), [cc.INSIDE])
+        self.assertEqual(classes(text.format("(neg (cast int32 (float64 -2147483648.9)))")), [cc.NEGATED])
+        self.assertEqual(classes(text.format("(neg (cast int64 (cast float64 (int64 -9223372036854775807))))")), [cc.NEGATED])
         self.assertEqual(classes(text.format("(neg (col a))")), [cc.INSIDE])
 
     def test_refused(self):
         text = "rows {}\nrule\n(case (when (boolean false) (then {})))"
         self.assertEqual(classes(text.format(1, "(cast int32 (int64 2147483648))")), [cc.CONSTANT_CAST])
         self.assertEqual(classes(text.format(1, "(trycast int32 (int64 2147483648))")), [cc.INSIDE])
+        for value, want in (("2147483648.0", cc.CONSTANT_CAST), ("-2147483648.9", cc.INSIDE), ("0x7ff8000000000000", cc.CONSTANT_CAST)):
+            self.assertEqual(classes(text.format(1, f"(cast int32 (float64 {value}))")), [want])
         long = "rows {}\nrule\n(case (when (boolean true) (then (utf8 \"%s\"))))" % ("z" * 257)
         self.assertEqual((classes(long.format(255)), classes(long.format(256))), ([cc.INSIDE], [cc.LONG_TEXT]))
 
@@ -196,6 +209,24 @@ rule
                                   ("(isnotnull (neg (int32 -2147483648)))", "(col a)", cc.NEGATED_IN_WHEN),
                                   ("(col a)", f"(case (when {case} (then (col a))))", cc.CASE_IN_WHEN)):
             self.assertEqual(cc.nullable_classes(made(text.format(when, other)).rule), [want])
+
+    def test_casts(self):
+        """Document 02's sentences on the casts between floats and integers."""
+        low, high = float(-2 ** 63), float(2 ** 63)
+        for f, int32, int64 in ((0.9, 0, 0), (-0.9, 0, 0), (-0.0, 0, 0), (5e-324, 0, 0), (2147483647.9, 2147483647, 2147483647),
+                                (-2147483648.9, -2147483648, -2147483648), (2147483648.0, cc.FAILED, 2147483648),
+                                (-2147483649.0, cc.FAILED, -2147483649), (low, cc.FAILED, -2 ** 63), (high, cc.FAILED, cc.FAILED),
+                                (low - 2048, cc.FAILED, cc.FAILED), (high - 1024, cc.FAILED, 2 ** 63 - 1024), (float("nan"), cc.FAILED, cc.FAILED),
+                                (float("inf"), cc.FAILED, cc.FAILED), (-float("inf"), cc.FAILED, cc.FAILED)):
+            self.assertEqual([cc.converted(4, kind, cc.float_bits(f)) for kind in (2, 3)], [int32, int64])
+        for n, bits in ((2 ** 53 + 1, 0x4340000000000000), (-2 ** 53 - 3, 0xc340000000000002), (2 ** 63 - 1, 0x43e0000000000000), (0, 0)):
+            self.assertEqual(cc.converted(3, 4, n), bits)
+
+    def test_cast_pairs(self):
+        rule = made("rows 0\ncolumn a float64\nrule\n(case (when (boolean true) (then (trycast int32 (col a)))) (else (cast int64 (int32 1))))").rule
+        self.assertEqual(cc.cast_pairs(rule), {(4, 2), (2, 3), (3, 2)})
+        self.assertTrue(cc.casts_floats(rule))
+        self.assertFalse(cc.casts_floats(rule[3]))
 
     def test_meaning(self):
         """The same values as casetext.py's meaning of one row, which was written apart from it."""
@@ -226,6 +257,24 @@ class Generator(unittest.TestCase):
             self.assertLessEqual(len(rule_bytes(c.rule)), 4096)
             self.assertLessEqual(len(rg.table_bytes(c)), 65536)
             self.assertLessEqual(len(c.table[1]), 16)
+
+    def test_casts(self):
+        """The listed pairs and no others."""
+        pairs = set().union(*(cc.cast_pairs(c.rule) for c in random_cases(300)))
+        listed = {(k, k) for k in rg.KINDS} | {(a, b) for kinds in ((1, 2, 3), (2, 3, 4)) for a in kinds for b in kinds}
+        self.assertEqual(pairs, listed)
+
+    def test_float_ends(self):
+        """Floats that fit each integer's type and ones that don't, whose casts fail in some cases and answer in others."""
+        for kind in (2, 3):
+            self.assertEqual({cc.converted(4, kind, b) is cc.FAILED for b in rg.ENDS}, {True, False})
+        failed, answered = 0, 0
+        for c in random_cases(100):
+            if cc.casts_floats(c.rule) and c.table[0] > 0:
+                values = cc.Rows([col[3] for col in c.table[1]]).value(c.rule, list(range(c.table[0])))
+                failed, answered = failed + (cc.FAILED in values), answered + (cc.FAILED not in values)
+        self.assertGreater(failed, 10)
+        self.assertGreater(answered, 50)
 
     def test_ends(self):
         rng = random.Random(3)

@@ -9,6 +9,7 @@ use datafusion_physical_expr::expressions::{
     CaseExpr, CastExpr, Column, IsNotNullExpr, Literal, NegativeExpr, NotExpr, TryCastExpr,
 };
 use std::collections::BTreeMap;
+use std::ops::RangeInclusive;
 use std::sync::Arc;
 
 type Expr = Arc<dyn PhysicalExpr>;
@@ -78,8 +79,10 @@ fn flag(b: u8) -> Option<bool> {
     }
 }
 
+/// Each type to itself, any pair among 1, 2, 3, and any among 2, 3, 4.
 fn castable(from: u8, to: u8) -> bool {
-    from == to || (1..=3).contains(&from) && (1..=3).contains(&to) || (from, to) == (2, 4)
+    let both = |kinds: RangeInclusive<u8>| kinds.contains(&from) && kinds.contains(&to);
+    from == to || both(1..=3) || both(2..=4)
 }
 
 pub fn read(bytes: &[u8]) -> Option<Rule> {
