@@ -1,6 +1,6 @@
 -- Results, taken backwards: what a reading that gives something went through, and which numbers its refusals have. Assumes nothing.
 use mathlib.Core.Path.{_≡_, refl, sym, ap, _∙_}
-use mathlib.Core.Bool.{Bool, true, false, cond, _&&_, _||_, false≢true, or-true}
+use mathlib.Core.Bool.{Bool, true, false, cond, not, _&&_, _||_, false≢true, or-true, Bool·not-not}
 use mathlib.Core.List.{List, [], _∷_, _++_}
 use Prim.Native.Nat.{ℕ, _≤_}
 use lib.Dec.{eqb, leb}
@@ -84,6 +84,22 @@ among-between low high (m ∷ l) n b e =
         let most : m ≤ high = leb-true m high (here .1) in
         (omega arith, omega arith)
     go here false is e later = later e
+
+-- none of some numbers is one of others
+abbrev pub apart : List ℕ → List ℕ → Bool
+apart [] m = true
+apart (k ∷ l) m = not (among m k) && apart l m
+
+-- so one of them is none of the others
+pub among-apart : (l m : List ℕ) (n : ℕ) → apart l m ≡ true → among l n ≡ true → among m n ≡ false
+among-apart [] m n b e = absurd (false≢true e)
+among-apart (k ∷ l) m n b e =
+    let all = both-hold (not (among m k)) (apart l m) b in
+    go (eqb n k) refl e (sym (Bool·not-not (among m k)) ∙ ap not (all .0)) (among-apart l m n (all .1))
+  where
+    go : (t : Bool) → eqb n k ≡ t → (t || among l n) ≡ true → among m k ≡ false → (among l n ≡ true → among m n ≡ false) → among m n ≡ false
+    go true is e here later = ap (among m) (eqb-true n k is) ∙ here
+    go false is e here later = later e
 
 -- one of these is one of more
 pub among-more : (before l after : List ℕ) (n : ℕ) → among l n ≡ true → among (before ++ (l ++ after)) n ≡ true

@@ -45,6 +45,11 @@ bitAt map i = eqb (byte map (byteOfRow i) / 2 ^ bitOfRow i % 2) 1
 abbrev pub bitmapLength : ℕ → ℕ
 bitmapLength rows = (rows + 7) / 8
 
+-- how many of the first rows' bits are set (02, Change 3); spare bits don't count
+unfoldable pub setBits : List ℕ → ℕ → ℕ
+setBits map zero = 0
+setBits map (suc n) = cond (bitAt map n) 1 0 + setBits map n
+
 -- bits as a number, lowest first
 unfoldable pub bitNumber : List Bool → ℕ
 bitNumber [] = 0

@@ -8,13 +8,17 @@ use lib.Dec.{eqb}
 abbrev pub ruleRefusals : List ℕ
 ruleRefusals = 1 ∷ 2 ∷ 3 ∷ 4 ∷ 5 ∷ 6 ∷ 7 ∷ 8 ∷ []
 
--- a table with one of 9 to 12
+-- a table with one of 9 to 12, or 25 (02, Change 3)
 abbrev pub tableRefusals : List ℕ
-tableRefusals = 9 ∷ 10 ∷ 11 ∷ 12 ∷ []
+tableRefusals = 9 ∷ 10 ∷ 11 ∷ 12 ∷ 25 ∷ []
 
 -- an evaluation of a rule and a table that were accepted with one of 13 to 17
 abbrev pub evaluationRefusals : List ℕ
 evaluationRefusals = 13 ∷ 14 ∷ 15 ∷ 16 ∷ 17 ∷ []
+
+-- those of a run that come once its work has begun; all others come before it and leave all memory untouched (01, Where a call stops; 02, Change 1)
+abbrev pub lateRefusals : List ℕ
+lateRefusals = 15 ∷ 16 ∷ 17 ∷ []
 
 -- a run, which is one whole evaluation, with any of these
 abbrev pub runRefusals : List ℕ

@@ -66,7 +66,7 @@ pub fn read_u32(s: &[u8], at: usize) -> u32
 }
 
 // The number in the eight bytes at a place, all of them there.
-fn whole_u64(s: &[u8], at: usize) -> u64
+pub(crate) fn whole_u64(s: &[u8], at: usize) -> u64
     requires { ⌜ at + 8 ≤ length (now s) ⌝ }
     ensures { λ r. ⌜ r ≡ numberAt 8 (now (s .entry)) at ⌝ }
 {

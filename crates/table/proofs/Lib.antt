@@ -4,6 +4,7 @@ pub mod StandLaws
 pub mod TableTyped
 pub mod OffsetLaws
 pub mod PartsLaws
+pub mod NullLaws
 pub mod ColumnLaws
 pub mod AloneLaws
 pub mod ReadLaws
@@ -12,3 +13,4 @@ pub mod WholeBytes
 pub mod PlaceLaws
 pub mod EntryLaws
 pub mod RefusalLaws
+pub mod CountExamples

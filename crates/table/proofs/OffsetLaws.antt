@@ -5,16 +5,22 @@ use mathlib.Core.List.{List}
 use Prim.Native.Nat.{ℕ, suc, _+_, _-_, _*_, _<_, _≤_}
 use native.Mathlib.Omega.{arith}
 use lib.Dec.{leb}
-use lib.ListN.{take, drop}
-use lib.Seq.{drop-drop}
+use lib.ListN.{take, drop, length-take}
+use lib.Seq.{drop-drop, take-all}
 use borrow.Author.Tests.{le-leb, lt-leb}
-use Rattle.layout.specs.Bytes.{number, numberAt}
+use Rattle.layout.specs.Bytes.{number, numberAt, part}
 use Rattle.table.specs.Column.{offsetAt}
 use Rattle.table.specs.Reading.{neverFalls}
 
 -- a number at a place of what is left
 pub number-drop : (k : ℕ) (l : List ℕ) (a b : ℕ) → numberAt k (drop a l) b ≡ numberAt k l (a + b)
 number-drop k l a b = ap (λ (m : List ℕ). number (take k m)) (drop-drop b a l)
+
+-- a number of four bytes is that of the part which they are
+pub offset-part : (l : List ℕ) (at : ℕ) → numberAt 4 (part l at (at + 4)) 0 ≡ numberAt 4 l at
+offset-part l at =
+    let four : at + 4 - at ≡ 4 = omega arith in
+    ap (λ (k : ℕ). number (take 4 (take k (drop at l)))) four ∙ ap number (take-all 4 (take 4 (drop at l)) (omega (arith, length-take 4 (drop at l))))
 
 -- what is left from the i-th offset on never falls
 abbrev pub Left : List ℕ → ℕ → ℕ → Bool

@@ -1,25 +1,27 @@
 -- The bytes of a table within the limits are read as that table. Assumes nothing.
 use mathlib.Core.Path.{_≡_, refl, sym, ap, _∙_}
-use mathlib.Core.Bool.{or-true}
+use mathlib.Core.Bool.{true, or-true}
 use mathlib.Core.List.{List, [], _∷_, _++_, append-assoc}
 use mathlib.Core.Logic.{_⊎_, ⊎-elim}
+use mathlib.Core.Option.{Option, some, none}
 use Prim.Native.Nat.{ℕ, zero, suc, _+_, _*_, _<_, _≤_}
 use native.Mathlib.Omega.{arith}
 use lib.Dec.{eqb}
 use lib.ListN.{length, length-append}
-use borrow.Author.Tests.{eq-eqb, le-leb, lt-ltb}
+use borrow.Author.Tests.{eqb-true, eq-eqb, le-leb, lt-ltb}
 use Rattle.layout.specs.Result.{ok}
-use Rattle.layout.specs.Bytes.{numberBytes, bitmapLength}
+use Rattle.layout.specs.Bytes.{number, numberBytes, bitmapLength}
 use Rattle.layout.specs.Field.{fieldBytes}
 use Rattle.layout.proofs.BytesLaws.{length-numberBytes, number-numberBytes}
 use Rattle.layout.proofs.FieldLaws.{header-field, length-field}
+use Rattle.layout.proofs.TestLaws.{both-hold}
 use Rattle.scalar.specs.declared.types.DataType.{DataType}
 use Rattle.scalar.specs.declared.types.DataType.the-variants.{Boolean, Int32, Int64, Float64, Utf8}
 use Rattle.scalar.specs.Types.{typeNumber, markNumber}
 use Rattle.scalar.proofs.TypeLaws.{typeNumbered-back, markNumbered-back}
-use Rattle.table.specs.Column.{TableColumn, offsetAt}
-use Rattle.table.specs.Reading.{tagged, taggedPair, readValidity, readTextOffsets, readOffsets, valuesLength, readValues, readBody, readParts, readColumn, readColumns, bytesMost, rowsMost, columnsMost, readTable}
-use Rattle.table.specs.TableBytes.{offsetsField, columnBytes, columnsBytes, tableBytes, OffsetsWithin, PartsWithin, ColumnWithin, EachWithin, TableReadsBack}
+use Rattle.table.specs.Column.{TableColumn, nullCount, offsetAt}
+use Rattle.table.specs.Reading.{tagged, taggedPair, readCount, readValidity, readTextOffsets, readOffsets, valuesLength, readValues, readBody, readParts, countSays, readColumn, readColumns, bytesMost, rowsMost, columnsMost, readTable}
+use Rattle.table.specs.TableBytes.{offsetsField, countField, columnBytes, columnsBytes, tableBytes, OffsetsWithin, PartsWithin, ColumnWithin, EachWithin, TableReadsBack}
 use Rattle.table.proofs.ReadLaws.{columns-next}
 
 -- ---- fields
@@ -37,6 +39,25 @@ unfolding taggedPair
 pair-back tag content rest h = rw (tagged-back tag content rest (omega arith), h)
 
 -- ---- a column
+
+-- a null count, where it is written, fits a field
+abbrev pub CountShort : Option (List ℕ) → Type 0
+CountShort none = Unit {0}
+CountShort (some content) = length content < 65536
+
+-- one that says a number does
+count-short : (nulls : Option (List ℕ)) (n : ℕ) → countSays nulls n ≡ true → CountShort nulls
+count-short none n h = tt
+count-short (some content) n h =
+    let two : length content ≡ 2 = eqb-true _ _ (both-hold (eqb (length content) 2) (eqb (number content) n) h .0) in
+    omega arith
+
+-- tag 6, or none, is read back before tag 3
+count-back : (nulls : Option (List ℕ)) (validity rest : List ℕ) → CountShort nulls
+    → readCount (countField nulls ++ (fieldBytes 3 validity ++ rest)) ≡ ok (record { part = nulls; rest = fieldBytes 3 validity ++ rest })
+unfolding readCount fieldBytes
+count-back none validity rest h = refl
+count-back (some content) validity rest h = rw (tagged-back 6 content (fieldBytes 3 validity ++ rest) h)
 
 -- tag 3 is read back
 validity-back : (rows : ℕ) (validity rest : List ℕ) → rows ≤ 512 → (length validity ≡ 0) ⊎ (length validity ≡ bitmapLength rows)
@@ -65,25 +86,26 @@ values-back : (t : DataType) (rows : ℕ) (offsets values rest : List ℕ) → l
 unfolding readValues
 values-back t rows offsets values rest h e = rw (tagged-back 4 values rest h, eq-eqb _ _ e)
 
--- a column's bytes are read as that column, whatever its nulls
-pub parts-back : (rows : ℕ) (c : TableColumn) (rest : List ℕ) → rows ≤ 512 → length (c .values) < 65536 → PartsWithin rows c
+-- a column's bytes are read as that column, whatever its nulls and their count
+pub parts-back : (rows : ℕ) (c : TableColumn) (rest : List ℕ) → rows ≤ 512 → length (c .values) < 65536 → CountShort (c .nulls) → PartsWithin rows c
     → readParts rows (columnBytes c ++ rest) ≡ ok (record { part = c; rest = rest })
 unfolding readParts readBody columnBytes
-parts-back rows c rest h k w = simp append-assoc
+parts-back rows c rest h k s w = simp append-assoc
     (rw (
-      pair-back 2 (typeNumber (c .type) ∷ markNumber (c .nullable) ∷ []) (fieldBytes 3 (c .validity) ++ (offsetsField (c .type) (c .offsets) ++ (fieldBytes 4 (c .values) ++ rest))) refl,
+      pair-back 2 (typeNumber (c .type) ∷ markNumber (c .nullable) ∷ []) (countField (c .nulls) ++ (fieldBytes 3 (c .validity) ++ (offsetsField (c .type) (c .offsets) ++ (fieldBytes 4 (c .values) ++ rest)))) refl,
       typeNumbered-back 11 (c .type),
       markNumbered-back 11 (c .nullable),
+      count-back (c .nulls) (c .validity) (offsetsField (c .type) (c .offsets) ++ (fieldBytes 4 (c .values) ++ rest)) s,
       validity-back rows (c .validity) (offsetsField (c .type) (c .offsets) ++ (fieldBytes 4 (c .values) ++ rest)) h (w .validity),
       offsets-back (c .type) rows (c .offsets) (fieldBytes 4 (c .values) ++ rest) h (w .offsets),
       values-back (c .type) rows (c .offsets) (c .values) rest k (w .values),
     ))
 
--- and so it is with its nulls
+-- and so they are where both are tested
 column-back : (rows : ℕ) (c : TableColumn) (rest : List ℕ) → rows ≤ 512 → length (c .values) < 65536 → ColumnWithin rows c
     → readColumn rows (columnBytes c ++ rest) ≡ ok (record { part = c; rest = rest })
 unfolding readColumn
-column-back rows c rest h k w = rw (parts-back rows c rest h k (w .parts), w .nulls)
+column-back rows c rest h k w = rw (parts-back rows c rest h k (count-short (c .nulls) (nullCount (c .validity) rows) (w .count)) (w .parts), w .nulls, w .count)
 
 -- ---- the columns
 
@@ -93,7 +115,9 @@ unfolding columnBytes
 column-size c =
     let head : List ℕ = fieldBytes 2 (typeNumber (c .type) ∷ markNumber (c .nullable) ∷ []) in
     let offsets : List ℕ = offsetsField (c .type) (c .offsets) in
-    let a = length-append head (fieldBytes 3 (c .validity) ++ (offsets ++ fieldBytes 4 (c .values))) in
+    let count : List ℕ = countField (c .nulls) in
+    let a = length-append head (count ++ (fieldBytes 3 (c .validity) ++ (offsets ++ fieldBytes 4 (c .values)))) in
+    let e = length-append count (fieldBytes 3 (c .validity) ++ (offsets ++ fieldBytes 4 (c .values))) in
     let b = length-append (fieldBytes 3 (c .validity)) (offsets ++ fieldBytes 4 (c .values)) in
     let d = length-append offsets (fieldBytes 4 (c .values)) in
     omega (arith, length-field 2 (typeNumber (c .type) ∷ markNumber (c .nullable) ∷ []), length-field 3 (c .validity), length-field 4 (c .values))

@@ -19,7 +19,7 @@ use Rattle.table.specs.declared.column.ColumnAnswer.{ColumnAnswer}
 use Rattle.table.specs.Column.{TableColumn}
 use Rattle.table.specs.Reading.{Part, taggedPair, readColumn, readColumns, Table, readTable}
 use Rattle.table.specs.Places.{noPlace, placeFrom, columnEnd, placesFrom, placesIn16, tableAnswerFrom, tableAnswer}
-use Rattle.table.specs.Parts.{fieldMeans, FieldGives, columnAnswer, oneMore, columnsStep}
+use Rattle.table.specs.Parts.{fieldMeans, FieldGives, headAnswer, oneMore, columnsStep}
 use Rattle.table.proofs.PartsLaws.{behind-refused, behind-field, field-inside}
 use Rattle.table.proofs.RefusalLaws.{column-numbered}
 use Rattle.table.proofs.StandLaws.{pair-stands, stands-at, column-stands, column-parts, length-places}
@@ -86,10 +86,10 @@ columnsEnd at [] = at
 columnsEnd at (c ∷ cs) = columnsEnd (columnEnd at c) cs
 
 -- one column more stands behind the others
-places-snoc : (at : ℕ) (cs : List TableColumn) (c : TableColumn) → placesFrom at (cs ++ (c ∷ [])) ≡ placesFrom at cs ++ (placeFrom (columnsEnd at cs) c ∷ [])
+places-snoc : (rows at : ℕ) (cs : List TableColumn) (c : TableColumn) → placesFrom rows at (cs ++ (c ∷ [])) ≡ placesFrom rows at cs ++ (placeFrom rows (columnsEnd at cs) c ∷ [])
 unfolding placesFrom
-places-snoc at [] c = refl
-places-snoc at (x ∷ cs) c = ap (λ (ps : List ColumnPlace). placeFrom at x ∷ ps) (places-snoc (columnEnd at x) cs c)
+places-snoc rows at [] c = refl
+places-snoc rows at (x ∷ cs) c = ap (λ (ps : List ColumnPlace). placeFrom rows at x ∷ ps) (places-snoc rows (columnEnd at x) cs c)
 
 end-snoc : (at : ℕ) (cs : List TableColumn) (c : TableColumn) → columnsEnd at (cs ++ (c ∷ [])) ≡ columnEnd (columnsEnd at cs) c
 end-snoc at [] c = refl
@@ -107,7 +107,7 @@ pub record ColumnsSoFar (l : List ℕ) (rows first : ℕ) (columns : List Column
   pub front : List TableColumn
   pub few : count ≤ 16
   pub many : length front ≡ count
-  pub places : columns ≡ placesIn16 (placesFrom first front)
+  pub places : columns ≡ placesIn16 (placesFrom rows first front)
   pub ends : at ≡ columnsEnd first front
   pub same : readColumns rows 16 (drop first l) ≡ Behind front (readColumns rows (16 - count) (drop at l))
 
@@ -163,7 +163,7 @@ module _ (l : List ℕ) (rows first : ℕ) (columns : List ColumnPlace) (count a
         refuses (refused n) = refusal-from first n
         refuses (ok f) = refusal-from first 10
 
-    module _ (n : count ≡ 16 → ⊥) (r : ColumnAnswer) (g : r ≡ columnAnswer (at + 8) (readColumn rows (drop at l))) where
+    module _ (n : count ≡ 16 → ⊥) (r : ColumnAnswer) (g : r ≡ headAnswer rows (at + 5) (readColumn rows (drop at l))) where
       -- the column at the place, then those behind it
       next-is : (d : Result (Part TableColumn)) → readColumn rows (drop at l) ≡ d → readColumns rows (16 - count) (drop at l)
           ≡ (d >>= λ c. readColumns rows (16 - (count + 1)) (c .rest) >>= λ cs. ok (c .part ∷ cs))
@@ -177,21 +177,21 @@ module _ (l : List ℕ) (rows first : ℕ) (columns : List ColumnPlace) (count a
       pub columns-refused : (r .refused ≡ 0 → ⊥) → (a : TableAnswer) → a ≡ tableAnswer (refused (r .refused)) → a ≡ tableAnswerFrom first (columnsStep rows (drop first l))
       columns-refused m a u =
           u ∙ refusal-from first (r .refused)
-          ∙ ap (tableAnswerFrom first) (columns-are _ (next-is _ (answer-refused (at + 8) (readColumn rows (drop at l)) r g m .0)))
+          ∙ ap (tableAnswerFrom first) (columns-are _ (next-is _ (answer-refused rows (at + 5) (readColumn rows (drop at l)) r g m .0)))
 
       pub columns-more : r .refused ≡ 0 → ColumnsSoFar l rows first (set columns count (r .place)) (count + 1) (r .next)
       columns-more z = record {
         front = s .front ++ (c ∷ []);
         few = omega (arith, s .few, n);
         many = length-append (s .front) (c ∷ []) ∙ ap (λ (k : ℕ). k + 1) (s .many);
-        places = (λ i. set (s .places i) count (place-is i)) ∙ slots-snoc (placesFrom first (s .front)) (placeFrom (columnsEnd first (s .front)) c) count size (omega (arith, s .few, n))
-            ∙ ap placesIn16 (sym (places-snoc first (s .front) c));
+        places = (λ i. set (s .places i) count (place-is i)) ∙ slots-snoc (placesFrom rows first (s .front)) (placeFrom rows (columnsEnd first (s .front)) c) count size (omega (arith, s .few, n))
+            ∙ ap placesIn16 (sym (places-snoc rows first (s .front) c));
         ends = end-is ∙ sym (end-snoc first (s .front) c);
         same = s .same ∙ ap (Behind (s .front)) (next-is _ (found .1)) ∙ behind-one (s .front) c rest ∙ ap (λ (m : List ℕ). Behind (s .front ++ (c ∷ [])) (readColumns rows (16 - (count + 1)) m)) rest-is;
       }
         where
-          found : (x : Part TableColumn) × (readColumn rows (drop at l) ≡ ok x) × (r ≡ columnAnswer (at + 8) (ok x))
-          found = answer-found (at + 8) (readColumn rows (drop at l)) r (column-numbered rows (drop at l)) g z
+          found : (x : Part TableColumn) × (readColumn rows (drop at l) ≡ ok x) × (r ≡ headAnswer rows (at + 5) (ok x))
+          found = answer-found rows (at + 5) (readColumn rows (drop at l)) r (column-numbered rows (drop at l)) g z
 
           c : TableColumn
           c = found .0 .part
@@ -199,18 +199,18 @@ module _ (l : List ℕ) (rows first : ℕ) (columns : List ColumnPlace) (count a
           rest : Result (List TableColumn)
           rest = readColumns rows (16 - (count + 1)) (found .0 .rest)
 
-          size : length (placesFrom first (s .front)) ≡ count
-          size = length-places first (s .front) ∙ s .many
+          size : length (placesFrom rows first (s .front)) ≡ count
+          size = length-places rows first (s .front) ∙ s .many
 
-          place-is : r .place ≡ placeFrom (columnsEnd first (s .front)) c
-          place-is = ap (λ (x : ColumnAnswer). x .place) (found .2) ∙ ap (λ (k : ℕ). placeFrom k c) (s .ends)
+          place-is : r .place ≡ placeFrom rows (columnsEnd first (s .front)) c
+          place-is = ap (λ (x : ColumnAnswer). x .place) (found .2) ∙ ap (λ (k : ℕ). placeFrom rows k c) (s .ends)
 
           end-is : r .next ≡ columnEnd (columnsEnd first (s .front)) c
           end-is = ap (λ (x : ColumnAnswer). x .next) (found .2) ∙ ap (λ (k : ℕ). columnEnd k c) (s .ends)
 
           rest-is : found .0 .rest ≡ drop (r .next) l
           rest-is =
-              sym (column-stands rows l at (found .0) (column-parts rows (drop at l) (found .0) (found .1)) .behind)
+              sym (column-stands rows l at (found .0) (column-parts rows (drop at l) (found .0) (found .1) .0) .column .behind)
               ∙ ap (λ (k : ℕ). drop k l) (sym (ap (λ (x : ColumnAnswer). x .next) (found .2)))
 
 -- ---- the table

@@ -2,7 +2,7 @@
 use mathlib.Core.Bool.{Bool, true, false, cond, _||_}
 use mathlib.Core.Path.{_≡_, refl, subst}
 use mathlib.Core.List.{List, [], _∷_}
-use mathlib.Core.Option.{some}
+use mathlib.Core.Option.{Option, some, none}
 use Prim.Native.Nat.{ℕ, zero, suc, _*_, _^_, _<_, _≤_}
 use native.Mathlib.Nat.{pow-le-pow-right}
 use native.Mathlib.Omega.{arith}
@@ -10,7 +10,7 @@ use lib.Dec.{eqb}
 use lib.ListN.{length, take, drop, getElem?, length-take}
 use borrow.Author.Tests.{lt-ltb}
 use Rattle.table.proofs.TableInversions.{table-inv}
-use Rattle.layout.specs.Result.{ok}
+use Rattle.layout.specs.Result.{Result, ok, _>>=_}
 use Rattle.layout.specs.Bytes.{Bytes, byte, number, numberAt, bitmapLength}
 use Rattle.layout.specs.Field.{Field, header}
 use Rattle.layout.proofs.ResultLaws.{refused-not-ok, ok-injective, bind-ok, require-then}
@@ -21,7 +21,7 @@ use Rattle.scalar.specs.declared.types.DataType.the-variants.{Boolean, Int32, I
 use Rattle.scalar.specs.Types.{typeNumbered, markNumbered}
 use Rattle.scalar.specs.Entry.{null, ofType}
 use Rattle.table.specs.Column.{TableColumn, validIn, offsetAt, valueAt, entryAt}
-use Rattle.table.specs.Reading.{Part, neverFalls, valuesLength, noNull, columnsMost, tagged, taggedPair, readValidity, readTextOffsets, readOffsets, readValues, readBody, readParts, readColumn, readColumns, Table, readTable}
+use Rattle.table.specs.Reading.{Part, neverFalls, valuesLength, noNull, countRight, columnsMost, tagged, taggedPair, readCount, readValidity, readTextOffsets, readOffsets, readValues, readBody, readParts, readColumn, readColumns, Table, readTable}
 
 -- a number in k bytes is below 256 to the k
 pub numberAt-below : (k : ℕ) (l : List ℕ) (at : ℕ) → Bytes l → numberAt k l at < 256 ^ k
@@ -69,9 +69,27 @@ pair-bytes tag bytes f h p =
     let b = require-then (eqb (length (a .0 .content)) 2) 9 _ f (a .2) .1 in
     subst FieldBytes (ok-injective b) (tagged-bytes tag bytes (a .0) h (a .1))
 
--- the bytes behind validity bits and offsets
-abbrev RestBytes : Part (List ℕ) → Type 0
+-- what holds of a null count that is the field of tag 6, and of one that isn't written, holds of one that is read
+pub count-cases : (holds : Part (Option (List ℕ)) → Type 0) (bytes : List ℕ) (r : Part (Option (List ℕ))) → readCount bytes ≡ ok r
+    → ((f : Field) → tagged 6 bytes ≡ ok f → holds (record { part = some (f .content); rest = f .rest })) → holds (record { part = none; rest = bytes }) → holds r
+unfolding readCount
+count-cases holds bytes r p written absent = go (eqb (byte bytes 0) 6) p
+  where
+    counted : Field → Result (Part (Option (List ℕ)))
+    counted f = ok (record { part = some (f .content); rest = f .rest })
+
+    go : (t : Bool) → cond t (tagged 6 bytes >>= counted) (ok (record { part = none; rest = bytes })) ≡ ok r → holds r
+    go true e =
+        let f = bind-ok (tagged 6 bytes) counted r e in
+        subst holds (ok-injective (f .2)) (written (f .0) (f .1))
+    go false e = subst holds (ok-injective e) absent
+
+-- the bytes behind a null count, validity bits and offsets
+abbrev RestBytes : {A : Type 0} → Part A → Type 0
 RestBytes r = Bytes (r .rest)
+
+pub count-rest : (bytes : List ℕ) (r : Part (Option (List ℕ))) → Bytes bytes → readCount bytes ≡ ok r → RestBytes r
+count-rest bytes r h p = count-cases RestBytes bytes r p (λ f e. tagged-bytes 6 bytes f h e .1) h
 
 pub validity-rest : (rows : ℕ) (bytes : List ℕ) (r : Part (List ℕ)) → Bytes bytes → readValidity rows bytes ≡ ok r → RestBytes r
 unfolding readValidity
@@ -113,10 +131,11 @@ unfolding readBody
 body-bytes rows f c h p =
     let t = bind-ok (typeNumbered 11 (byte (f .content) 0)) _ c p in
     let n = bind-ok (markNumbered 11 (byte (f .content) 1)) _ c (t .2) in
-    let y = bind-ok (readValidity rows (f .rest)) _ c (n .2) in
+    let k = bind-ok (readCount (f .rest)) _ c (n .2) in
+    let y = bind-ok (readValidity rows (k .0 .rest)) _ c (k .2) in
     let o = bind-ok (readOffsets (t .0) rows (y .0 .rest)) _ c (y .2) in
     let v = bind-ok (readValues (t .0) rows (o .0 .part) (o .0 .rest)) _ c (o .2) in
-    let behind = offsets-rest (t .0) rows (y .0 .rest) (o .0) (validity-rest rows (f .rest) (y .0) h (y .1)) (o .1) in
+    let behind = offsets-rest (t .0) rows (y .0 .rest) (o .0) (validity-rest rows (k .0 .rest) (y .0) (count-rest (f .rest) (k .0) h (k .1)) (y .1)) (o .1) in
     subst ColumnBytes (ok-injective (v .2)) (values-bytes (t .0) rows (o .0 .part) (o .0 .rest) (v .0) behind (v .1))
 
 -- a column that is read, with its head
@@ -125,8 +144,9 @@ unfolding readColumn readParts
 column-bytes rows bytes c h p =
     let a = bind-ok (readParts rows bytes) _ c p in
     let b = require-then (a .0 .part .nullable || noNull (a .0 .part .validity) rows) 12 _ c (a .2) .1 in
+    let k = require-then (countRight (a .0 .part) rows) 25 _ c b .1 in
     let f = bind-ok (taggedPair 2 bytes) _ (a .0) (a .1) in
-    subst ColumnBytes (ok-injective b) (body-bytes rows (f .0) (a .0) (pair-bytes 2 bytes (f .0) h (f .1) .1) (f .2))
+    subst ColumnBytes (ok-injective k) (body-bytes rows (f .0) (a .0) (pair-bytes 2 bytes (f .0) h (f .1) .1) (f .2))
 
 -- every column's values are bytes
 abbrev AllBytes : List TableColumn → Type 0

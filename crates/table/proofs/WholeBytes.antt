@@ -3,6 +3,7 @@ use mathlib.Core.Path.{_≡_, refl, sym, ap, subst, _∙_}
 use mathlib.Core.Bool.{Bool, true, false, _||_}
 use mathlib.Core.List.{List, [], _∷_, _++_, append-assoc}
 use mathlib.Core.Logic.{_⊎_, inl, inr}
+use mathlib.Core.Option.{Option}
 use Prim.Native.Nat.{ℕ, zero, suc, _*_, _≤_}
 use native.Mathlib.Omega.{arith}
 use lib.Dec.{eqb}
@@ -19,10 +20,11 @@ use Rattle.scalar.specs.declared.types.DataType.the-variants.{Boolean, Int32, I
 use Rattle.scalar.specs.Types.{typeNumber, typeNumbered, markNumber, markNumbered}
 use Rattle.scalar.proofs.TypeLaws.{typeNumbered-ok, markNumbered-ok}
 use Rattle.table.specs.Column.{TableColumn, offsetAt}
-use Rattle.table.specs.Reading.{Part, tagged, taggedPair, readValidity, neverFalls, readTextOffsets, readOffsets, valuesLength, readValues, readBody, readParts, noNull, readColumn, readColumns, columnsMost}
-use Rattle.table.specs.TableBytes.{offsetsField, columnBytes, columnsBytes, tableBytes, TextOffsetsWithin, OffsetsWithin, PartsWithin, ColumnWithin, EachWithin, TableIsItsBytes}
+use Rattle.table.specs.Reading.{Part, tagged, taggedPair, readCount, readValidity, neverFalls, readTextOffsets, readOffsets, valuesLength, readValues, readBody, readParts, noNull, countRight, readColumn, readColumns, columnsMost}
+use Rattle.table.specs.TableBytes.{offsetsField, countField, columnBytes, columnsBytes, tableBytes, TextOffsetsWithin, OffsetsWithin, PartsWithin, ColumnWithin, EachWithin, TableIsItsBytes}
 use Rattle.table.proofs.TableInversions.{table-inv}
 use Rattle.table.proofs.StandLaws.{table-stands}
+use Rattle.table.proofs.TableTyped.{count-cases}
 
 -- ---- a field
 
@@ -59,6 +61,15 @@ two-bytes (a ∷ b ∷ []) e = refl
 two-bytes (a ∷ b ∷ c ∷ l) e = absurd (omega arith)
 
 -- ---- the parts of a column
+
+-- a null count and what is behind it
+pub record CountWhole (l : List ℕ) (p : Part (Option (List ℕ))) : Type 0 where
+  pub is : l ≡ countField (p .part) ++ p .rest
+  pub behind : Bytes (p .rest)
+
+count-whole : (l : List ℕ) (p : Part (Option (List ℕ))) → Bytes l → readCount l ≡ ok p → CountWhole l p
+count-whole l p h e =
+    count-cases (CountWhole l) l p e (λ f q. let w = tagged-whole 6 l f h q in record { is = w .is; behind = w .behind }) (record { is = refl; behind = h })
 
 -- one of two tests holds
 either-holds : (a b c : ℕ) → (eqb a b || eqb a c) ≡ true → (a ≡ b) ⊎ (a ≡ c)
@@ -111,6 +122,11 @@ values-whole t rows offsets l p h e =
 
 -- ---- a column
 
+-- bytes that begin with five lists, one behind the other
+one-behind-other : {l m n o p : List ℕ} (a b c d e rest : List ℕ) → l ≡ a ++ m → m ≡ b ++ n → n ≡ c ++ o → o ≡ d ++ p → p ≡ e ++ rest
+    → l ≡ (a ++ (b ++ (c ++ (d ++ e)))) ++ rest
+one-behind-other a b c d e rest first second third fourth fifth = rw (first, second, third, fourth, fifth) (simp append-assoc)
+
 -- a column and what is behind it
 pub record ColumnWhole (rows : ℕ) (l : List ℕ) (c : Part TableColumn) : Type 0 where
   pub is : l ≡ columnBytes (c .part) ++ c .rest
@@ -123,34 +139,37 @@ parts-whole rows l c h p =
     let f = bind-ok (taggedPair 2 l) _ c p in
     let t = bind-ok (typeNumbered 11 (byte (f .0 .content) 0)) _ c (f .2) in
     let n = bind-ok (markNumbered 11 (byte (f .0 .content) 1)) _ c (t .2) in
-    let y = bind-ok (readValidity rows (f .0 .rest)) _ c (n .2) in
+    let k = bind-ok (readCount (f .0 .rest)) _ c (n .2) in
+    let y = bind-ok (readValidity rows (k .0 .rest)) _ c (k .2) in
     let o = bind-ok (readOffsets (t .0) rows (y .0 .rest)) _ c (y .2) in
     let v = bind-ok (readValues (t .0) rows (o .0 .part) (o .0 .rest)) _ c (o .2) in
     let head = pair-whole 2 l (f .0) h (f .1) in
-    let first = validity-whole rows (f .0 .rest) (y .0) (head .0 .behind) (y .1) in
+    let count = count-whole (f .0 .rest) (k .0) (head .0 .behind) (k .1) in
+    let first = validity-whole rows (k .0 .rest) (y .0) (count .behind) (y .1) in
     let next = offsets-whole (t .0) rows (y .0 .rest) (o .0) (first .0 .behind) (o .1) in
     let last = values-whole (t .0) rows (o .0 .part) (o .0 .rest) (v .0) (next .behind) (v .1) in
     let two : f .0 .content ≡ typeNumber (t .0) ∷ markNumber (n .0) ∷ [] =
     sym (two-bytes (f .0 .content) (head .1)) ∙ (λ i. typeNumbered-ok 11 _ (t .0) (t .1) i ∷ markNumbered-ok 11 _ (n .0) (n .1) i ∷ []) in
     let a : List ℕ = fieldBytes 2 (typeNumber (t .0) ∷ markNumber (n .0) ∷ []) in
+    let q : List ℕ = countField (k .0 .part) in
     let b : List ℕ = fieldBytes 3 (y .0 .part) in
     let d : List ℕ = offsetsField (t .0) (o .0 .part) in
     let e : List ℕ = fieldBytes 4 (v .0 .part) in
-    let whole : l ≡ (a ++ (b ++ (d ++ e))) ++ v .0 .rest =
-    head .0 .is ∙ (λ i. fieldBytes 2 (two i) ++ first .0 .is i) ∙ ap (λ (m : List ℕ). a ++ (b ++ m)) (next .is ∙ ap (λ (m : List ℕ). d ++ m) (last .0 .is))
-    ∙ sym (append-assoc a (b ++ (d ++ e)) (v .0 .rest) ∙ ap (λ (m : List ℕ). a ++ m) (append-assoc b (d ++ e) (v .0 .rest) ∙ ap (λ (m : List ℕ). b ++ m) (append-assoc d e (v .0 .rest)))) in
+    let whole : l ≡ (a ++ (q ++ (b ++ (d ++ e)))) ++ v .0 .rest =
+    one-behind-other a q b d e (v .0 .rest) (head .0 .is ∙ ap (λ (m : List ℕ). fieldBytes 2 m ++ f .0 .rest) two) (count .is) (first .0 .is) (next .is) (last .0 .is) in
     subst (ColumnWhole rows l) (ok-injective (v .2))
     (record { is = whole; behind = last .0 .behind; within = record { validity = first .1; offsets = next .within; values = last .1 } })
 
 abbrev NullsWhole : ℕ → List ℕ → Part TableColumn → Type 0
-NullsWhole rows l c = ColumnWhole rows l c × ((c .part .nullable || noNull (c .part .validity) rows) ≡ true)
+NullsWhole rows l c = ColumnWhole rows l c × ((c .part .nullable || noNull (c .part .validity) rows) ≡ true) × (countRight (c .part) rows ≡ true)
 
 column-whole : (rows : ℕ) (l : List ℕ) (c : Part TableColumn) → Bytes l → readColumn rows l ≡ ok c → NullsWhole rows l c
 unfolding readColumn
 column-whole rows l c h p =
     let a = bind-ok (readParts rows l) _ c p in
     let b = require-then (a .0 .part .nullable || noNull (a .0 .part .validity) rows) 12 _ c (a .2) in
-    subst (NullsWhole rows l) (ok-injective (b .1)) (parts-whole rows l (a .0) h (a .1), b .0)
+    let k = require-then (countRight (a .0 .part) rows) 25 _ c (b .1) in
+    subst (NullsWhole rows l) (ok-injective (k .1)) (parts-whole rows l (a .0) h (a .1), b .0, k .0)
 
 -- ---- the columns
 
@@ -175,7 +194,7 @@ columns-whole rows (suc left) (b ∷ l) cs h p =
     let w = column-whole rows (b ∷ l) (a .0) h (a .1) in
     let k = columns-whole rows left (a .0 .rest) (r .0) (w .0 .behind) (r .1) in
     subst (ColumnsWhole rows (b ∷ l)) (ok-injective (r .2))
-    (w .0 .is ∙ ap (λ (m : List ℕ). columnBytes (a .0 .part) ++ m) (k .0), more-each rows (a .0 .part) (r .0) (record { parts = w .0 .within; nulls = w .1 }) (k .1))
+    (w .0 .is ∙ ap (λ (m : List ℕ). columnBytes (a .0 .part) ++ m) (k .0), more-each rows (a .0 .part) (r .0) (record { parts = w .0 .within; nulls = w .1; count = w .2 }) (k .1))
 
 -- ---- the table
 

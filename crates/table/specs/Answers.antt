@@ -1,4 +1,4 @@
--- The value of an entry at its place, and the public answer about an entry: what a table's bytes have in a column at a row.
+-- The value of an entry at its place, and the public answers about an entry and a null count: what a table's bytes have in a column.
 use mathlib.Core.Path.{_≡_}
 use mathlib.Core.Bool.{cond}
 use mathlib.Core.List.{List}
@@ -16,9 +16,11 @@ use Rattle.scalar.specs.Entry.{Outcome, entry}
 use Rattle.scalar.specs.Value.{meaning, floatValue, Storable}
 use Rattle.table.specs.declared.answer.EntryAnswer.{EntryAnswer}
 use Rattle.table.specs.declared.answer.EntryAnswer.the-variants.{Entry as AnEntry, NoColumn, NoRow, Refused}
+use Rattle.table.specs.declared.answer.NullCountAnswer.{NullCountAnswer}
+use Rattle.table.specs.declared.answer.NullCountAnswer.the-variants.{Nulls, NoColumn as NoNulls, Refused as NullsRefused}
 use Rattle.table.specs.declared.places.ColumnPlace.{ColumnPlace}
 use Rattle.table.specs.declared.places.Table.{Table as TablePlaces}
-use Rattle.table.specs.Column.{TableColumn, validIn, offsetAt, entryAt}
+use Rattle.table.specs.Column.{TableColumn, validIn, nullCount, offsetAt, entryAt}
 use Rattle.table.specs.Reading.{Table, readTable}
 use Rattle.table.specs.Places.{columnIn, tableAnswer}
 
@@ -81,6 +83,18 @@ entryOfReading bytes (ok t) column row = entryAtPlaces bytes (tableAnswer (ok t)
 -- the answer about a column and a row of a table's bytes
 unfoldable pub entryOfBytes : List ℕ → ℕ → ℕ → EntryAnswer
 entryOfBytes bytes = entryOfReading bytes (readTable bytes)
+
+-- ---- the null count of a column (02, Change 3)
+
+-- of so many rows; of no column it says so
+abbrev pub nullCountOfColumn : Option TableColumn → ℕ → NullCountAnswer
+nullCountOfColumn none rows = NoNulls
+nullCountOfColumn (some c) rows = Nulls (nullCount (c .validity) rows)
+
+-- by the reading of a table: its refusal, or that of a column
+abbrev pub nullCountOf : Result Table → ℕ → NullCountAnswer
+nullCountOf (refused n) column = NullsRefused n
+nullCountOf (ok t) column = nullCountOfColumn (getElem? (t .columns) column) (t .rows)
 
 -- ---- what an answer means
 

@@ -1,17 +1,19 @@
--- A column of a table, by its parts, and its entries (01, Bytes of a table).
+-- A column of a table, by its parts, and its entries (01, Bytes of a table; 02, Change 3).
 use mathlib.Core.Bool.{Bool, true, cond}
 use mathlib.Core.List.{List, [], _∷_}
-use Prim.Native.Nat.{ℕ, suc, _-_, _*_}
+use mathlib.Core.Option.{Option}
+use Prim.Native.Nat.{ℕ, zero, suc, _+_, _-_, _*_}
 use lib.ListN.{take, drop}
 use Rattle.layout.specs.Bytes.{numberAt, bitAt}
 use Rattle.scalar.specs.declared.types.DataType.{DataType}
 use Rattle.scalar.specs.declared.types.DataType.the-variants.{Boolean, Int32, Int64, Float64, Utf8}
 use Rattle.scalar.specs.Entry.{Entry, null, boolean, int32, int64, float64, utf8}
 
--- type and nullable mark (tag 2), validity bits (tag 3), for text offsets (tag 5), values (tag 4)
+-- type and nullable mark (tag 2), the null count where it is written (tag 6), validity bits (tag 3), for text offsets (tag 5), values (tag 4)
 pub record TableColumn : Type 0 where
   pub type : DataType
   pub nullable : Bool
+  pub nulls : Option (List ℕ)
   pub validity : List ℕ
   pub offsets : List ℕ
   pub values : List ℕ
@@ -20,6 +22,11 @@ pub record TableColumn : Type 0 where
 abbrev pub validIn : List ℕ → ℕ → Bool
 validIn [] i = true
 validIn (b ∷ bits) i = bitAt (b ∷ bits) i
+
+-- the number of nulls among the first rows (02, Change 3); spare bits don't count, and no validity means 0
+unfoldable pub nullCount : List ℕ → ℕ → ℕ
+nullCount validity zero = 0
+nullCount validity (suc n) = cond (validIn validity n) 0 1 + nullCount validity n
 
 -- offsets of four bytes
 abbrev pub offsetAt : List ℕ → ℕ → ℕ

@@ -1,6 +1,7 @@
--- Reading a table. The order of the tests is document 01's order of numbers (01, Where a call stops: 9 to 12).
-use mathlib.Core.Bool.{Bool, true, _&&_, _||_}
+-- Reading a table. The order of the tests is document 01's order of numbers (01, Where a call stops: 9 to 12; 02, Change 3: 25).
+use mathlib.Core.Bool.{Bool, true, cond, _&&_, _||_}
 use mathlib.Core.List.{List, [], _∷_}
+use mathlib.Core.Option.{Option, some, none}
 use Prim.Native.Nat.{ℕ, zero, suc, _*_}
 use lib.Dec.{eqb, leb, ltb}
 use lib.ListN.{length, drop}
@@ -10,7 +11,7 @@ use Rattle.layout.specs.Field.{Field, header}
 use Rattle.scalar.specs.declared.types.DataType.{DataType}
 use Rattle.scalar.specs.declared.types.DataType.the-variants.{Boolean, Int32, Int64, Float64, Utf8}
 use Rattle.scalar.specs.Types.{typeNumbered, markNumbered}
-use Rattle.table.specs.Column.{TableColumn, validIn, offsetAt}
+use Rattle.table.specs.Column.{TableColumn, validIn, nullCount, offsetAt}
 
 -- a part of a column, and the bytes behind it
 pub record Part (A : Type 0) : Type 0 where
@@ -30,6 +31,13 @@ taggedPair tag bytes = do
   f ← tagged tag bytes
   _ ← require (eqb (length (f .content)) 2) 9
   ok f
+
+-- tag 6 directly behind tag 2, or not at all; one that runs past the end: 9 (02, Change 3)
+unfoldable pub readCount : List ℕ → Result (Part (Option (List ℕ)))
+readCount bytes =
+    cond (eqb (byte bytes 0) 6)
+    (tagged 6 bytes >>= λ f. ok (record { part = some (f .content); rest = f .rest }))
+    (ok (record { part = none; rest = bytes }))
 
 -- tag 3: length 0 or rows / 8 rounded up, else 11
 unfoldable pub readValidity : ℕ → List ℕ → Result (Part (List ℕ))
@@ -75,15 +83,16 @@ readValues type rows offsets bytes = do
   _ ← require (eqb (length (f .content)) (valuesLength type rows offsets)) 11
   ok (record { part = f .content; rest = f .rest })
 
--- the parts of a column behind its tag 2: type and nullable (11), tag 3, tag 5, tag 4
+-- the parts of a column behind its tag 2: type and nullable (11), tag 6, tag 3, tag 5, tag 4
 unfoldable pub readBody : ℕ → Field → Result (Part TableColumn)
 readBody rows f = do
   t ← typeNumbered 11 (byte (f .content) 0)
   n ← markNumbered 11 (byte (f .content) 1)
-  validity ← readValidity rows (f .rest)
+  nulls ← readCount (f .rest)
+  validity ← readValidity rows (nulls .rest)
   offsets ← readOffsets t rows (validity .rest)
   values ← readValues t rows (offsets .part) (offsets .rest)
-  let c : TableColumn = record { type = t; nullable = n; validity = validity .part; offsets = offsets .part; values = values .part }
+  let c : TableColumn = record { type = t; nullable = n; nulls = nulls .part; validity = validity .part; offsets = offsets .part; values = values .part }
   ok (record { part = c; rest = values .rest })
 
 -- a column, whatever its nulls
@@ -97,11 +106,21 @@ unfoldable pub noNull : List ℕ → ℕ → Bool
 noNull validity zero = true
 noNull validity (suc n) = validIn validity n && noNull validity n
 
--- end of a column: null in a column that isn't nullable, 12
+-- tag 6 holds two bytes, which are the number (02, Change 3)
+abbrev pub countSays : Option (List ℕ) → ℕ → Bool
+countSays none n = true
+countSays (some content) n = eqb (length content) 2 && eqb (number content) n
+
+-- a column's null count, where it is written, is the number of nulls among its rows
+abbrev pub countRight : TableColumn → ℕ → Bool
+countRight c rows = countSays (c .nulls) (nullCount (c .validity) rows)
+
+-- end of a column: null in a column that isn't nullable, 12; then a count of another length or value, 25 (02, Change 3)
 unfoldable pub readColumn : ℕ → List ℕ → Result (Part TableColumn)
 readColumn rows bytes = do
   c ← readParts rows bytes
   _ ← require (c .part .nullable || noNull (c .part .validity) rows) 12
+  _ ← require (countRight (c .part) rows) 25
   ok c
 
 -- columns to the end of the bytes, at most so many: at one more, 9 and then 10
@@ -140,10 +159,11 @@ readTable bytes = do
   cs ← readColumns (number (f .content)) columnsMost (f .rest)
   ok (record { rows = number (f .content); columns = cs })
 
--- one column that is the whole of the bytes, as the answer is (01, Bytes of a table): above 512 rows 10, bytes behind the column 9
+-- one column that is the whole of the bytes, as the answer is (01, Bytes of a table): above 512 rows 10, at the column's end 25, bytes behind it 9
 unfoldable pub readAlone : ℕ → List ℕ → Result TableColumn
 readAlone rows bytes = do
   _ ← require (leb rows rowsMost) 10
   c ← readParts rows bytes
+  _ ← require (countRight (c .part) rows) 25
   _ ← require (eqb (length (c .rest)) 0) 9
   ok (c .part)

@@ -3,7 +3,7 @@ use mathlib.Core.Path.{_≡_}
 use mathlib.Core.Bool.{true, _||_}
 use mathlib.Core.List.{List, [], _∷_, _++_}
 use mathlib.Core.Logic.{_⊎_}
-use mathlib.Core.Option.{some}
+use mathlib.Core.Option.{Option, some, none}
 use Prim.Native.Nat.{ℕ, suc, _*_, _≤_}
 use lib.ListN.{length, getElem?}
 use Rattle.layout.specs.Result.{ok}
@@ -13,7 +13,7 @@ use Rattle.scalar.specs.declared.types.DataType.{DataType}
 use Rattle.scalar.specs.declared.types.DataType.the-variants.{Boolean, Int32, Int64, Float64, Utf8}
 use Rattle.scalar.specs.Types.{typeNumber, markNumber}
 use Rattle.table.specs.Column.{TableColumn, offsetAt}
-use Rattle.table.specs.Reading.{neverFalls, valuesLength, noNull, bytesMost, rowsMost, columnsMost, Table, readTable}
+use Rattle.table.specs.Reading.{neverFalls, valuesLength, noNull, countRight, bytesMost, rowsMost, columnsMost, Table, readTable}
 
 -- ---- the bytes
 
@@ -25,11 +25,16 @@ offsetsField Int64 offsets = []
 offsetsField Float64 offsets = []
 offsetsField Utf8 offsets = fieldBytes 5 offsets
 
--- a column's bytes: tags 2, 3, 5 for text only, 4
+-- tag 6 where the null count is written (02, Change 3)
+abbrev pub countField : Option (List ℕ) → List ℕ
+countField none = []
+countField (some content) = fieldBytes 6 content
+
+-- a column's bytes: tags 2, 6 where it is written, 3, 5 for text only, 4
 unfoldable pub columnBytes : TableColumn → List ℕ
 columnBytes c =
     fieldBytes 2 (typeNumber (c .type) ∷ markNumber (c .nullable) ∷ [])
-    ++ (fieldBytes 3 (c .validity) ++ (offsetsField (c .type) (c .offsets) ++ fieldBytes 4 (c .values)))
+    ++ (countField (c .nulls) ++ (fieldBytes 3 (c .validity) ++ (offsetsField (c .type) (c .offsets) ++ fieldBytes 4 (c .values))))
 
 -- columns, one behind the other
 unfoldable pub columnsBytes : List TableColumn → List ℕ
@@ -62,10 +67,11 @@ pub record PartsWithin (rows : ℕ) (c : TableColumn) : Type 0 where
   pub offsets : OffsetsWithin (c .type) rows (c .offsets)
   pub values : length (c .values) ≡ valuesLength (c .type) rows (c .offsets)
 
--- a column of so many rows: its parts, and it is nullable or has no null in them
+-- a column of so many rows: its parts, it is nullable or has no null in them, and its null count, where it is written, is their number
 pub record ColumnWithin (rows : ℕ) (c : TableColumn) : Type 0 where
   pub parts : PartsWithin rows c
   pub nulls : (c .nullable || noNull (c .validity) rows) ≡ true
+  pub count : countRight c rows ≡ true
 
 -- every column of so many rows is within its limits
 abbrev pub EachWithin : ℕ → List TableColumn → Type 0

@@ -1,5 +1,6 @@
 // Reading one column that is the whole of the bytes, as the answer of a run is.
 use crate::column::column_parts;
+use crate::column::count_right;
 use crate::column::no_place;
 use crate::places::PlaceAnswer;
 ghost use mathlib.Core.Path.{_≡_};
@@ -9,7 +10,7 @@ ghost use Rattle.table.specs.Places.{aloneAnswer};
 
 // A column that is refused.
 fn refuse_place(n: u8) -> PlaceAnswer
-    ensures { λ r. ⌜ r ≡ aloneAnswer (refused n) ⌝ }
+    ensures { λ r. ⌜ r ≡ aloneAnswer 0 (refused n) ⌝ }
 {
     PlaceAnswer {
         refused: n,
@@ -17,9 +18,10 @@ fn refuse_place(n: u8) -> PlaceAnswer
     }
 }
 
-// Where the parts of the one column of so many rows stand, or the number with which it is refused: above 512 rows 10, bytes behind the column 9.
+// Where the parts of the one column of so many rows stand, or the number with which it is refused: above 512 rows 10, a null count of another
+// length or value 25, bytes behind the column 9.
 pub fn read_alone(bytes: &[u8], rows: usize) -> PlaceAnswer
-    ensures { λ r. ⌜ r ≡ aloneAnswer (readAlone rows (now (bytes .entry))) ⌝ }
+    ensures { λ r. ⌜ r ≡ aloneAnswer rows (readAlone rows (now (bytes .entry))) ⌝ }
 {
     if 512 < rows {
         return refuse_place(10);
@@ -28,9 +30,12 @@ pub fn read_alone(bytes: &[u8], rows: usize) -> PlaceAnswer
     if c.refused != 0 {
         return refuse_place(c.refused);
     }
+    let place = c.place;
+    if !count_right(bytes, 0, place) {
+        return refuse_place(25);
+    }
     if c.next < bytes.len() {
         return refuse_place(9);
     }
-    let place = c.place;
     PlaceAnswer { refused: 0, place }
 }

@@ -1,12 +1,14 @@
-// A column: type and nullable mark, validity, offsets, values.
+// A column: type and nullable mark, null count, validity, offsets, values.
+use crate::nulls::count_says;
+use crate::nulls::null_count;
 use crate::part::PartAnswer;
+use crate::part::count_part;
 use crate::part::offsets_part;
 use crate::part::tagged_pair;
 use crate::part::validity_part;
 use crate::part::values_length;
 use crate::part::values_part;
 use crate::places::ColumnPlace;
-use layout::bits::bit_at;
 use layout::number::byte_at;
 use layout::part::part_of;
 use scalar::types::DataType;
@@ -17,8 +19,8 @@ ghost use Prim.Native.Nat.{_+_, _≤_};
 ghost use lib.ListN.{length, drop};
 ghost use Rattle.layout.specs.Bytes.{part};
 ghost use Rattle.table.specs.Places.{Inside, noPlace, offsetsStart};
-ghost use Rattle.table.specs.Reading.{noNull, readParts, readColumn};
-ghost use Rattle.table.specs.Parts.{refusedColumn, columnAnswer, valuesStep, offsetsStep, validityStep, headStep};
+ghost use Rattle.table.specs.Reading.{readParts, readColumn};
+ghost use Rattle.table.specs.Parts.{refusedColumn, columnAnswer, headAnswer, CountedAs, valuesStep, offsetsStep, validityStep, countStep, headStep, placeNullsFit, placeCountRight, endNumber};
 
 // The places of a column and where the bytes behind it start, or the number with which the table is refused (0: none).
 pub(crate) struct ColumnAnswer {
@@ -34,6 +36,8 @@ pub(crate) fn no_place() -> ColumnPlace
     ColumnPlace {
         data_type: DataType::Boolean,
         nullable: false,
+        counted: false,
+        null_count: 0,
         validity_start: 0,
         validity_end: 0,
         offsets_start: 0,
@@ -59,6 +63,7 @@ fn with_offsets(
     bytes: &[u8],
     kind: DataType,
     nullable: bool,
+    counted: bool,
     vs: usize,
     ve: usize,
     os: usize,
@@ -66,7 +71,7 @@ fn with_offsets(
     rows: usize,
 ) -> ColumnAnswer
     requires { ⌜ (rows ≤ 512) × Inside (length (now bytes)) vs ve × Inside (length (now bytes)) os oe × (os ≡ offsetsStart kind ve) ⌝ }
-    ensures { λ r. ⌜ r ≡ columnAnswer vs (valuesStep kind nullable (part (now (bytes .entry)) vs ve) (part (now (bytes .entry)) os oe) rows (drop oe (now (bytes .entry)))) ⌝ }
+    ensures { λ r. ⌜ CountedAs counted (λ nulls. r ≡ columnAnswer rows vs (valuesStep kind nullable nulls (part (now (bytes .entry)) vs ve) (part (now (bytes .entry)) os oe) rows (drop oe (now (bytes .entry))))) ⌝ }
 {
     let size = values_length(kind, rows, &bytes[os..oe]);
     match values_part(bytes, oe, size) {
@@ -76,6 +81,8 @@ fn with_offsets(
             place: ColumnPlace {
                 data_type: kind,
                 nullable,
+                counted,
+                null_count: null_count(&bytes[vs..ve], rows) as u16,
                 validity_start: vs,
                 validity_end: ve,
                 offsets_start: os,
@@ -93,34 +100,71 @@ fn with_validity(
     bytes: &[u8],
     kind: DataType,
     nullable: bool,
+    counted: bool,
     vs: usize,
     ve: usize,
     rows: usize,
 ) -> ColumnAnswer
     requires { ⌜ (rows ≤ 512) × Inside (length (now bytes)) vs ve ⌝ }
-    ensures { λ r. ⌜ r ≡ columnAnswer vs (offsetsStep kind nullable (part (now (bytes .entry)) vs ve) rows (drop ve (now (bytes .entry)))) ⌝ }
+    ensures { λ r. ⌜ CountedAs counted (λ nulls. r ≡ columnAnswer rows vs (offsetsStep kind nullable nulls (part (now (bytes .entry)) vs ve) rows (drop ve (now (bytes .entry))))) ⌝ }
 {
     match offsets_part(bytes, ve, kind, rows) {
         PartAnswer::Refused(n) => refuse(n),
-        PartAnswer::At(begin, end) => with_offsets(bytes, kind, nullable, vs, ve, begin, end, rows),
+        PartAnswer::At(begin, end) => with_offsets(
+            bytes,
+            kind,
+            nullable,
+            counted,
+            vs,
+            ve,
+            begin,
+            end,
+            rows,
+        ),
     }
 }
 
-// The parts behind the type and the nullable mark.
-fn with_type(bytes: &[u8], kind: DataType, nullable: bool, at: usize, rows: usize) -> ColumnAnswer
+// The parts behind the null count.
+fn with_count(
+    bytes: &[u8],
+    kind: DataType,
+    nullable: bool,
+    counted: bool,
+    at: usize,
+    rows: usize,
+) -> ColumnAnswer
     requires { ⌜ rows ≤ 512 ⌝ }
-    ensures { λ r. ⌜ r ≡ columnAnswer (at + 3) (validityStep kind nullable rows (drop at (now (bytes .entry)))) ⌝ }
+    ensures { λ r. ⌜ CountedAs counted (λ nulls. r ≡ columnAnswer rows (at + 3) (validityStep kind nullable nulls rows (drop at (now (bytes .entry))))) ⌝ }
 {
     match validity_part(bytes, at, rows) {
         PartAnswer::Refused(n) => refuse(n),
-        PartAnswer::At(begin, end) => with_validity(bytes, kind, nullable, begin, end, rows),
+        PartAnswer::At(begin, end) => with_validity(
+            bytes,
+            kind,
+            nullable,
+            counted,
+            begin,
+            end,
+            rows,
+        ),
+    }
+}
+
+// The null count, if it is written, and the parts behind it.
+fn with_type(bytes: &[u8], kind: DataType, nullable: bool, at: usize, rows: usize) -> ColumnAnswer
+    requires { ⌜ rows ≤ 512 ⌝ }
+    ensures { λ r. ⌜ r ≡ headAnswer rows at (countStep kind nullable rows (drop at (now (bytes .entry)))) ⌝ }
+{
+    match count_part(bytes, at) {
+        PartAnswer::Refused(n) => refuse(n),
+        PartAnswer::At(begin, end) => with_count(bytes, kind, nullable, begin != at, end, rows),
     }
 }
 
 // The type and the nullable mark (11), and the parts behind them.
 fn with_head(bytes: &[u8], kind: u8, mark: u8, at: usize, rows: usize) -> ColumnAnswer
     requires { ⌜ rows ≤ 512 ⌝ }
-    ensures { λ r. ⌜ r ≡ columnAnswer (at + 3) (headStep kind mark rows (drop at (now (bytes .entry)))) ⌝ }
+    ensures { λ r. ⌜ r ≡ headAnswer rows at (headStep kind mark rows (drop at (now (bytes .entry)))) ⌝ }
 {
     match type_numbered(kind) {
         TypeAnswer::Unknown => refuse(11),
@@ -136,7 +180,7 @@ fn with_head(bytes: &[u8], kind: u8, mark: u8, at: usize, rows: usize) -> Column
 // A column, whatever its nulls.
 pub(crate) fn column_parts(bytes: &[u8], at: usize, rows: usize) -> ColumnAnswer
     requires { ⌜ rows ≤ 512 ⌝ }
-    ensures { λ r. ⌜ r ≡ columnAnswer (at + 8) (readParts rows (drop at (now (bytes .entry)))) ⌝ }
+    ensures { λ r. ⌜ r ≡ headAnswer rows (at + 5) (readParts rows (drop at (now (bytes .entry)))) ⌝ }
 {
     match tagged_pair(bytes, at, 2) {
         PartAnswer::Refused(n) => refuse(n),
@@ -147,40 +191,57 @@ pub(crate) fn column_parts(bytes: &[u8], at: usize, rows: usize) -> ColumnAnswer
     }
 }
 
-// Whether none of the first rows is null.
-pub(crate) fn no_null(validity: &[u8], rows: usize) -> bool
-    ensures { λ r. ⌜ r ≡ noNull (now (validity .entry)) rows ⌝ }
+// Whether a column is nullable or has no null.
+fn nulls_fit(place: ColumnPlace) -> bool
+    ensures { λ r. ⌜ r ≡ placeNullsFit place ⌝ }
 {
-    if validity.len() == 0 {
+    if place.nullable {
         return true;
     }
-    let mut i = rows;
-    while 0 < i {
-        i -= 1;
-        if !bit_at(validity, i) {
-            return false;
-        }
-    }
-    true
+    place.null_count == 0
 }
 
-// A column: a null in one that isn't nullable is 12.
+// Whether the null count of a column that starts at a place is the number of its nulls, or isn't written.
+pub(crate) fn count_right(bytes: &[u8], at: usize, place: ColumnPlace) -> bool
+    requires { ⌜ at + 8 ≤ length (now bytes) ⌝ }
+    ensures { λ r. ⌜ r ≡ placeCountRight (now (bytes .entry)) at place ⌝ }
+{
+    if !place.counted {
+        return true;
+    }
+    let start = place.validity_start;
+    if start < 3 {
+        return false;
+    }
+    count_says(part_of(bytes, at + 8, start - 3), place.null_count as usize)
+}
+
+// The number with which a column is refused at its end, or 0: 12 comes before 25.
+fn end_number(fits: bool, right: bool) -> u8
+    ensures { λ r. ⌜ r ≡ endNumber fits right ⌝ }
+{
+    if !fits {
+        return 12;
+    }
+    if !right {
+        return 25;
+    }
+    0
+}
+
+// A column: a null in one that isn't nullable is 12, then a null count of another length or value 25.
 pub(crate) fn column_at(bytes: &[u8], at: usize, rows: usize) -> ColumnAnswer
     requires { ⌜ rows ≤ 512 ⌝ }
-    ensures { λ r. ⌜ r ≡ columnAnswer (at + 8) (readColumn rows (drop at (now (bytes .entry)))) ⌝ }
+    ensures { λ r. ⌜ r ≡ headAnswer rows (at + 5) (readColumn rows (drop at (now (bytes .entry)))) ⌝ }
 {
     let c = column_parts(bytes, at, rows);
     if c.refused != 0 {
         return c;
     }
     let place = c.place;
-    if place.nullable {
-        return c;
+    let n = end_number(nulls_fit(place), count_right(bytes, at, place));
+    if n != 0 {
+        return refuse(n);
     }
-    let start = place.validity_start;
-    let end = place.validity_end;
-    if no_null(part_of(bytes, start, end), rows) {
-        return c;
-    }
-    refuse(12)
+    c
 }

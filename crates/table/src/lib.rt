@@ -3,6 +3,7 @@ pub mod alone;
 pub mod answer;
 pub mod column;
 pub mod entry;
+pub mod nulls;
 pub mod part;
 pub mod places;
 pub mod read;

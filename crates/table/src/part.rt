@@ -2,13 +2,15 @@
 use layout::bits::bitmap_length;
 use layout::field::Header;
 use layout::field::field_at;
+use layout::number::byte_at;
 use layout::number::read_u32;
 use scalar::types::DataType;
 ghost use mathlib.Core.Path.{_≡_};
 ghost use lib.ListN.{length, drop};
-ghost use Prim.Native.Nat.{suc, _*_, _≤_};
-ghost use Rattle.table.specs.Reading.{neverFalls, tagged, taggedPair, readValidity, readTextOffsets, readOffsets, valuesLength};
-ghost use Rattle.table.specs.Parts.{FieldGives, PartGives, valuesOfLength};
+ghost use Prim.Native.Nat.{suc, _+_, _*_, _≤_};
+ghost use Rattle.layout.specs.Bytes.{numberAt};
+ghost use Rattle.table.specs.Reading.{neverFalls, tagged, taggedPair, readCount, readValidity, readTextOffsets, readOffsets, valuesLength};
+ghost use Rattle.table.specs.Parts.{FieldGives, PartGives, CountGives, valuesOfLength};
 
 // Where a part's content starts and ends, or the number with which the table is refused.
 pub(crate) enum PartAnswer {
@@ -44,6 +46,19 @@ pub(crate) fn tagged_pair(bytes: &[u8], at: usize, tag: u8) -> PartAnswer
     }
 }
 
+// The tag of the null count.
+const NULL_COUNT: u8 = 6;
+
+// Tag 6, or where it isn't written the empty part at the place itself; cut: 9.
+pub(crate) fn count_part(bytes: &[u8], at: usize) -> PartAnswer
+    ensures { λ r. ⌜ CountGives (now (bytes .entry)) at (readCount (drop at (now (bytes .entry)))) r ⌝ }
+{
+    if byte_at(bytes, at) != NULL_COUNT {
+        return PartAnswer::At(at, at);
+    }
+    tagged_field(bytes, at, NULL_COUNT)
+}
+
 // Tag 3: nothing, or a bit for each row; else 11.
 pub(crate) fn validity_part(bytes: &[u8], at: usize, rows: usize) -> PartAnswer
     ensures { λ r. ⌜ PartGives (now (bytes .entry)) (readValidity rows (drop at (now (bytes .entry)))) r ⌝ }
@@ -64,17 +79,26 @@ pub(crate) fn validity_part(bytes: &[u8], at: usize, rows: usize) -> PartAnswer
     }
 }
 
+// The offset at a place where its four bytes are.
+fn offset_at(offsets: &[u8], at: usize) -> u32
+    requires { ⌜ at + 4 ≤ length (now offsets) ⌝ }
+    ensures { λ r. ⌜ r ≡ numberAt 4 (now (offsets .entry)) at ⌝ }
+{
+    let end = at + 4;
+    read_u32(&offsets[at..end], 0)
+}
+
 // Whether so many offsets, from the first on, never fall.
 pub(crate) fn never_falls(offsets: &[u8], count: usize) -> bool
     requires { ⌜ 4 * suc count ≤ length (now offsets) ⌝ }
     ensures { λ r. ⌜ r ≡ neverFalls count (now (offsets .entry)) ⌝ }
 {
-    let mut last = read_u32(offsets, 0);
+    let mut last = offset_at(offsets, 0);
     let mut at = 0;
     let mut i = 0;
     while i < count {
         at += 4;
-        let next = read_u32(offsets, at);
+        let next = offset_at(offsets, at);
         if next < last {
             return false;
         }

@@ -1,10 +1,13 @@
 // Where the parts of a table stand in its bytes.
 use scalar::types::DataType;
 
-// A column: its type, its nullable mark, and where its validity, its offsets and its values start and end.
+// A column: its type, its nullable mark, whether its null count is written, how many of its rows are null, and where its validity, its offsets
+// and its values start and end.
 pub struct ColumnPlace {
     pub data_type: DataType,
     pub nullable: bool,
+    pub counted: bool,
+    pub null_count: u16,
     pub validity_start: usize,
     pub validity_end: usize,
     pub offsets_start: usize,

@@ -1,11 +1,11 @@
-// The validity, the offsets and the values of a column, as parts of the table's bytes.
+// The validity, the offsets and the values of a column, as parts of the table's bytes, and its null count.
 use crate::column::no_place;
 use crate::places::ColumnPlace;
 use crate::places::Table;
 use layout::part::part_of;
 ghost use mathlib.Core.Path.{_≡_};
 ghost use lib.ListN.{getD, take};
-ghost use Rattle.table.specs.Places.{noPlace, partIn};
+ghost use Rattle.table.specs.Places.{noPlace, partIn, nullCountIn};
 
 // The place of a column; of no column, no place.
 pub(crate) fn place_of(t: Table, column: usize) -> ColumnPlace
@@ -43,4 +43,12 @@ pub fn values(bytes: &[u8], t: Table, column: usize) -> &[u8]
 {
     let place = place_of(t, column);
     part_of(bytes, place.values_start, place.values_end)
+}
+
+// How many rows of a column are null; 0 where there is no such column.
+pub fn null_count_in(t: Table, column: usize) -> usize
+    ensures { λ r. ⌜ r ≡ nullCountIn t column ⌝ }
+{
+    let place = place_of(t, column);
+    place.null_count as usize
 }

@@ -3,7 +3,7 @@ use mathlib.Core.Path.{sym, _∙_}
 use denote.Ref.{now}
 use borrow.Author.Needs.{needs}
 use Rattle.table.proofs.EntryLaws.{valid-none}
-use Rattle.table.proofs.ColumnLaws.{valid-bit}
+use Rattle.table.proofs.NullLaws.{valid-bit}
 use Rattle.table.proofs.entry.valid_at.Statement.{statement}
 use Rattle.table.proofs.entry.valid_at.Tie as tie
 

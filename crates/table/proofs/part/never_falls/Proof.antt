@@ -18,12 +18,12 @@ never-falls-spec =
     (tie.spec
     Inv-loop
     μ-loop
-    (λ c κs. tt)
-    (λ c. falls-none (now (c .before .before .args .offsets)) (c .before .before .args .count) _ (c .read-u32 .ensures))
+    (λ c κs. omega (arith, c .before .pre))
+    (λ c. falls-none (now (c .before .before .args .offsets)) (c .before .before .args .count) _ (c .offset-at .ensures))
     (λ c. omega (arith, c .before .loop .inv .place, c .before .loop .inv .few))
-    (λ c κs. tt)
-    (λ c. falls-found (now (c .before .before .before .before .before .before .args .offsets)) (c .before .before .before .before .before .before .args .count) (c .before .before .before .loop .last) (c .before .before .before .loop .at) (c .before .before .before .loop .i) (c .before .read-u322 .result) (c .before .before .before .loop .inv) (omega arith) (c .before .read-u322 .ensures) (omega arith))
+    (λ c κs. omega (arith, c .before .loop .inv .place, c .before .loop .inv .few, c .before .before .before .before .pre))
+    (λ c. falls-found (now (c .before .before .before .before .before .before .args .offsets)) (c .before .before .before .before .before .before .args .count) (c .before .before .before .loop .last) (c .before .before .before .loop .at) (c .before .before .before .loop .i) (c .before .offset-at2 .result) (c .before .before .before .loop .inv) (omega arith) (c .before .offset-at2 .ensures) (omega arith))
     (λ c. omega arith)
     (λ c. omega arith)
-    (λ c. falls-more (now (c .before .before .before .before .before .before .args .offsets)) (c .before .before .before .before .before .before .args .count) (c .before .before .before .loop .last) (c .before .before .before .loop .at) (c .before .before .before .loop .i) (c .before .read-u322 .result) (c .before .before .before .loop .inv) (omega arith) (c .before .read-u322 .ensures) (omega arith))
+    (λ c. falls-more (now (c .before .before .before .before .before .before .args .offsets)) (c .before .before .before .before .before .before .args .count) (c .before .before .before .loop .last) (c .before .before .before .loop .at) (c .before .before .before .loop .i) (c .before .offset-at2 .result) (c .before .before .before .loop .inv) (omega arith) (c .before .offset-at2 .ensures) (omega arith))
     (λ c. falls-all (now (c .before .before .before .before .args .offsets)) (c .before .before .before .before .args .count) (c .before .loop .last) (c .before .loop .at) (c .before .loop .i) (c .before .loop .inv) (omega arith)))
