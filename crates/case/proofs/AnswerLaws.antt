@@ -6,25 +6,27 @@ use mathlib.Core.Logic.{_⊎_, inl, inr}
 use Prim.Native.Nat.{ℕ, zero, suc, _+_, _-_, _*_, _^_, _<_, _≤_}
 use native.Mathlib.Nat.{mul-zero, one-le-pow}
 use native.Mathlib.Omega.{arith}
-use borrow.Author.Tests.{ltb-true, le-leb}
+use borrow.Author.Tests.{eq-eqb, ltb-true, le-leb}
 use lib.Dec.{ltb, leb}
 use lib.ListN.{length, getD, take, drop, length-append, length-map, List·getD-map}
 use lib.Seq.{take-length, take-at, drop-at, drop-drop, drop-append-add}
 use Rattle.layout.specs.Result.{Result, ok, _>>=_, require}
-use Rattle.layout.specs.Bytes.{numberAt, numberBytes, bitAt, bitmapLength, bitmap}
+use Rattle.layout.specs.Bytes.{number, numberAt, numberBytes, bitAt, bitmapLength, bitmap}
 use Rattle.layout.specs.Field.{fieldBytes}
 use Rattle.layout.proofs.ResultLaws.{refused-not-ok, ok-injective}
 use Rattle.layout.proofs.BytesLaws.{length-numberBytes, number-numberBytes}
+use Rattle.layout.proofs.FieldLaws.{length-field}
 use Rattle.layout.proofs.BitLaws.{bit-of-bitmap, length-bitmap}
 use Rattle.scalar.specs.declared.types.DataType.{DataType}
 use Rattle.scalar.specs.declared.types.DataType.the-variants.{Boolean, Int32, Int64, Float64, Utf8}
+use Rattle.scalar.specs.Types.{typeNumber, markNumber}
 use Rattle.scalar.specs.Entry.{Entry, null, boolean, int32, int64, float64, utf8, isNull, isTrue, ofType}
-use Rattle.table.specs.Column.{TableColumn, validIn, offsetAt, textBetween, valueAt, entryAt}
-use Rattle.table.specs.Reading.{neverFalls, valuesLength, readParts, noNull, readColumn, readColumns, Table, bytesMost, rowsMost, readTable}
-use Rattle.table.specs.TableBytes.{columnBytes, OffsetsWithin}
+use Rattle.table.specs.Column.{TableColumn, validIn, nullCount, offsetAt, textBetween, valueAt, entryAt}
+use Rattle.table.specs.Reading.{neverFalls, valuesLength, readParts, noNull, countRight, readColumn, readColumns, Table, bytesMost, rowsMost, readTable}
+use Rattle.table.specs.TableBytes.{offsetsField, columnBytes, OffsetsWithin}
 use Rattle.table.proofs.ReadLaws.{columns-next}
 use Rattle.table.proofs.ReadBack.{pair-back, parts-back}
-use Rattle.writer.specs.Answer.{someNull, validityOf, numberIn, textIn, numbersOf, textsOf, offsetsFrom, offsetsOf, valuesOf, columnOf, textLength}
+use Rattle.writer.specs.Answer.{someNull, nullEntries, countOf, validityOf, numberIn, textIn, numbersOf, textsOf, offsetsFrom, offsetsOf, valuesOf, columnOf, textLength}
 
 -- numbers of k bytes, one behind the other
 abbrev packed : ℕ → List ℕ → List ℕ
@@ -285,12 +287,72 @@ values-short Int64 es h k = let l = length-values Int64 es k in omega arith
 values-short Float64 es h k = let l = length-values Float64 es k in omega arith
 values-short Utf8 es h k = omega arith
 
+-- ---- the null count
+
+-- a row more
+nulls-take : (es : List Entry) (n : ℕ) → n < length es → nullEntries (take (suc n) es) ≡ cond (isNull (getD es n null)) 1 0 + nullEntries (take n es)
+unfolding nullEntries
+nulls-take [] n h = absurd (omega arith)
+nulls-take (e ∷ es) zero h = refl
+nulls-take (e ∷ es) (suc n) h = omega (arith, nulls-take es n (omega arith))
+
+-- a count of the null rows of a column's entries, a row after the other, is that of the entries
+pub count-entries : (es : List Entry) (c : ℕ → ℕ) → c 0 ≡ 0 → ((n : ℕ) → n < length es → c (suc n) ≡ cond (isNull (getD es n null)) 1 0 + c n)
+    → c (length es) ≡ nullEntries es
+unfolding nullEntries
+count-entries es c first next = up-to (length es) (omega arith) ∙ ap nullEntries (take-length es)
+  where
+    up-to : (n : ℕ) → n ≤ length es → c n ≡ nullEntries (take n es)
+    up-to zero h = first
+    up-to (suc n) h = next n h ∙ ap (λ (x : ℕ). cond (isNull (getD es n null)) 1 0 + x) (up-to n (omega arith)) ∙ sym (nulls-take es n h)
+
+-- the validity has as many nulls as the entries
+pub count-back : (es : List Entry) → nullCount (validityOf es) (length es) ≡ nullEntries es
+unfolding nullCount
+count-back es = count-entries es (nullCount (validityOf es)) refl next
+  where
+    flip : (b : Bool) → _≡_ {A = ℕ} (cond (not b) 0 1) (cond b 1 0)
+    flip true = refl
+    flip false = refl
+
+    next : (n : ℕ) → n < length es → nullCount (validityOf es) (suc n) ≡ cond (isNull (getD es n null)) 1 0 + nullCount (validityOf es) n
+    next n h = ap (λ (x : ℕ). x + nullCount (validityOf es) n) (ap (λ (b : Bool). cond b 0 1) (valid-at es n h) ∙ flip (isNull (getD es n null)))
+
+-- no more entries are null than there are
+pub nulls-most : (es : List Entry) → nullEntries es ≤ length es
+unfolding nullEntries
+nulls-most [] = omega arith
+nulls-most (e ∷ es) = go (isNull e) (nulls-most es)
+  where
+    go : (b : Bool) → nullEntries es ≤ length es → cond b 1 0 + nullEntries es ≤ suc (length es)
+    go true h = omega arith
+    go false h = omega arith
+
+-- the answer's null count is right
+pub count-right : (t : DataType) (n : Bool) (es : List Entry) → length es ≤ 512 → countRight (columnOf t n es) (length es) ≡ true
+count-right t n es h =
+    let few = nulls-most es in
+    let same : number (countOf es) ≡ nullCount (validityOf es) (length es) = number-numberBytes 2 (nullEntries es) (omega arith) ∙ sym (count-back es) in
+    simp (eq-eqb _ _ (length-numberBytes 2 (nullEntries es)), eq-eqb _ _ same)
+
+-- ---- reading back
+
 -- the answer's bytes are read as its column
 pub column-back : (t : DataType) (n : Bool) (es : List Entry) (rest : List ℕ) → length es ≤ 512 → textLength es ≤ 65535
     → readParts (length es) (columnBytes (columnOf t n es) ++ rest) ≡ ok (record { part = columnOf t n es; rest = rest })
 column-back t n es rest h k =
-    parts-back (length es) (columnOf t n es) rest h (values-short t es h k)
+    parts-back (length es) (columnOf t n es) rest h (values-short t es h k) (omega (arith, length-numberBytes 2 (nullEntries es)))
     (record { validity = length-validity es; offsets = offsets-within t es k; values = length-values t es k })
+
+-- its null count stands in the five bytes behind tag 2
+pub count-stands : (t : DataType) (n : Bool) (es : List Entry) → take 5 (drop 5 (columnBytes (columnOf t n es))) ≡ fieldBytes 6 (countOf es)
+unfolding columnBytes
+count-stands t n es =
+    let head : List ℕ = fieldBytes 2 (typeNumber t ∷ markNumber n ∷ []) in
+    let rest : List ℕ = fieldBytes 3 (validityOf es) ++ (offsetsField t (offsetsOf t es) ++ fieldBytes 4 (valuesOf t es)) in
+    let five : length head ≡ 5 = length-field 2 (typeNumber t ∷ markNumber n ∷ []) in
+    let size : length (fieldBytes 6 (countOf es)) ≡ 5 = omega (arith, length-field 6 (countOf es), length-numberBytes 2 (nullEntries es)) in
+    ap (take 5) (drop-at head (fieldBytes 6 (countOf es) ++ rest) 5 five) ∙ take-at (fieldBytes 6 (countOf es)) rest 5 size
 
 -- a column has bytes
 some-bytes : (c : TableColumn) → 0 < length (columnBytes c)
@@ -318,7 +380,7 @@ module _ (t : DataType) (n : Bool) (es : List Entry) (h : length es ≤ 512) (k 
   unfolding readColumn readColumns
   one-column =
       columns-next (length es) 15 (columnBytes (columnOf t n es)) (some-bytes (columnOf t n es))
-      ∙ rw (rw append-nil at (column-back t n es [] h k)) (required-then nullsAllowed 12 (record { part = columnOf t n es; rest = [] }) _)
+      ∙ rw (rw append-nil at (column-back t n es [] h k), count-right t n es h) (required-then nullsAllowed 12 (record { part = columnOf t n es; rest = [] }) _)
 
   -- the answer's bytes behind a row count
   abbrev tableBytes : List ℕ

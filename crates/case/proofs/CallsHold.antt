@@ -8,9 +8,9 @@ use Rattle.layout.specs.Result.{Result, ok}
 use Rattle.writer.specs.declared.RunAnswer.the-variants.{Answered}
 use Rattle.writer.specs.Written.{runAnswer, outputAfter}
 use Rattle.case.specs.Promise.{callRun}
-use Rattle.case.specs.Demands.{Holds, CallsAgree, CallFailsExactly}
+use Rattle.case.specs.Demands.{Holds, Counts, nullRows, CallsAgree, CallCounts, CallFailsExactly}
 use Rattle.case.proofs.RunLaws.{answered-run, refused-run}
-use Rattle.case.proofs.DemandsHold.{entry-follows-path, fails-exactly}
+use Rattle.case.proofs.DemandsHold.{entry-follows-path, answer-counts, fails-exactly}
 
 -- what a call that answers has at the front of its output
 front : (r : Result (List ℕ)) (output o : List ℕ) (n : ℕ) → Answered n ≡ runAnswer r → o ≡ outputAfter r output → (answer : List ℕ) × (r ≡ ok answer) × (take n o ≡ answer)
@@ -26,6 +26,11 @@ calls-agree rule table table′ e t t′ i i′ work output w o work′ output�
     let (answer′, r′, p′) = front (callRun rule table′ work′ output′) output′ o′ n′ (g′ .says) (g′ .output-is) in
     let (v, is, x, y) = entry-follows-path rule table table′ e t t′ i i′ (length work) (length output) (length work′) (length output′) answer answer′ b b′ r r′ h h′ same in
     (v, is, subst (λ (l : List ℕ). Holds e l (t .rows) i v) (sym p) x, subst (λ (l : List ℕ). Holds e l (t′ .rows) i′ v) (sym p′) y)
+
+pub call-counts : CallCounts
+call-counts rule table e t work output w o n b g =
+    let (answer, r, p) = front (callRun rule table work output) output o n (g .says) (g .output-is) in
+    subst (λ (l : List ℕ). Counts l (t .rows) (nullRows e t (t .rows))) (sym p) (answer-counts rule table e t (length work) (length output) answer b r)
 
 pub call-fails-exactly : CallFailsExactly
 call-fails-exactly rule table e t work output w o r p q f h g =

@@ -1,12 +1,14 @@
 -- What must hold of the definitions, proved. Assumes nothing.
 use mathlib.Core.Path.{_≡_, refl, sym, ap, subst, _∙_}
-use mathlib.Core.Bool.{true, false≢true}
+use mathlib.Core.Bool.{true, cond, false≢true}
 use mathlib.Core.List.{List, [], _++_, append-nil}
 use Prim.Native.Nat.{ℕ, _+_, _<_, _≤_}
 use native.Mathlib.Decide.{decLt}
 use native.Mathlib.Omega.{arith}
-use lib.ListN.{length, getD, List·getD-eq-default, getElem?}
+use lib.ListN.{length, getD, take, drop, List·getD-eq-default, getElem?}
+use borrow.Author.Tests.{le-leb}
 use Rattle.layout.specs.Result.{ok}
+use Rattle.layout.specs.Bytes.{numberBytes}
 use Rattle.scalar.specs.declared.types.DataType.{DataType}
 use Rattle.scalar.specs.Entry.{Entry, null, Outcome, entry, unfit, ofType, outcomeOfType}
 use Rattle.scalar.specs.Cast.{isUnfit}
@@ -22,16 +24,16 @@ use Rattle.rule.proofs.ReadBytes.{rule-bytes}
 use Rattle.rule.proofs.ReadBack.{rule-reads-back, rule-is-allowed}
 use Rattle.table.proofs.ReadBack.{table-reads-back}
 use Rattle.table.proofs.WholeBytes.{table-is-its-bytes}
-use Rattle.table.specs.Column.{TableColumn, entryAt}
-use Rattle.table.specs.Reading.{readParts, Table, readTable}
+use Rattle.table.specs.Column.{TableColumn, nullCount, entryAt}
+use Rattle.table.specs.Reading.{readParts, Table, readTable, readAlone}
 use Rattle.table.proofs.TableInversions.{table-few}
 use Rattle.table.specs.TableBytes.{columnBytes}
-use Rattle.writer.specs.Answer.{columnOf}
+use Rattle.writer.specs.Answer.{nullEntries, validityOf, columnOf}
 use Rattle.case.specs.Fits.{entryIn, rowOf}
 use Rattle.case.specs.Run.{answerBytes}
-use Rattle.case.specs.Demands.{Holds, BothRead, RuleIsItsTree, ReadExactly, OutcomeOfResultType, EntryIsOneRow, EntryFollowsPath, FailsExactly, AnswerReadsBack, behindCount, entryOf, WorkedOutExactly}
+use Rattle.case.specs.Demands.{Holds, BothRead, RuleIsItsTree, ReadExactly, OutcomeOfResultType, EntryIsOneRow, EntryFollowsPath, FailsExactly, AnswerReadsBack, behindCount, entryOf, nullOutcome, nullRows, Counts, AnswerCounts, WorkedOutExactly}
 use Rattle.case.proofs.RunLaws.{Answered, run-answered, entries-length, entries-at, run-is, run-15, run-unfit}
-use Rattle.case.proofs.AnswerLaws.{AllOfType, entry-back, column-back, answer-table}
+use Rattle.case.proofs.AnswerLaws.{AllOfType, entry-back, count-entries, count-back, count-right, count-stands, column-back, answer-table}
 use Rattle.case.proofs.RowsTyped.{run-sound}
 
 pub rule-is-its-tree : RuleIsItsTree
@@ -80,21 +82,44 @@ module _ (rule table : List ℕ) (e : Expr) (t : Table) (work output : ℕ) (ans
   column-has : (i : ℕ) → i < t .rows → entryAt (columnOf (typeOf e) (nullable e) es) i ≡ getD es i null
   column-has i h = entry-back (typeOf e) (nullable e) es all-typed (omega (arith, a .text)) i (rw as-many h)
 
+  -- it is read from the answer's bytes
+  answer-read : readParts (length es) answer ≡ ok (record { part = columnOf (typeOf e) (nullable e) es; rest = [] })
+  answer-read =
+      let whole : columnBytes (columnOf (typeOf e) (nullable e) es) ++ [] ≡ answer = append-nil _ ∙ sym (a .bytes) in
+      ap (λ (l : List ℕ). readParts (length es) l) (sym whole) ∙ column-back (typeOf e) (nullable e) es [] few (a .text)
+
   answer-holds : (i : ℕ) → i < t .rows → Holds e answer (t .rows) i (getD es i null)
   answer-holds i h = record {
     column = columnOf (typeOf e) (nullable e) es;
-    reads = read;
+    reads = ap (λ (n : ℕ). readParts n answer) (sym as-many) ∙ answer-read;
     type-is = refl;
     mark-is = refl;
     has = column-has i h;
   }
-    where
-      read : readParts (t .rows) answer ≡ ok (record { part = columnOf (typeOf e) (nullable e) es; rest = [] })
-      read =
-          let whole : columnBytes (columnOf (typeOf e) (nullable e) es) ++ [] ≡ answer = append-nil _ ∙ sym (a .bytes) in
-          ap (λ (n : ℕ). readParts n answer) (sym as-many)
-          ∙ ap (λ (l : List ℕ). readParts (length es) l) (sym whole)
-          ∙ column-back (typeOf e) (nullable e) es [] few (a .text)
+
+  -- as many rows are null as entries
+  nulls-are : nullRows e t (t .rows) ≡ nullEntries es
+  unfolding nullRows
+  nulls-are = ap (nullRows e t) (sym as-many) ∙ count-entries es (nullRows e t) refl (λ n h. ap (λ (o : Outcome). cond (nullOutcome o) 1 0 + nullRows e t n) (entry-at n (rw (← as-many) h)))
+
+  -- the answer as the one column of its bytes
+  answer-alone : readAlone (t .rows) answer ≡ ok (columnOf (typeOf e) (nullable e) es)
+  unfolding readAlone
+  answer-alone =
+      ap (λ (n : ℕ). readAlone n answer) (sym as-many)
+      ∙ rw (le-leb (length es) 512 few, answer-read, count-right (typeOf e) (nullable e) es few)
+
+  answer-counts-rows : Counts answer (t .rows) (nullRows e t (t .rows))
+  answer-counts-rows =
+      let n = nullEntries es in
+      let bytes = numberBytes 2 n in
+      subst (Counts answer (t .rows)) (sym nulls-are) (record {
+        column = columnOf (typeOf e) (nullable e) es;
+        reads = answer-alone;
+        says = refl;
+        stands = ap (λ (l : List ℕ). take 5 (drop 5 l)) (a .bytes) ∙ count-stands (typeOf e) (nullable e) es;
+        has = ap (nullCount (validityOf es)) (sym as-many) ∙ count-back es;
+      })
 
   -- behind its row count, where it is accepted, it is one column with the same entries
   read-back : (u : Table) → readTable (behindCount (t .rows) answer) ≡ ok u
@@ -130,6 +155,11 @@ pub answer-reads-back : AnswerReadsBack
 answer-reads-back rule table e t work output answer u b r p =
     let a = run-answered rule table work output answer e t (b .rule-reads) (b .table-reads) r in
     read-back rule table e t work output answer b (a .0) (a .1) u p
+
+pub answer-counts : AnswerCounts
+answer-counts rule table e t work output answer b r =
+    let a = run-answered rule table work output answer e t (b .rule-reads) (b .table-reads) r in
+    answer-counts-rows rule table e t work output answer b (a .0) (a .1)
 
 -- ---- failing for a value
 

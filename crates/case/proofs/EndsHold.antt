@@ -1,15 +1,16 @@
 -- A call ends with a column or one of the numbers, and what it leaves (demand 1), proved. Assumes nothing.
 use mathlib.Core.Path.{_≡_, refl, sym, ap, subst, _∙_}
-use mathlib.Core.Bool.{Bool, cond, not, _&&_}
+use mathlib.Core.Bool.{Bool, true, false, cond, not, _&&_}
+use mathlib.Core.Logic.{_⊎_, ⊎-elim}
 use mathlib.Core.List.{List, [], _++_}
-use Prim.Native.Nat.{ℕ, _+_}
+use Prim.Native.Nat.{ℕ, zero, suc, _+_, _-_, _≤_}
 use native.Mathlib.Omega.{arith}
 use lib.Dec.{eqb, leb}
 use lib.ListN.{length, take, drop, length-append, length-drop}
 use lib.Seq.{take-append-seam, drop-append-seam}
-use borrow.Author.Tests.{le-leb, lt-leb}
+use borrow.Author.Tests.{ne-eqb}
 use Rattle.layout.specs.Result.{Result, refused, ok}
-use Rattle.layout.specs.Refusals.{ruleRefusals, tableRefusals, evaluationRefusals, runRefusals, builderRefusals, among}
+use Rattle.layout.specs.Refusals.{ruleRefusals, tableRefusals, evaluationRefusals, lateRefusals, runRefusals, builderRefusals, among}
 use Rattle.layout.proofs.ResultLaws.{RefusedAmong, ok-among, bind-among, require-among-then, among-more}
 use Rattle.scalar.specs.Entry.{Entry}
 use Rattle.rule.specs.Tree.{Expr}
@@ -49,7 +50,7 @@ read-among e t work output =
     require-among-then runRefusals (leb workLeast work) 14 _ refl (λ _.
     bind-among runRefusals (entriesOf (outcomes e t)) _ (entries-among e t) (λ es. written-among e es output)))
 
--- a run with 1 to 17
+-- a run with 1 to 17 or 25
 run-among : (rule table : List ℕ) (work output : ℕ) → RefusedAmong runRefusals (run rule table work output)
 unfolding run
 run-among rule table work output =
@@ -78,6 +79,23 @@ builder-refusals = (
 
 -- ---- what a call leaves
 
+-- 15 to 17 come once a run's work has begun
+late : (n : ℕ) → 15 ≤ n → n ≤ 17 → among lateRefusals n ≡ true
+late n h k = let e : 15 + (n - 15) ≡ n = omega arith in ap (among lateRefusals) (sym e) ∙ go (n - 15) (omega arith)
+  where
+    go : (m : ℕ) → m ≤ 2 → among lateRefusals (15 + m) ≡ true
+    go zero b = refl
+    go (suc zero) b = refl
+    go (suc (suc zero)) b = refl
+    go (suc (suc (suc m))) b = absurd (omega arith)
+
+-- and no others
+not-late : (n : ℕ) → (n ≤ 14) ⊎ (18 ≤ n) → among lateRefusals n ≡ false
+not-late n h = ⊎-elim (λ (few : n ≤ 14). other (omega arith) (omega arith) (omega arith)) (λ (many : 18 ≤ n). other (omega arith) (omega arith) (omega arith)) h
+  where
+    other : (n ≡ 15 → ⊥) → (n ≡ 16 → ⊥) → (n ≡ 17 → ⊥) → among lateRefusals n ≡ false
+    other a b c = simp (ne-eqb n 15 a, ne-eqb n 16 b, ne-eqb n 17 c)
+
 -- by what the run is
 module _ (rule table work output work′ output′ : List ℕ) where
   answer-leaves : (answer : List ℕ) → callRun rule table work output ≡ ok answer → work′ ≡ zeros work → output′ ≡ answer ++ drop (length answer) output
@@ -95,14 +113,14 @@ module _ (rule table work output work′ output′ : List ℕ) where
         work-zero = w;
       }
 
-  refusal-leaves : (n : ℕ) → callRun rule table work output ≡ refused n → work′ ≡ cond (leb n 14) work (zeros work) → output′ ≡ output
+  refusal-leaves : (n : ℕ) → callRun rule table work output ≡ refused n → work′ ≡ cond (among lateRefusals n) (zeros work) work → output′ ≡ output
       → RefusalLeaves (callRun rule table work output) work output n work′ output′
   refusal-leaves n is w o = record {
     number-is = is;
     listed = run-refusals rule table (length work) (length output) n is;
     output-kept = o;
-    work-kept = λ h. w ∙ ap (λ (b : Bool). cond b work (zeros work)) (le-leb n 14 h);
-    work-zero = λ h. w ∙ ap (λ (b : Bool). cond b work (zeros work)) (lt-leb n 14 (omega arith));
+    work-kept = λ h. w ∙ ap (λ (b : Bool). cond b (zeros work) work) (not-late n h);
+    work-zero = λ h k. w ∙ ap (λ (b : Bool). cond b (zeros work) work) (late n h k);
   }
 
   leaves : (d : Result (List ℕ)) → callRun rule table work output ≡ d → work′ ≡ workAfter d work → output′ ≡ outputAfter d output

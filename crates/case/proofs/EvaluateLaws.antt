@@ -6,9 +6,11 @@ use Prim.Native.Nat.{ℕ, zero, suc, _+_, _*_, _<_, _≤_}
 use native.Mathlib.Omega.{arith}
 use lib.Dec.{leb}
 use lib.ListN.{length, replicate}
-use borrow.Author.Tests.{le-leb, lt-leb}
+use borrow.Author.Tests.{lt-leb}
 use Rattle.layout.specs.Bytes.{Bytes}
 use Rattle.layout.specs.Result.{Result, refused, ok, _>>=_, require}
+use Rattle.layout.specs.Refusals.{ruleRefusals, lateRefusals, among}
+use Rattle.layout.proofs.ResultLaws.{among-apart}
 use Rattle.scalar.specs.declared.types.DataType.{DataType}
 use Rattle.scalar.specs.declared.value.Value.{Value}
 use Rattle.scalar.specs.Entry.{Entry, Outcome, outcomeOfType}
@@ -20,12 +22,12 @@ use Rattle.rule.specs.Nullable.{nullable}
 use Rattle.rule.specs.Node.{NodeAt}
 use Rattle.rule.proofs.ReadNode.{accepted-node}
 use Rattle.rule.proofs.AnswerLaws.{reading-was-refused, reading-was-read}
-use Rattle.rule.proofs.RefusalLaws.{rule-bounds}
+use Rattle.rule.proofs.RefusalLaws.{rule-refusals}
 use Rattle.table.specs.declared.places.Table.{Table as Places}
 use Rattle.table.specs.declared.places.TableAnswer.{TableAnswer}
 use Rattle.table.specs.Places.{tableIn, readingIn, TableRead}
 use Rattle.table.proofs.TableInversions.{table-inv, table-few}
-use Rattle.table.proofs.RefusalLaws.{table-bounds}
+use Rattle.table.proofs.RefusalLaws.{table-early}
 use Rattle.writer.specs.declared.RunAnswer.{RunAnswer}
 use Rattle.writer.specs.declared.WriteAnswer.{WriteAnswer}
 use Rattle.writer.specs.declared.WriteAnswer.the-variants.{Run, NoColumn}
@@ -50,12 +52,12 @@ use Rattle.case.proofs.FrameLaws.{Kept, kept-rows, listed-to, framed-ke
 
 -- ---- a refusal before anything is written
 
--- a refusal of 14 at most leaves both buffers
-pub refused-early : {rule table work output : List ℕ} {n : ℕ} → callRun rule table work output ≡ refused n → n ≤ 14 → Evaluated rule table work output (Refused n) work output
+-- a refusal that comes before a run's work leaves both buffers
+pub refused-early : {rule table work output : List ℕ} {n : ℕ} → callRun rule table work output ≡ refused n → among lateRefusals n ≡ false → Evaluated rule table work output (Refused n) work output
 unfolding workAfter outputAfter
-refused-early {rule} {table} {work} {output} {n} is few = record {
+refused-early {rule} {table} {work} {output} {n} is early = record {
   says = ap runAnswer (sym is);
-  work-is = sym (ap (λ (r : Result (List ℕ)). workAfter r work) is ∙ ap (λ (b : Bool). cond b work (zeros work)) (le-leb n 14 few));
+  work-is = sym (ap (λ (r : Result (List ℕ)). workAfter r work) is ∙ ap (λ (b : Bool). cond b (zeros work) work) early);
   output-is = sym (ap (λ (r : Result (List ℕ)). outputAfter r output) is);
 }
 
@@ -65,7 +67,7 @@ pub rule-refused : {rule table work output : List ℕ} {a : RuleReading} → a �
 unfolding run
 rule-refused {rule} {table} {work} {output} {a} g not-0 =
     let is = reading-was-refused rule a g not-0 in
-    refused-early (simp is) (omega (arith, rule-bounds rule (a .refused) is .1))
+    refused-early (simp is) (among-apart ruleRefusals lateRefusals (a .refused) refl (rule-refusals rule (a .refused) is))
 
 -- of the table,
 reading-refused : (bytes : List ℕ) (n : ℕ) (t : Places) → (n ≡ 0 → ⊥) → readingIn bytes n t ≡ refused n
@@ -82,7 +84,7 @@ unfolding run
 table-refused {rule} {table} {work} {output} {a} {b} bytes g zero-a reads not-0 =
     let (e, is, read) = reading-was-read rule a g bytes zero-a in
     let no = sym (reads .says) ∙ reading-refused table (b .refused) (b .table) not-0 in
-    refused-early (simp (is, no)) (omega (arith, table-bounds table (b .refused) no .1))
+    refused-early (simp (is, no)) (table-early table (b .refused) no)
 
 -- what the reading of both gives
 pub both-read : {rule table : List ℕ} {a : RuleReading} {b : TableAnswer} → Bytes rule → a ≡ ruleReading (readRule rule) → a .refused ≡ 0 → TableRead table b → b .refused ≡ 0
@@ -174,29 +176,28 @@ map-same f g from zero h = refl
 map-same f g from (suc n) h = ap₂ (λ (x : Outcome) (l : List Outcome). x ∷ l) (h from (omega arith) (omega arith)) (map-same f g (suc from) n (λ i a b. h i (omega arith) (omega arith)))
 
 -- behind 13 and 14 a refusal is 15, 16 or 17
-written-late : (t : DataType) (n : Bool) (es : List Entry) (output k : ℕ) → writtenAs t n es output ≡ refused k → 15 ≤ k
+written-late : (t : DataType) (n : Bool) (es : List Entry) (output k : ℕ) → writtenAs t n es output ≡ refused k → among lateRefusals k ≡ true
 unfolding writtenAs
 written-late t n es output k r = go (leb (textLength es) textMost) (leb (length (columnBytes (columnOf t n es))) output) (columnBytes (columnOf t n es)) r
   where
-    go : (a b : Bool) (l : List ℕ) → (require a 16 >>= λ _. require b 17 >>= λ _. ok l) ≡ refused k → 15 ≤ k
-    go false b l q = let z : _≡_ {A = ℕ} 16 k = cc in omega arith
-    go true false l q = let z : _≡_ {A = ℕ} 17 k = cc in omega arith
+    go : (a b : Bool) (l : List ℕ) → (require a 16 >>= λ _. require b 17 >>= λ _. ok l) ≡ refused k → among lateRefusals k ≡ true
+    go false b l q = let z : _≡_ {A = ℕ} 16 k = cc in ap (among lateRefusals) (sym z)
+    go true false l q = let z : _≡_ {A = ℕ} 17 k = cc in ap (among lateRefusals) (sym z)
     go true true l q = absurd (let z : _≡_ {A = ℕ} 0 1 = cc in omega arith)
 
-rows-run-late : (rule table : List ℕ) (v : ℕ → Value) (rows : ℕ) (t : DataType) (n : Bool) (output k : ℕ) → rowsRun rule table v rows t n output ≡ refused k → 15 ≤ k
+rows-run-late : (rule table : List ℕ) (v : ℕ → Value) (rows : ℕ) (t : DataType) (n : Bool) (output k : ℕ) → rowsRun rule table v rows t n output ≡ refused k → among lateRefusals k ≡ true
 rows-run-late rule table v rows t n output k r = go (entriesOf (rowOutcomes rule table v rows)) refl r
   where
-    go : (m : Result (List Entry)) → entriesOf (rowOutcomes rule table v rows) ≡ m → (m >>= λ es. writtenAs t n es output) ≡ refused k → 15 ≤ k
+    go : (m : Result (List Entry)) → entriesOf (rowOutcomes rule table v rows) ≡ m → (m >>= λ es. writtenAs t n es output) ≡ refused k → among lateRefusals k ≡ true
     go (refused j) p q =
         let z : j ≡ k = cc in
-        let f = entries-refused (λ i. meaning rule table (v i)) 0 rows j p .0 in
-        omega arith
+        ap (among lateRefusals) (sym z ∙ entries-refused (λ i. meaning rule table (v i)) 0 rows j p .0)
     go (ok es) p q = written-late t n es output k q
 
 -- the work buffer is zero whatever a late run says
-late-work : (r : Result (List ℕ)) (work : List ℕ) → ((k : ℕ) → r ≡ refused k → 15 ≤ k) → workAfter r work ≡ zeros work
+late-work : (r : Result (List ℕ)) (work : List ℕ) → ((k : ℕ) → r ≡ refused k → among lateRefusals k ≡ true) → workAfter r work ≡ zeros work
 unfolding workAfter
-late-work (refused n) work h = ap (λ (b : Bool). cond b work (zeros work)) (lt-leb n 14 (h n refl))
+late-work (refused n) work h = ap (λ (b : Bool). cond b (zeros work) work) (h n refl)
 late-work (ok l) work h = refl
 
 module _ {rule table : List ℕ} {a : RuleReading} {t : Places} (bytes : Bytes rule) (table-bytes : Bytes table) (asks : ReadAsks rule a table t) where
@@ -209,7 +210,7 @@ module _ {rule table : List ℕ} {a : RuleReading} {t : Places} (bytes : Bytes r
 
     pub not-fitting : {work output : List ℕ} → not seen-fits ≡ true → Evaluated rule table work output (Refused 13) work output
     unfolding runRead
-    not-fitting {work} {output} un = refused-early (call-is work output ∙ simp (sym fits-is ∙ not-false seen-fits un)) (omega arith)
+    not-fitting {work} {output} un = refused-early (call-is work output ∙ simp (sym fits-is ∙ not-false seen-fits un)) refl
 
     module _ (yes-fits : not seen-fits ≡ false) where
       fitting : fits (asks .tree) (tableIn table t) ≡ true
@@ -217,7 +218,7 @@ module _ {rule table : List ℕ} {a : RuleReading} {t : Places} (bytes : Bytes r
 
       pub too-short : {work output : List ℕ} → length work < 65536 → Evaluated rule table work output (Refused 14) work output
       unfolding runRead
-      too-short {work} {output} less = refused-early (call-is work output ∙ simp (fitting, lt-leb 65536 (length work) less)) (omega arith)
+      too-short {work} {output} less = refused-early (call-is work output ∙ simp (fitting, lt-leb 65536 (length work) less)) refl
 
       module _ {v : ℕ → Value} (rows : RowsRight rule table t v) where
         node : NodeAt rule 0 (length rule) (asks .tree) 8

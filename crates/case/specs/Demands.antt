@@ -1,17 +1,18 @@
 -- What must hold of the definitions, in a reader's words. `proofs/DemandsHold.antt`, `CallsHold.antt` and `EndsHold.antt` have the proofs.
 -- That of the casts only Int64 to Int32, Float64 to Int32 and Float64 to Int64 can fail to fit is `CastFailsExactly` of scalar's `specs/Cast.antt`.
 -- Each speaks of lists of bytes, as a slice of bytes always is one.
-use mathlib.Core.Bool.{true, _||_}
+use mathlib.Core.Bool.{Bool, true, false, cond, _||_}
 use mathlib.Core.Path.{_≡_}
 use mathlib.Core.List.{List, [], _++_, List·Memᴰ}
-use mathlib.Core.Logic.{_↔_}
-use Prim.Native.Nat.{ℕ, _<_, _≤_}
+use mathlib.Core.Logic.{_↔_, _⊎_}
+use mathlib.Core.Option.{some}
+use Prim.Native.Nat.{ℕ, zero, suc, _+_, _<_, _≤_}
 use lib.ListN.{length, take, drop}
 use Rattle.layout.specs.Result.{Result, refused, ok}
 use Rattle.layout.specs.Refusals.{runRefusals, builderRefusals, among}
 use Rattle.layout.specs.Bytes.{Bytes, numberBytes}
 use Rattle.layout.specs.Field.{fieldBytes}
-use Rattle.scalar.specs.Entry.{Entry, entry, unfit, outcomeOfType}
+use Rattle.scalar.specs.Entry.{Entry, isNull, Outcome, entry, unfit, outcomeOfType}
 use Rattle.scalar.specs.Pair.{agree}
 use Rattle.rule.specs.Tree.{Expr}
 use Rattle.rule.specs.TreeBytes.{bytesOf}
@@ -22,9 +23,9 @@ use Rattle.rule.specs.Path.{path, readsColumn, columnsRead, holdsMisfit}
 use Rattle.rule.specs.Constant.{unread}
 use Rattle.rule.specs.Nullable.{nullable}
 use Rattle.rule.specs.Reading.{readRule}
-use Rattle.table.specs.Column.{TableColumn, entryAt}
+use Rattle.table.specs.Column.{TableColumn, nullCount, entryAt}
 use Rattle.table.specs.TableBytes.{TableReadsBack, TableIsItsBytes}
-use Rattle.table.specs.Reading.{readParts, Table, readTable}
+use Rattle.table.specs.Reading.{readParts, Table, readTable, readAlone}
 use lib.ListN.{getElem?}
 use Rattle.writer.specs.declared.RunAnswer.{RunAnswer}
 use Rattle.writer.specs.declared.RunAnswer.the-variants.{Answered, Refused}
@@ -36,7 +37,7 @@ use Rattle.case.specs.Promise.{callRun, Evaluated}
 
 -- ---- demand 1: a call ends with a column or one of the numbers, and what it leaves
 
--- every refusal of a run is one of 1 to 17
+-- every refusal of a run is one of 1 to 17, or 25
 abbrev pub RunRefusals : Type 0
 RunRefusals = (rule table : List ℕ) (work output n : ℕ) → run rule table work output ≡ refused n → among runRefusals n ≡ true
 
@@ -54,14 +55,14 @@ pub record AnswerLeaves (run : Result (List ℕ)) (work output : List ℕ) (n : 
   pub as-long : length output′ ≡ length output
   pub work-zero : work′ ≡ zeros work
 
--- a call that is refused says the run's number, one of 1 to 17, leaves the output untouched, and the work buffer untouched up to 14 and zero
--- from 15 on
+-- a call that is refused says the run's number, one of 1 to 17 or 25, leaves the output untouched, and the work buffer zero at 15 to 17 and
+-- untouched at any other
 pub record RefusalLeaves (run : Result (List ℕ)) (work output : List ℕ) (n : ℕ) (work′ output′ : List ℕ) : Type 0 where
   pub number-is : run ≡ refused n
   pub listed : among runRefusals n ≡ true
   pub output-kept : output′ ≡ output
-  pub work-kept : n ≤ 14 → work′ ≡ work
-  pub work-zero : 15 ≤ n → work′ ≡ zeros work
+  pub work-kept : (n ≤ 14) ⊎ (18 ≤ n) → work′ ≡ work
+  pub work-zero : 15 ≤ n → n ≤ 17 → work′ ≡ zeros work
 
 -- what a call leaves, by what it says
 abbrev pub Leaves : Result (List ℕ) → List ℕ → List ℕ → RunAnswer → List ℕ → List ℕ → Type 0
@@ -163,6 +164,37 @@ CallsAgree = (rule table table′ : List ℕ) (e : Expr) (t t′ : Table) (i i�
 abbrev pub CallFailsExactly : Type 0
 CallFailsExactly = (rule table : List ℕ) (e : Expr) (t : Table) (work output w o : List ℕ) (r : RunAnswer) → readRule rule ≡ ok e → readTable table ≡ ok t
     → fits e t ≡ true → workLeast ≤ length work → Evaluated rule table work output r w o → (r ≡ Refused 15) ↔ SomePathFails e t
+
+-- ---- the null count (02, Change 3)
+
+-- an outcome that is null
+abbrev pub nullOutcome : Outcome → Bool
+nullOutcome (entry v) = isNull v
+nullOutcome unfit = false
+
+-- how many of a table's first rows a rule gives null at
+unfoldable pub nullRows : Expr → Table → ℕ → ℕ
+nullRows e t zero = 0
+nullRows e t (suc n) = cond (nullOutcome (eval e (rowOf t n))) 1 0 + nullRows e t n
+
+-- an answer of so many rows is a whole column whose null count is this number: tag 6, in the five bytes behind tag 2, says it, and so many of
+-- the rows are null by the validity
+pub record Counts (answer : List ℕ) (rows n : ℕ) : Type 0 where
+  pub column : TableColumn
+  pub reads : readAlone rows answer ≡ ok column
+  pub says : column .nulls ≡ some (numberBytes 2 n)
+  pub stands : take 5 (drop 5 answer) ≡ fieldBytes 6 (numberBytes 2 n)
+  pub has : nullCount (column .validity) rows ≡ n
+
+-- an answer's null count is the number of its null entries: of the rows at which the one-row definition gives null
+abbrev pub AnswerCounts : Type 0
+AnswerCounts = (rule table : List ℕ) (e : Expr) (t : Table) (work output : ℕ) (answer : List ℕ) → BothRead rule table e t
+    → run rule table work output ≡ ok answer → Counts answer (t .rows) (nullRows e t (t .rows))
+
+-- the same of a call of `evaluate`, by what it promises
+abbrev pub CallCounts : Type 0
+CallCounts = (rule table : List ℕ) (e : Expr) (t : Table) (work output w o : List ℕ) (n : ℕ) → BothRead rule table e t
+    → Evaluated rule table work output (Answered n) w o → Counts (take n o) (t .rows) (nullRows e t (t .rows))
 
 -- ---- what can be worked out
 

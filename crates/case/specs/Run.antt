@@ -4,6 +4,7 @@ use mathlib.Core.List.{List, map}
 use Prim.Native.Nat.{ℕ}
 use lib.Dec.{leb}
 use Rattle.layout.specs.Result.{Result, refused, ok, _>>=_, require}
+use Rattle.layout.specs.Refusals.{lateRefusals, among}
 use Rattle.scalar.specs.Entry.{Entry, Outcome}
 use Rattle.rule.specs.Tree.{Expr}
 use Rattle.rule.specs.Typing.{typeOf}
@@ -47,7 +48,8 @@ run rule table work output = do
   t ← readTable table
   runRead e t work output
 
--- 1 to 14 leave all memory untouched; 15 to 17 leave the work buffer zero, as success does
+-- 1 to 14 leave all memory untouched, and so do the numbers of the change requests (02, Change 1); 15 to 17 leave the work buffer zero, as
+-- success does
 unfoldable pub workAfter : Result (List ℕ) → List ℕ → List ℕ
-workAfter (refused n) work = cond (leb n 14) work (zeros work)
+workAfter (refused n) work = cond (among lateRefusals n) (zeros work) work
 workAfter (ok bytes) work = zeros work

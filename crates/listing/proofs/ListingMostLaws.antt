@@ -22,7 +22,7 @@ use Rattle.scalar.specs.Integer.{signed}
 use Rattle.scalar.specs.Types.{typeNumbered, markNumbered}
 use Rattle.scalar.proofs.IntegerLaws.{signed-low, signed-high}
 use Rattle.table.specs.Column.{TableColumn, validIn, offsetAt, valueAt, entryAt}
-use Rattle.table.specs.Reading.{Part, tagged, taggedPair, neverFalls, readValidity, readTextOffsets, readOffsets, valuesLength, readValues, readBody, readParts, readAlone}
+use Rattle.table.specs.Reading.{Part, tagged, taggedPair, neverFalls, readCount, readValidity, readTextOffsets, readOffsets, valuesLength, readValues, readBody, readParts, countRight, readAlone}
 use Rattle.table.proofs.OffsetLaws.{Left, falls-start, falls-next, falls-here}
 use Rattle.table.proofs.AloneLaws.{alone-short}
 use Rattle.table.proofs.RefusalLaws.{alone-bounds}
@@ -182,7 +182,8 @@ unfolding readBody
 body-rises rows f c p =
     let t = bind-ok (typeNumbered 11 (byte (f .content) 0)) _ c p in
     let n = bind-ok (markNumbered 11 (byte (f .content) 1)) _ c (t .2) in
-    let y = bind-ok (readValidity rows (f .rest)) _ c (n .2) in
+    let k = bind-ok (readCount (f .rest)) _ c (n .2) in
+    let y = bind-ok (readValidity rows (k .0 .rest)) _ c (k .2) in
     let o = bind-ok (readOffsets (t .0) rows (y .0 .rest)) _ c (y .2) in
     let v = bind-ok (readValues (t .0) rows (o .0 .part) (o .0 .rest)) _ c (o .2) in
     subst (λ (x : Part TableColumn). ColumnRises (x .part) rows) (ok-injective (v .2)) (parts-rise (t .0) rows (y .0 .rest) (o .0 .rest) (o .0) (v .0) (o .1) (v .1))
@@ -192,7 +193,8 @@ unfolding readAlone readParts
 alone-rises l rows c p =
     let a = require-then (leb rows 512) 10 _ c p in
     let d = bind-ok (readParts rows l) _ c (a .1) in
-    let e = require-then (eqb (length (d .0 .rest)) 0) 9 _ c (d .2) .1 in
+    let k = require-then (countRight (d .0 .part) rows) 25 _ c (d .2) in
+    let e = require-then (eqb (length (d .0 .rest)) 0) 9 _ c (k .1) .1 in
     let f = bind-ok (taggedPair 2 l) _ (d .0) (d .1) in
     subst (λ (x : TableColumn). ColumnRises x rows) (ok-injective e) (body-rises rows (f .0) (d .0) (f .2))
 

@@ -2,9 +2,10 @@
 use mathlib.Core.Path.{_≡_, refl, sym, ap, ap₂, subst, _∙_}
 use mathlib.Core.Bool.{Bool, true, false, cond}
 use mathlib.Core.List.{List, _++_}
+use mathlib.Core.Option.{Option, some, none}
 use Prim.Native.Nat.{ℕ, zero, suc, _+_, _≤_, _-_}
 use lib.Dec.{leb}
-use lib.ListN.{length, take, drop, replicate}
+use lib.ListN.{length, getElem?, take, drop, replicate}
 use lib.Seq.{take-append-seam}
 use native.Mathlib.Omega.{arith}
 use Rattle.layout.specs.Result.{Result, refused, ok}
@@ -29,10 +30,16 @@ use Rattle.case.specs.Promise.{callRun, Evaluated}
 use Rattle.case.proofs.RunLaws.{run-fits, answered-run, refused-run}
 use Rattle.table.specs.declared.places.Table.{Table as TablePlaces}
 use Rattle.table.specs.declared.places.TableAnswer.{TableAnswer}
-use Rattle.table.specs.Reading.{readTable}
-use Rattle.table.specs.Places.{tableIn, readingIn, TableRead}
+use Rattle.table.specs.declared.places.PlaceAnswer.{PlaceAnswer}
+use Rattle.table.specs.declared.answer.NullCountAnswer.the-variants.{Nulls}
+use Rattle.table.specs.Column.{TableColumn, nullCount}
+use Rattle.table.specs.Reading.{Table, readTable, readAlone}
+use Rattle.table.specs.Answers.{nullCountOfColumn, nullCountOf}
+use Rattle.table.specs.Places.{tableIn, readingIn, aloneAnswer, TableRead}
 use Rattle.table.proofs.TableInversions.{table-few}
-use Rattle.tembalku.specs.Codes.{ruleCode, tableCode, strategyCode, nullableCode, projectionCode, columnsAfter, Projected, runCode, Called}
+use Rattle.table.proofs.NullLaws.{count-most}
+use Rattle.table.proofs.RefusalLaws.{alone-numbered}
+use Rattle.tembalku.specs.Codes.{ruleCode, tableCode, answerCountCode, strategyCode, nullableCode, projectionCode, columnsAfter, Projected, runCode, Called}
 
 -- a type's number is small
 pub type-small : (t : DataType) → typeNumber t ≤ 5
@@ -76,6 +83,36 @@ table-rows bytes r g z = table-few bytes (tableIn bytes (r .table)) (sym (accept
 
 pub table-accepted : (bytes : List ℕ) (r : TableAnswer) → TableRead bytes r → r .refused ≡ 0 → 65536 + r .table .rows ≡ tableCode (readTable bytes)
 table-accepted bytes r g z = ap tableCode (accepted-is bytes r g z)
+
+-- ---- null counts
+
+-- a column of an accepted table has at most 512 nulls
+column-few : (c : Option TableColumn) (rows n : ℕ) → rows ≤ 512 → Nulls n ≡ nullCountOfColumn c rows → n ≤ 512
+column-few none rows n h e = let z : _≡_ {A = ℕ} 0 1 = cc in absurd (omega arith)
+column-few (some c) rows n h e = let z : n ≡ nullCount (c .validity) rows = cc in omega (arith, z, count-most (c .validity) rows)
+
+pub nulls-few : (bytes : List ℕ) (column n : ℕ) → Nulls n ≡ nullCountOf (readTable bytes) column → n ≤ 512
+nulls-few bytes column n e = go (readTable bytes) refl e
+  where
+    go : (d : Result Table) → readTable bytes ≡ d → Nulls n ≡ nullCountOf d column → n ≤ 512
+    go (refused m) p q = let z : _≡_ {A = ℕ} 0 1 = cc in absurd (omega arith)
+    go (ok t) p q = column-few (getElem? (t .columns) column) (t .rows) n (table-few bytes t p) q
+
+-- an answer that is refused
+pub answer-refused : (rows : ℕ) (d : Result TableColumn) (r : PlaceAnswer) → r ≡ aloneAnswer rows d → (r .refused ≡ 0 → ⊥) → r .refused ≡ answerCountCode rows d
+unfolding aloneAnswer
+answer-refused rows (refused n) r g h = ap (λ (x : PlaceAnswer). x .refused) g
+answer-refused rows (ok c) r g h = absurd (h (ap (λ (x : PlaceAnswer). x .refused) g))
+
+-- an answer whose nulls are counted
+pub answer-nulls : (rows : ℕ) (bytes : List ℕ) (r : PlaceAnswer) → r ≡ aloneAnswer rows (readAlone rows bytes) → r .refused ≡ 0
+    → 65536 + r .place .«null_count» ≡ answerCountCode rows (readAlone rows bytes)
+unfolding aloneAnswer
+answer-nulls rows bytes r g z = go (readAlone rows bytes) refl
+  where
+    go : (d : Result TableColumn) → readAlone rows bytes ≡ d → 65536 + r .place .«null_count» ≡ answerCountCode rows d
+    go (refused n) p = absurd (omega (arith, alone-numbered rows bytes .numbers n p, z, ap (λ (x : PlaceAnswer). x .refused) (g ∙ ap (aloneAnswer rows) p)))
+    go (ok c) p = ap (λ (x : PlaceAnswer). 65536 + x .place .«null_count») (g ∙ ap (aloneAnswer rows) p)
 
 -- ---- strategy, nullability and projection
 

@@ -13,6 +13,9 @@ use Rattle.rule.specs.Reading.{readRule}
 use Rattle.rule.specs.Strategy.{strategyNumber, strategy}
 use Rattle.rule.specs.Nullable.{nullable}
 use Rattle.rule.specs.Projection.{projection}
+use Rattle.table.specs.declared.answer.NullCountAnswer.{NullCountAnswer}
+use Rattle.table.specs.declared.answer.NullCountAnswer.the-variants.{Nulls, NoColumn, Refused as NullsRefused}
+use Rattle.table.specs.Column.{TableColumn, nullCount}
 use Rattle.table.specs.Reading.{Table}
 use Rattle.writer.specs.Written.{outputAfter}
 use Rattle.case.specs.Run.{workAfter}
@@ -27,6 +30,17 @@ ruleCode (ok e) = 256 + typeNumber (typeOf e)
 abbrev pub tableCode : Result Table → ℕ
 tableCode (refused n) = n
 tableCode (ok t) = 65536 + t .rows
+
+-- a column's null count: the table's refusal number, 256 where it has no such column, or 65,536 and the count (02, Change 3)
+abbrev pub nullCountCode : NullCountAnswer → ℕ
+nullCountCode (NullsRefused n) = n
+nullCountCode NoColumn = 256
+nullCountCode (Nulls n) = 65536 + n
+
+-- an answer's null count: the refusal number of a column that is no answer of so many rows, or 65,536 and the count (02, Change 3)
+abbrev pub answerCountCode : ℕ → Result TableColumn → ℕ
+answerCountCode rows (refused n) = n
+answerCountCode rows (ok c) = 65536 + nullCount (c .validity) rows
 
 -- a rule's strategy: its refusal number, or 256 and the strategy's number
 abbrev pub strategyCode : Result Expr → ℕ

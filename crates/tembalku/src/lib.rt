@@ -11,14 +11,18 @@ use rule::answer::read as read_rule;
 use rule::answer::strategy;
 use rule::strategy::Strategy;
 use scalar::types::DataType;
+use table::alone::read_alone;
+use table::answer::NullCountAnswer;
+use table::nulls::column_null_count;
 use table::read::read as read_table;
 use writer::RunAnswer;
 ghost use mathlib.Core.Path.{_≡_};
 ghost use Rattle.rule.specs.Reading.{readRule};
 ghost use Rattle.scalar.specs.Types.{typeNumber};
-ghost use Rattle.table.specs.Reading.{readTable};
+ghost use Rattle.table.specs.Reading.{readTable, readAlone};
+ghost use Rattle.table.specs.Answers.{nullCountOf};
 ghost use Rattle.rule.specs.Strategy.{strategyNumber};
-ghost use Rattle.tembalku.specs.Codes.{ruleCode, tableCode, strategyCode, nullableCode, Projected, Called};
+ghost use Rattle.tembalku.specs.Codes.{ruleCode, tableCode, nullCountCode, answerCountCode, strategyCode, nullableCode, Projected, Called};
 
 // The number of a type.
 fn type_number(t: DataType) -> u32
@@ -56,6 +60,31 @@ pub extern "C" fn tembalku_table_read(table: &[u8]) -> u32
     let t = answer.table;
     let rows = t.rows;
     65536 + (rows as u32)
+}
+
+// How many rows of a table's column are null: a refusal number, 256 where there is no such column, or 65,536 and their number.
+#[no_mangle]
+pub extern "C" fn tembalku_table_null_count(table: &[u8], column: usize) -> usize
+    ensures { λ r. ⌜ r ≡ nullCountCode (nullCountOf (readTable (now (table .entry))) column) ⌝ }
+{
+    match column_null_count(table, column) {
+        NullCountAnswer::Refused(n) => n as usize,
+        NullCountAnswer::NoColumn => 256,
+        NullCountAnswer::Nulls(n) => 65536 + n,
+    }
+}
+
+// How many entries of an answer of so many rows are null: a refusal number, or 65,536 and their number.
+#[no_mangle]
+pub extern "C" fn tembalku_answer_null_count(answer: &[u8], rows: usize) -> usize
+    ensures { λ r. ⌜ r ≡ answerCountCode rows (readAlone rows (now (answer .entry))) ⌝ }
+{
+    let a = read_alone(answer, rows);
+    if a.refused != 0 {
+        return a.refused as usize;
+    }
+    let place = a.place;
+    65536 + place.null_count as usize
 }
 
 // The number of a strategy.

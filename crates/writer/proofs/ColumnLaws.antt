@@ -23,8 +23,8 @@ use Rattle.scalar.specs.Types.{typeNumber, markNumber}
 use Rattle.writer.specs.Written.{rowsFrom}
 use Rattle.writer.specs.Answer as answer
 use Rattle.table.specs.TableBytes.{offsetsField, columnBytes}
-use Rattle.writer.specs.Answer.{someNull, validityOf, numberIn, numbersOf, textsOf, offsetsFrom, offsetsOf, valuesOf, columnOf}
-use Rattle.writer.specs.Writing.{rowBytes, anyRow, someOfKind, rowEntry, rowEntries, trueOf, numberOf, widthOf, flagAt, bitsFrom, rowBits, rowNumbers, rowText, rowOffset, rowValidity, rowValues, rowColumn}
+use Rattle.writer.specs.Answer.{someNull, nullEntries, validityOf, numberIn, numbersOf, textsOf, offsetsFrom, offsetsOf, valuesOf, columnOf}
+use Rattle.writer.specs.Writing.{rowBytes, anyRow, countRows, someOfKind, rowNulls, rowEntry, rowEntries, trueOf, numberOf, widthOf, flagAt, bitsFrom, rowBits, rowNumbers, rowText, rowOffset, rowValidity, rowValues, rowColumn}
 use Rattle.writer.proofs.RowKindLaws.{none-at}
 use Rattle.writer.proofs.RowBitLaws.{flag-out, bits-lt}
 
@@ -80,6 +80,12 @@ null-snoc (x ∷ es) e = ap (λ (b : Bool). isNull x || b) (null-snoc es e) ∙ 
     swap true false c = refl
     swap false true c = refl
     swap false false c = refl
+
+-- how many entries are null, with the last
+nulls-snoc : (es : List Entry) (e : Entry) → nullEntries (es ++ (e ∷ [])) ≡ cond (isNull e) 1 0 + nullEntries es
+unfolding nullEntries
+nulls-snoc [] e = refl
+nulls-snoc (x ∷ es) e = omega (arith, nulls-snoc es e)
 
 -- ---- a value and its entry
 
@@ -276,6 +282,15 @@ null-rows rule table v (suc n) h =
     ∙ sym (null-snoc (rowEntries rule table v n) (rowEntry rule table v n))
     ∙ ap someNull (sym (entries-snoc (rowEntry rule table v) n))
 
+-- how many are
+count-rows : (rule table : List ℕ) (v : ℕ → Value) (n : ℕ) → ((i : ℕ) → i < n → eqb (kindOf (v i)) 7 ≡ false) → rowNulls v n ≡ nullEntries (rowEntries rule table v n)
+unfolding countRows nullEntries rowsFrom
+count-rows rule table v zero h = refl
+count-rows rule table v (suc n) h =
+    ap₂ (λ (a : Bool) (b : ℕ). cond a 1 0 + b) (sym (null-of rule table (v n) (h n (omega arith)))) (count-rows rule table v n (λ i b. h i (omega arith)))
+    ∙ sym (nulls-snoc (rowEntries rule table v n) (rowEntry rule table v n))
+    ∙ ap nullEntries (sym (entries-snoc (rowEntry rule table v) n))
+
 -- ---- the column
 
 module _ (rule table : List ℕ) (v : ℕ → Value) (rows : ℕ) (fine : someOfKind v 7 rows ≡ false) where
@@ -300,5 +315,11 @@ module _ (rule table : List ℕ) (v : ℕ → Value) (rows : ℕ) (fine : someOf
   pub column-rows : (t : DataType) (nullable : Bool) → rowColumn rule table v rows t nullable (someOfKind v 0 rows) ≡ columnBytes (columnOf t nullable (rowEntries rule table v rows))
   unfolding columnBytes
   column-rows t nullable =
-      append-assoc (fieldBytes 2 (typeNumber t ∷ markNumber nullable ∷ [])) (fieldBytes 3 (rowValidity (someOfKind v 0 rows) v rows)) (rowValues rule table v rows t)
-      ∙ ap₂ (λ (a b : List ℕ). fieldBytes 2 (typeNumber t ∷ markNumber nullable ∷ []) ++ (fieldBytes 3 a ++ b)) validity-rows (values-rows t)
+      let x = fieldBytes 2 (typeNumber t ∷ markNumber nullable ∷ []) in
+      let count = fieldBytes 6 (numberBytes 2 (rowNulls v rows)) in
+      let y = fieldBytes 3 (rowValidity (someOfKind v 0 rows) v rows) in
+      let z = rowValues rule table v rows t in
+      append-assoc (x ++ count) y z
+      ∙ append-assoc x count (y ++ z)
+      ∙ ap₂ (λ (n : ℕ) (l : List ℕ). x ++ (fieldBytes 6 (numberBytes 2 n) ++ l)) (count-rows rule table v rows (fine-at rule table v rows fine))
+      (ap₂ (λ (a b : List ℕ). fieldBytes 3 a ++ b) validity-rows (values-rows t))

@@ -1,9 +1,10 @@
 -- The fields of a column: how many bytes they take, and one behind the other. Assumes nothing.
 use mathlib.Core.Path.{_≡_, refl, sym, ap, _∙_}
 use mathlib.Core.Bool.{Bool, true, false}
-use mathlib.Core.List.{List, [], _∷_, _++_, append-nil}
-use Prim.Native.Nat.{ℕ, zero, suc, _+_, _*_, _<_, _≤_}
+use mathlib.Core.List.{List, [], _∷_, _++_, append-nil, append-assoc}
+use Prim.Native.Nat.{ℕ, zero, suc, _+_, _-_, _*_, _<_, _≤_}
 use native.Mathlib.Omega.{arith}
+use lib.Dec.{eqb}
 use lib.ListN.{length, length-append}
 use Rattle.layout.specs.Bytes.{numberBytes, bitmapLength}
 use Rattle.layout.specs.Field.{fieldBytes}
@@ -12,16 +13,15 @@ use Rattle.scalar.specs.declared.types.DataType.{DataType}
 use Rattle.scalar.specs.declared.types.DataType.the-variants as DataType
 use Rattle.scalar.specs.declared.value.Value.{Value}
 use Rattle.scalar.specs.Types.{typeNumber, markNumber}
+use Rattle.scalar.specs.Value.{kindOf}
 use Rattle.writer.specs.Slots.{slotAt}
-use Rattle.writer.specs.Writing.{Wrote, RowsAsk, rowBytes, numberOf, widthOf, rowBits, rowNumbers, rowText, rowOffset, rowValidity, rowValues, validitySize, valuesSize}
+use Rattle.writer.specs.Writing.{Wrote, BitsWrote, BitFieldWrote, ValidityWrote, RowsAsk, rowBytes, someOfKind, numberOf, widthOf, rowNulls, rowNumbers, rowText, rowOffset, rowValidity, rowValues, rowColumn, validitySize, valuesSize}
 use Rattle.layout.proofs.FieldLaws.{length-field}
-use Rattle.writer.proofs.WroteLaws.{length-rows, wrote-as, wrote-then, wrote-long, wrote-field}
+use Rattle.writer.proofs.WroteLaws.{length-rows, wrote-as, wrote-to, wrote-then, wrote-before, wrote-long, wrote-field}
+use Rattle.writer.proofs.RowBitLaws.{bits-size}
+use Rattle.writer.proofs.RowCountLaws.{count-le, nulls-rest, nulls-none}
 
 -- ---- how many bytes the rows take
-
--- a byte for each eight rows
-pub bits-size : (truth : Bool) (v : ℕ → Value) (rows n : ℕ) → length (rowBytes (rowBits truth v rows) n) ≡ n
-bits-size truth v rows n = let e = length-rows (rowBits truth v rows) 1 (λ i. refl) n in omega arith
 
 -- four or eight for each row
 pub numbers-size : (wide : Bool) (v : ℕ → Value) (n : ℕ) → length (rowBytes (rowNumbers wide v) n) ≡ widthOf wide * n
@@ -44,19 +44,10 @@ pub validity-size : (null : Bool) (v : ℕ → Value) (rows : ℕ) → length (r
 validity-size true v rows = bits-size false v rows (bitmapLength rows)
 validity-size false v rows = refl
 
--- tag 3 where some row is null, and where none is
-pub validity-some : {out : List ℕ} {at p : ℕ} {m : List ℕ} (null : Bool) (v : ℕ → Value) (rows : ℕ) → null ≡ true → Wrote out at (fieldBytes 3 (rowBytes (rowBits false v rows) (bitmapLength rows))) p m
-    → Wrote out at (fieldBytes 3 (rowValidity null v rows)) p m
-validity-some null v rows e o = wrote-as (ap (λ (b : Bool). fieldBytes 3 (rowValidity b v rows)) (sym e)) o
-
-pub validity-none : {out : List ℕ} {at p : ℕ} {m : List ℕ} (null : Bool) (v : ℕ → Value) (rows : ℕ) → null ≡ false → Wrote out at (3 ∷ numberBytes 2 0) p m
-    → Wrote out at (fieldBytes 3 (rowValidity null v rows)) p m
+-- a field without content is its header
+pub empty-field : {out : List ℕ} {at tag p : ℕ} {m : List ℕ} → Wrote out at (tag ∷ numberBytes 2 0) p m → Wrote out at (fieldBytes tag []) p m
 unfolding fieldBytes
-validity-none null v rows e o =
-    wrote-as (sym (append-nil (3 ∷ numberBytes 2 0)) ∙ ap (λ (b : Bool). fieldBytes 3 (rowValidity b v rows)) (sym e)) o
-
-pub validity-room : (null : Bool) (at rows n : ℕ) → null ≡ true → at + 3 + validitySize rows null ≤ n → at + 3 + bitmapLength rows ≤ n
-validity-room null at rows n e h = rw e at h
+empty-field {out} {at} {tag} o = wrote-as (sym (append-nil (tag ∷ numberBytes 2 0))) o
 
 -- the values of a type that is known
 pub values-as : {out : List ℕ} {at p : ℕ} {m : List ℕ} (rule table : List ℕ) (v : ℕ → Value) (rows : ℕ) {t s : DataType} → t ≡ s → Wrote out at (rowValues rule table v rows s) p m
@@ -89,6 +80,27 @@ pub content-room : {out : List ℕ} {at tag p : ℕ} {m : List ℕ} (size k : �
     → p + length content ≤ length m
 content-room size k content o e h = omega (arith, header-ends size o, wrote-long o)
 
+-- a field of bits, and how many are set
+pub bit-field : {out : List ℕ} {at tag p r : ℕ} {m m′ : List ℕ} (truth : Bool) (v : ℕ → Value) (rows : ℕ) {size : ℕ} → size ≡ bitmapLength rows → Wrote out at (tag ∷ numberBytes 2 size) p m
+    → BitsWrote truth v rows m p r m′ → BitFieldWrote tag truth v rows out at r m′
+bit-field truth v rows {size} e a b = record {
+  written = wrote-to (omega (arith, header-ends size a)) (wrote-field (e ∙ sym (bits-size truth v rows (bitmapLength rows))) a (b .written));
+  counted = b .counted;
+}
+
+-- room for tag 3 where some row is null
+pub validity-room : (null : Bool) (at rows n : ℕ) → null ≡ true → at + 3 + validitySize rows null ≤ n → at + 3 + bitmapLength rows ≤ n
+validity-room null at rows n e h = rw e at h
+
+-- tag 3 there, and where none is
+pub validity-some : {out : List ℕ} {at r : ℕ} {m : List ℕ} (null : Bool) (v : ℕ → Value) (rows : ℕ) → null ≡ true → BitFieldWrote 3 false v rows out at r m → ValidityWrote null v rows out at (rows - r) m
+validity-some null v rows e o = rw e (record { written = o .written; counted = nulls-rest v rows (o .counted) })
+
+pub validity-none : {out : List ℕ} {at p : ℕ} {m : List ℕ} (null : Bool) (v : ℕ → Value) (rows : ℕ) → null ≡ false → null ≡ someOfKind v 0 rows → Wrote out at (3 ∷ numberBytes 2 0) p m
+    → ValidityWrote null v rows out at 0 m
+validity-none null v rows e z o =
+    rw e (record { written = wrote-to (omega (arith, header-ends 0 o)) (empty-field o); counted = sym (nulls-none v rows (sym z ∙ e)) })
+
 module _ (rule table : List ℕ) (v : ℕ → Value) (rows text : ℕ) {out : List ℕ} {at p : ℕ} {m : List ℕ} (e : text ≡ length (rowBytes (rowText rule table v) rows)) (h : at + valuesSize DataType.Utf8 rows text ≤ length out)
     (a : Wrote out at (5 ∷ numberBytes 2 (4 * rows + 4)) p m) where
   -- room for the offsets
@@ -112,16 +124,44 @@ module _ (rule table : List ℕ) (v : ℕ → Value) (rows text : ℕ) {out : Li
           let size : 4 * rows + 4 ≡ length (rowBytes (rowOffset rule table v) (suc rows)) = omega (arith, offsets-size rule table v (suc rows)) in
           wrote-then (wrote-field size a b) (wrote-field e c d)
 
-module _ (rule table : List ℕ) (v : ℕ → Value) (rows : ℕ) (t : DataType) (nullable null : Bool) (text : ℕ) {out : List ℕ} {p : ℕ} {m : List ℕ} (h : 8 + validitySize rows null + valuesSize t rows text ≤ length out)
-    (a : Wrote out 0 (fieldBytes 2 (typeNumber t ∷ markNumber nullable ∷ [])) p m) where
-  -- room for tag 3
-  pub validity-ask : p + 3 + validitySize rows null ≤ length m
-  validity-ask = omega (arith, a .ends, wrote-long a, length-field 2 (typeNumber t ∷ markNumber nullable ∷ []))
+-- tag 2 takes five bytes
+pub type-ends : {out : List ℕ} {at p : ℕ} {m : List ℕ} (t : DataType) (nullable : Bool) → Wrote out at (fieldBytes 2 (typeNumber t ∷ markNumber nullable ∷ [])) p m → p ≡ at + 5
+type-ends t nullable o = omega (arith, o .ends, length-field 2 (typeNumber t ∷ markNumber nullable ∷ []))
 
-  -- and for what is behind it
-  pub values-ask : {q : ℕ} {m′ : List ℕ} → Wrote m p (fieldBytes 3 (rowValidity null v rows)) q m′ → q + valuesSize t rows text ≤ length m′
-  values-ask b =
-      omega (arith, a .ends, wrote-long a, length-field 2 (typeNumber t ∷ markNumber nullable ∷ []), b .ends, wrote-long b, length-field 3 (rowValidity null v rows), validity-size null v rows)
+-- so does tag 6
+pub count-size : (n : ℕ) → length (fieldBytes 6 (numberBytes 2 n)) ≡ 5
+count-size n = omega (arith, length-field 6 (numberBytes 2 n), length-numberBytes 2 n)
+
+pub count-ends : {out : List ℕ} {at p : ℕ} {m : List ℕ} (n : ℕ) → Wrote out at (fieldBytes 6 (numberBytes 2 n)) p m → p ≡ at + 5
+count-ends n o = omega (arith, o .ends, count-size n)
+
+module _ (rule table : List ℕ) (v : ℕ → Value) (rows : ℕ) (t : DataType) (nullable null : Bool) (text : ℕ) {out : List ℕ} {p : ℕ} {m : List ℕ} (h : 13 + validitySize rows null + valuesSize t rows text ≤ length out)
+    (a : Wrote out 0 (fieldBytes 2 (typeNumber t ∷ markNumber nullable ∷ [])) p m) where
+  -- room for tag 3, behind tag 6
+  pub validity-ask : p + 5 + 3 + validitySize rows null ≤ length m
+  validity-ask = omega (arith, type-ends t nullable a, wrote-long a)
+
+  module _ {nulls : ℕ} {m′ : List ℕ} (b : ValidityWrote null v rows m (p + 5) nulls m′) where
+    -- for tag 6
+    pub count-ask : rows ≤ 512 → (p + 5 ≤ length m′) × (nulls < 65536)
+    count-ask few = (omega (arith, type-ends t nullable a, wrote-long a, wrote-long (b .written)), omega (arith, b .counted, count-le (λ i. eqb (kindOf (v i)) 0) rows))
+
+    module _ {q : ℕ} {m″ : List ℕ} (c : Wrote m′ p (fieldBytes 6 (numberBytes 2 nulls)) q m″) {size : ℕ} (e : size ≡ validitySize rows null) where
+      -- and for what is behind tag 3
+      pub values-ask : q + 3 + size + valuesSize t rows text ≤ length m″
+      values-ask = omega (arith, type-ends t nullable a, wrote-long a, wrote-long (b .written), wrote-long c, count-ends nulls c)
+
+      -- the whole column
+      pub column-put : {r : ℕ} {m‴ : List ℕ} → Wrote m″ (q + 3 + size) (rowValues rule table v rows t) r m‴ → Wrote out 0 (rowColumn rule table v rows t nullable null) r m‴
+      column-put d =
+          let x = fieldBytes 2 (typeNumber t ∷ markNumber nullable ∷ []) in
+          let count = fieldBytes 6 (numberBytes 2 nulls) in
+          let y = fieldBytes 3 (rowValidity null v rows) in
+          let next : p + 5 ≡ p + length count = omega (arith, count-size nulls) in
+          let end : q + 3 + size ≡ p + 5 + 3 + validitySize rows null = omega (arith, count-ends nulls c) in
+          let said : x ++ (count ++ y) ≡ x ++ fieldBytes 6 (numberBytes 2 (rowNulls v rows)) ++ y =
+          sym (append-assoc x count y) ∙ ap (λ (n : ℕ). x ++ fieldBytes 6 (numberBytes 2 n) ++ y) (b .counted) in
+          wrote-then (wrote-as said (wrote-then a (wrote-to end (wrote-before next (b .written) c)))) d
 
 -- the sizes of the fields are small
 pub sizes-small : (rows : ℕ) (null : Bool) (t : DataType) (text : ℕ) → rows ≤ 512 → text ≤ 65535 → validitySize rows null + valuesSize t rows text < 131072

@@ -1,5 +1,5 @@
 -- Rows that each have a number of the answer's type: their payloads are its column. Assumes nothing.
-use mathlib.Core.Path.{_≡_, refl, sym, ap, _∙_}
+use mathlib.Core.Path.{_≡_, refl, sym, ap, ap₂, _∙_}
 use mathlib.Core.Bool.{Bool, true, false, cond, not, false≢true}
 use mathlib.Core.List.{List, [], _∷_, _++_, append-assoc}
 use Prim.Native.Nat.{ℕ, zero, suc, _+_, _-_, _*_, _^_, _<_, _≤_}
@@ -17,7 +17,7 @@ use Rattle.layout.proofs.BytesLaws.{length-numberBytes, number-below, bytes-tak
 use Rattle.scalar.specs.declared.types.DataType.{DataType}
 use Rattle.scalar.specs.declared.types.DataType.the-variants as DataType
 use Rattle.scalar.specs.declared.value.Value.{Value}
-use Rattle.scalar.specs.declared.value.Value.the-variants.{Null, Float64, Nan}
+use Rattle.scalar.specs.declared.value.Value.the-variants.{Float64, Nan}
 use Rattle.scalar.specs.Types.{typeNumber, markNumber}
 use Rattle.scalar.specs.Entry.{Outcome}
 use Rattle.scalar.specs.Value.{floatValue, valueOf, kindOf}
@@ -31,7 +31,8 @@ use Rattle.writer.specs.Writing.{Wrote, rowBytes, someOfKind, numberOf, 
 use Rattle.layout.proofs.FieldLaws.{length-field}
 use Rattle.writer.proofs.WroteLaws.{length-rows, rows-same, low-bytes, wrote-as, wrote-then, wrote-long}
 use Rattle.writer.proofs.RowKindLaws.{any-none}
-use Rattle.writer.proofs.ColumnPutLaws.{rows-empty, validity-none, header-ends}
+use Rattle.writer.proofs.ColumnPutLaws.{rows-empty, empty-field, count-size}
+use Rattle.writer.proofs.RowCountLaws.{nulls-none}
 use Rattle.writer.proofs.ColumnLaws.{number-of}
 use Rattle.writer.proofs.SlotRunLaws.{gives-17, gives-answer}
 
@@ -105,24 +106,11 @@ values-small rows DataType.Int64 h = (omega arith, omega arith)
 values-small rows DataType.Float64 h = (omega arith, omega arith)
 values-small rows DataType.Utf8 h = (omega arith, omega arith)
 
-module _ (rows : ℕ) (t : DataType) (nullable : Bool) {output : List ℕ} (few : rows ≤ 512) (h : 8 + valuesSize t rows 0 ≤ length output) {p : ℕ} {m : List ℕ}
-    (a : Wrote output 0 (fieldBytes 2 (typeNumber t ∷ markNumber nullable ∷ [])) p m) where
-  -- room for tag 3
-  pub front-room : (p + 3 ≤ length m) × (0 < 65536)
-  front-room = (omega (arith, a .ends, wrote-long a, length-field 2 (typeNumber t ∷ markNumber nullable ∷ []), values-small rows t few .0), omega arith)
-
-  module _ {q : ℕ} {m′ : List ℕ} (b : Wrote m p (3 ∷ numberBytes 2 0) q m′) {size : ℕ} (e : size ≡ valuesSize t rows 0) where
-    -- for the head of tag 4
-    pub head-room : (q + 3 ≤ length m′) × (size - 3 < 65536)
-    head-room = (
-      omega (arith, a .ends, wrote-long a, length-field 2 (typeNumber t ∷ markNumber nullable ∷ []), header-ends 0 b, wrote-long b, values-small rows t few .0),
-      omega (arith, values-small rows t few .1),
-    )
-
-    -- and the whole front
-    pub front-put : {r : ℕ} {m″ : List ℕ} → Wrote m′ q (4 ∷ numberBytes 2 (size - 3)) r m″ → Wrote output 0 (plainFront t nullable (valuesSize t rows 0 - 3)) r m″
-    front-put c =
-        wrote-then (wrote-then a (validity-none false (λ i. Null) rows refl b)) (wrote-as (ap (λ (n : ℕ). 4 ∷ numberBytes 2 (n - 3)) e) c)
+-- tags 2, 6 and 3 and the head of tag 4, one behind the other
+pub front-put : {out m m′ m″ m‴ : List ℕ} {p q s r size : ℕ} (rows : ℕ) (t : DataType) (nullable : Bool) → size ≡ valuesSize t rows 0
+    → Wrote out 0 (fieldBytes 2 (typeNumber t ∷ markNumber nullable ∷ [])) p m → Wrote m p (fieldBytes 6 (numberBytes 2 0)) q m′ → Wrote m′ q (3 ∷ numberBytes 2 0) s m″ → Wrote m″ s (4 ∷ numberBytes 2 (size - 3)) r m‴
+    → Wrote out 0 (plainFront t nullable (valuesSize t rows 0 - 3)) r m‴
+front-put rows t nullable e a b c d = wrote-then (wrote-then (wrote-then a b) (empty-field c)) (wrote-as (ap (λ (n : ℕ). 4 ∷ numberBytes 2 (n - 3)) e) d)
 
 -- ---- the rows
 
@@ -181,7 +169,7 @@ module _ {kind : ℕ → ℕ} {rows : ℕ} {t : DataType} (plain : PlainRows kin
   no-texts : (rule table : List ℕ) → 0 ≡ length (rowBytes (rowText rule table plainValue) rows)
   no-texts rule table = sym (rows-empty (rowText rule table plainValue) rows (λ i h. row-is i h .no-text rule table))
 
-  module _ (nullable : Bool) {output : List ℕ} {size : ℕ} (s : size ≡ 8 + validitySize rows false + valuesSize t rows 0) where
+  module _ (nullable : Bool) {output : List ℕ} {size : ℕ} (s : size ≡ 13 + validitySize rows false + valuesSize t rows 0) where
     -- too short an output
     pub plain-17 : length output < size → (rule table : List ℕ) → WriteGives rule table plainValue rows t nullable output (Refused 17) output
     plain-17 h rule table = gives-17 rule table plainValue rows t nullable output none-failed refl (no-texts rule table) (omega arith) none-null s h
@@ -193,12 +181,13 @@ module _ {kind : ℕ → ℕ} {rows : ℕ} {t : DataType} (plain : PlainRows kin
           let e : valuesSize t rows 0 ≡ 3 + widthOf wide * rows = values-width rows t (plain .number .0) (plain .number .1) ∙ ap (λ (b : Bool). 3 + widthOf b * rows) (sym w) in
           omega (arith, length-rows (plainNumbers wide payload) (widthOf wide) (λ i. length-numberBytes (widthOf wide) (payload i)) rows)
 
-      -- the front takes eleven
-      front-ends : p ≡ 11
+      -- the front takes sixteen
+      front-ends : p ≡ 16
       front-ends =
           let x = fieldBytes 2 (typeNumber t ∷ markNumber nullable ∷ []) in
+          let y = fieldBytes 6 (numberBytes 2 0) in
           let z : List ℕ = 4 ∷ numberBytes 2 (valuesSize t rows 0 - 3) in
-          omega (arith, a .ends, length-append (x ++ fieldBytes 3 []) z, length-append x (fieldBytes 3 []), length-field 2 (typeNumber t ∷ markNumber nullable ∷ []), length-field 3 [], length-numberBytes 2 (valuesSize t rows 0 - 3))
+          omega (arith, a .ends, length-append (x ++ y ++ fieldBytes 3 []) z, length-append (x ++ y) (fieldBytes 3 []), length-append x y, length-field 2 (typeNumber t ∷ markNumber nullable ∷ []), count-size 0, length-field 3 [], length-numberBytes 2 (valuesSize t rows 0 - 3))
 
       -- room for the numbers
       pub plain-room : p + length (rowBytes (plainNumbers wide payload) rows) ≤ length m
@@ -216,11 +205,12 @@ module _ {kind : ℕ → ℕ} {rows : ℕ} {t : DataType} (plain : PlainRows kin
       column-as : (rule table : List ℕ) → plainFront t nullable (valuesSize t rows 0 - 3) ++ rowBytes (plainNumbers wide payload) rows ≡ rowColumn rule table plainValue rows t nullable false
       unfolding fieldBytes
       column-as rule table =
-          let x = fieldBytes 2 (typeNumber t ∷ markNumber nullable ∷ []) ++ fieldBytes 3 [] in
+          let x = fieldBytes 2 (typeNumber t ∷ markNumber nullable ∷ []) in
+          let front = x ++ fieldBytes 6 (numberBytes 2 0) ++ fieldBytes 3 [] in
           let c = rowBytes (plainNumbers wide payload) rows in
-          append-assoc x (4 ∷ numberBytes 2 (valuesSize t rows 0 - 3)) c
-          ∙ ap (λ (n : ℕ). x ++ ((4 ∷ numberBytes 2 n) ++ c)) content-size
-          ∙ ap (λ (l : List ℕ). x ++ l) (field-is rule table)
+          append-assoc front (4 ∷ numberBytes 2 (valuesSize t rows 0 - 3)) c
+          ∙ ap (λ (n : ℕ). front ++ ((4 ∷ numberBytes 2 n) ++ c)) content-size
+          ∙ ap₂ (λ (n : ℕ) (l : List ℕ). x ++ fieldBytes 6 (numberBytes 2 n) ++ fieldBytes 3 [] ++ l) (sym (nulls-none plainValue rows (sym none-null))) (field-is rule table)
 
       -- which is the answer
       pub plain-answer : {end : ℕ} {output′ : List ℕ} → Wrote m p (rowBytes (plainNumbers wide payload) rows) end output′

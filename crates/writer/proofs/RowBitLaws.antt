@@ -4,10 +4,12 @@ use mathlib.Core.Bool.{Bool, true, false, cond}
 use Prim.Native.Nat.{ℕ, zero, suc, _+_, _-_, _*_, _^_, _<_, _≤_}
 use native.Mathlib.Nat.{pow-suc}
 use native.Mathlib.Omega.{arith}
+use lib.ListN.{length}
 use lib.Pow.{pow-mono}
 use borrow.Author.Tests.{lt-ltb, le-ltb}
 use Rattle.scalar.specs.declared.value.Value.{Value}
-use Rattle.writer.specs.Writing.{flagOf, flagAt, bitsFrom}
+use Rattle.writer.specs.Writing.{rowBytes, flagOf, flagAt, bitsFrom, rowBits}
+use Rattle.writer.proofs.WroteLaws.{length-rows}
 
 -- the bit of a row
 pub flag-in : (truth : Bool) (v : ℕ → Value) (rows row : ℕ) {x : Value} {f b : Bool} → row < rows → x ≡ v row → f ≡ flagOf truth x → f ≡ b → flagAt truth v rows row ≡ b
@@ -24,7 +26,7 @@ bit-one e = rw e
 pub bit-zero : {b : Bool} → b ≡ false → _≡_ {A = ℕ} 0 (cond b 1 0)
 bit-zero e = rw e
 
-bit-below : (b : Bool) → cond {A = ℕ} b 1 0 ≤ 1
+pub bit-below : (b : Bool) → cond {A = ℕ} b 1 0 ≤ 1
 bit-below true = omega arith
 bit-below false = omega arith
 
@@ -33,6 +35,10 @@ pub bits-lt : (f : ℕ → Bool) (a n : ℕ) → bitsFrom f a n < 2 ^ n
 unfolding bitsFrom
 bits-lt f a zero = omega arith
 bits-lt f a (suc n) = omega (arith, bits-lt f (suc a) n, bit-below (f a), pow-suc 2 n)
+
+-- a byte for each eight rows
+pub bits-size : (truth : Bool) (v : ℕ → Value) (rows n : ℕ) → length (rowBytes (rowBits truth v rows) n) ≡ n
+bits-size truth v rows n = let e = length-rows (rowBits truth v rows) 1 (λ i. refl) n in omega arith
 
 -- where the loop stands: the bits from k on, of eight from a on
 pub record BitsSoFar (f : ℕ → Bool) (a k n : ℕ) : Type 0 where

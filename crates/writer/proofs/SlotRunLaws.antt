@@ -9,7 +9,7 @@ use lib.Dec.{eqb}
 use lib.ListN.{length, drop, length-append}
 use borrow.Author.Tests.{eqb-true, le-leb, lt-leb}
 use Rattle.layout.specs.Result.{Result, refused, ok, _>>=_}
-use Rattle.layout.specs.Bytes.{bitmapLength}
+use Rattle.layout.specs.Bytes.{numberBytes, bitmapLength}
 use Rattle.layout.specs.Field.{fieldBytes}
 use Rattle.scalar.specs.declared.types.DataType.{DataType}
 use Rattle.scalar.specs.declared.types.DataType.the-variants as DataType
@@ -28,9 +28,10 @@ use Rattle.writer.specs.Answer.{columnOf, textLength}
 use Rattle.writer.specs.Written.{rowsFrom, entriesOf, textMost, writtenAs, runAnswer, outputAfter}
 use Rattle.writer.specs.Slots.{slotAt}
 use Rattle.writer.specs.Write.{rowOutcomes, rowsRun, WriteGives, WriteAsks, kindFits}
-use Rattle.writer.specs.Writing.{wrote, Wrote, rowBytes, someOfKind, rowEntries, rowText, rowOffset, rowValidity, rowValues, rowColumn, validitySize, valuesSize}
+use Rattle.writer.specs.Writing.{wrote, Wrote, rowBytes, someOfKind, rowEntries, rowNulls, rowText, rowOffset, rowValidity, rowValues, rowColumn, validitySize, valuesSize}
 use Rattle.writer.proofs.WroteLaws.{wrote-as}
-use Rattle.writer.proofs.ColumnPutLaws.{bits-size, numbers-size, offsets-size, rows-empty, validity-size}
+use Rattle.writer.proofs.ColumnPutLaws.{numbers-size, offsets-size, rows-empty, validity-size, count-size}
+use Rattle.writer.proofs.RowBitLaws.{bits-size}
 use Rattle.writer.proofs.RowKindLaws.{none-at, some-at}
 use Rattle.writer.proofs.ColumnLaws.{texts-rows, column-rows}
 
@@ -120,11 +121,12 @@ values-size rule table v rows DataType.Utf8 =
 
 -- the bytes of the column
 column-size : (rule table : List ℕ) (v : ℕ → Value) (rows : ℕ) (t : DataType) (nullable null : Bool)
-    → length (rowColumn rule table v rows t nullable null) ≡ 8 + validitySize rows null + valuesSize t rows (length (rowBytes (rowText rule table v) rows))
+    → length (rowColumn rule table v rows t nullable null) ≡ 13 + validitySize rows null + valuesSize t rows (length (rowBytes (rowText rule table v) rows))
 column-size rule table v rows t nullable null =
     let a = fieldBytes 2 (typeNumber t ∷ markNumber nullable ∷ []) in
-    let b = fieldBytes 3 (rowValidity null v rows) in
-    omega (arith, length-append (a ++ b) (rowValues rule table v rows t), length-append a b, length-field 2 (typeNumber t ∷ markNumber nullable ∷ []), length-field 3 (rowValidity null v rows), validity-size null v rows, values-size rule table v rows t)
+    let b = fieldBytes 6 (numberBytes 2 (rowNulls v rows)) in
+    let c = fieldBytes 3 (rowValidity null v rows) in
+    omega (arith, length-append (a ++ b ++ c) (rowValues rule table v rows t), length-append (a ++ b) c, length-append a b, length-field 2 (typeNumber t ∷ markNumber nullable ∷ []), count-size (rowNulls v rows), length-field 3 (rowValidity null v rows), validity-size null v rows, values-size rule table v rows t)
 
 -- ---- what is written
 
@@ -180,11 +182,11 @@ module _ (rule table : List ℕ) (v : ℕ → Value) (rows : ℕ) (t : DataType)
       column-is = ap (rowColumn rule table v rows t n) z ∙ column-rows rule table v rows fine t n
 
       -- and by its size
-      size-is : {size : ℕ} → size ≡ 8 + validitySize rows null + valuesSize t rows text → size ≡ length (columnBytes (columnOf t n (rowEntries rule table v rows)))
-      size-is s = s ∙ ap (λ (k : ℕ). 8 + validitySize rows null + valuesSize t rows k) e ∙ sym (column-size rule table v rows t n null) ∙ ap length column-is
+      size-is : {size : ℕ} → size ≡ 13 + validitySize rows null + valuesSize t rows text → size ≡ length (columnBytes (columnOf t n (rowEntries rule table v rows)))
+      size-is s = s ∙ ap (λ (k : ℕ). 13 + validitySize rows null + valuesSize t rows k) e ∙ sym (column-size rule table v rows t n null) ∙ ap length column-is
 
       -- too short an output
-      pub gives-17 : {size : ℕ} → size ≡ 8 + validitySize rows null + valuesSize t rows text → length output < size → WriteGives rule table v rows t n output (Refused 17) output
+      pub gives-17 : {size : ℕ} → size ≡ 13 + validitySize rows null + valuesSize t rows text → length output < size → WriteGives rule table v rows t n output (Refused 17) output
       unfolding outputAfter
       gives-17 s h =
           gives-as (refused 17) (run-is ∙ written-17 t n (rowEntries rule table v rows) (length output) (omega (arith, text-is)) (omega (arith, size-is s))) refl refl

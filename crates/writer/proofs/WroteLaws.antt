@@ -8,7 +8,7 @@ use native.Mathlib.Decide.{decLt}
 use native.Mathlib.Numerals.{add-one}
 use native.Mathlib.Omega.{arith}
 use lib.ListN.{length, take, drop, set, getD, length-append, length-drop, length-set, take-append-drop}
-use lib.Seq.{length-take-le, take-at, drop-at, drop-drop, sets, sets-eq, take-length, paste, paste-zero, paste-suc}
+use lib.Seq.{length-take-le, take-append-le, take-take, take-at, drop-at, drop-drop, sets, sets-eq, take-length, paste, paste-zero, paste-suc}
 use borrow.Author.Tests.{le-leb}
 use Rattle.layout.specs.Bytes.{numberBytes, Written}
 use Rattle.layout.specs.Field.{fieldBytes}
@@ -24,7 +24,15 @@ length-wrote : (out : List ℕ) (at : ℕ) (xs : List ℕ) → at + length xs �
 unfolding wrote
 length-wrote out at xs h = omega (arith, length-append (take at out ++ xs) (drop (at + length xs) out), front out at xs h, length-drop (at + length xs) out)
 
--- one run behind another is one run
+-- two runs side by side are one
+side-by-side : (out : List ℕ) (at : ℕ) (xs ys : List ℕ) → take at out ++ xs ++ ys ++ drop (at + length xs + length ys) out ≡ wrote out at (xs ++ ys)
+unfolding wrote
+side-by-side out at xs ys =
+    let n = at + length xs + length ys in
+    let size : n ≡ at + length (xs ++ ys) = omega (arith, length-append xs ys) in
+    ap (λ (l : List ℕ). l ++ drop n out) (append-assoc (take at out) xs ys) ∙ ap (λ (k : ℕ). take at out ++ (xs ++ ys) ++ drop k out) size
+
+-- one run, then another behind it
 wrote-wrote : (out : List ℕ) (at : ℕ) (xs ys : List ℕ) → at + length xs ≤ length out → wrote (wrote out at xs) (at + length xs) ys ≡ wrote out at (xs ++ ys)
 unfolding wrote
 wrote-wrote out at xs ys h =
@@ -33,10 +41,19 @@ wrote-wrote out at xs ys h =
     let behind : drop n (wrote out at xs) ≡ drop n out = drop-at (take at out ++ xs) (drop n out) n (front out at xs h) in
     let far : drop (n + length ys) (wrote out at xs) ≡ drop (n + length ys) out =
     sym (drop-drop (length ys) n (wrote out at xs)) ∙ ap (drop (length ys)) behind ∙ drop-drop (length ys) n out in
-    let size : n + length ys ≡ at + length (xs ++ ys) = omega (arith, length-append xs ys) in
-    ap₂ (λ (a b : List ℕ). a ++ ys ++ b) before far
-    ∙ ap (λ (l : List ℕ). l ++ drop (n + length ys) out) (append-assoc (take at out) xs ys)
-    ∙ ap (λ (k : ℕ). take at out ++ (xs ++ ys) ++ drop k out) size
+    ap₂ (λ (a b : List ℕ). a ++ ys ++ b) before far ∙ side-by-side out at xs ys
+
+-- one run, then another right before it
+before-wrote : (out : List ℕ) (at : ℕ) (xs ys : List ℕ) → at + length xs ≤ length out → wrote (wrote out (at + length xs) ys) at xs ≡ wrote out at (xs ++ ys)
+unfolding wrote
+before-wrote out at xs ys h =
+    let n = at + length xs in
+    let rest = drop (n + length ys) out in
+    let long : length (take n out) ≡ n = length-take-le n out h in
+    let before : take at (wrote out n ys) ≡ take at out =
+    take-append-le at (take n out ++ ys) rest (omega (arith, length-append (take n out) ys)) ∙ take-append-le at (take n out) ys (omega arith) ∙ take-take at n out (omega arith) in
+    let behind : drop n (wrote out n ys) ≡ ys ++ rest = ap (drop n) (append-assoc (take n out) ys rest) ∙ drop-at (take n out) (ys ++ rest) n long in
+    ap₂ (λ (a b : List ℕ). a ++ xs ++ b) before behind ∙ sym (append-assoc (take at out ++ xs) ys rest) ∙ side-by-side out at xs ys
 
 -- writing nothing
 pub wrote-none : {out : List ℕ} {at : ℕ} → at ≤ length out → Wrote out at [] at out
@@ -58,6 +75,18 @@ wrote-then {out} {at} {xs} {ys} {p} {q} {m} {m′} a b = record {
   ends = omega (arith, length-append xs ys, a .ends, b .ends);
   holds = b .holds ∙ ap₂ (λ (l : List ℕ) (k : ℕ). wrote l k ys) (a .holds) (a .ends) ∙ wrote-wrote out at xs ys (a .fits);
 }
+
+-- one run, then another right before it
+pub wrote-before : {out : List ℕ} {at k : ℕ} {xs ys : List ℕ} {p q : ℕ} {m m′ : List ℕ} → k ≡ at + length xs → Wrote out k ys q m → Wrote m at xs p m′ → Wrote out at (xs ++ ys) q m′
+wrote-before {out} {at} {k} {xs} {ys} e a b = record {
+  fits = omega (arith, length-append xs ys, a .fits);
+  ends = omega (arith, length-append xs ys, a .ends);
+  holds = b .holds ∙ ap (λ (l : List ℕ). wrote l at xs) (a .holds ∙ ap (λ (n : ℕ). wrote out n ys) e) ∙ before-wrote out at xs ys (omega (arith, a .fits));
+}
+
+-- the same end by another name
+pub wrote-to : {out : List ℕ} {at : ℕ} {xs : List ℕ} {p q : ℕ} {m : List ℕ} → q ≡ p → Wrote out at xs p m → Wrote out at xs q m
+wrote-to e w = record { fits = w .fits; ends = e ∙ w .ends; holds = w .holds }
 
 -- the same bytes by another name
 pub wrote-as : {out : List ℕ} {at : ℕ} {xs ys : List ℕ} {p : ℕ} {m : List ℕ} → xs ≡ ys → Wrote out at xs p m → Wrote out at ys p m

@@ -1,6 +1,7 @@
--- The answer is one column (01, Bytes of a table).
+-- The answer is one column (01, Bytes of a table), with its null count (02, Change 3).
 use mathlib.Core.Bool.{Bool, false, cond, not, _||_}
 use mathlib.Core.List.{List, [], _∷_, _++_, map}
+use mathlib.Core.Option.{some}
 use Prim.Native.Nat.{ℕ, _+_}
 use lib.ListN.{length}
 use Rattle.layout.specs.Bytes.{numberBytes, bitmap}
@@ -13,6 +14,15 @@ use Rattle.table.specs.Column.{TableColumn}
 unfoldable pub someNull : List Entry → Bool
 someNull [] = false
 someNull (e ∷ es) = isNull e || someNull es
+
+-- the number of entries that are null
+unfoldable pub nullEntries : List Entry → ℕ
+nullEntries [] = 0
+nullEntries (e ∷ es) = cond (isNull e) 1 0 + nullEntries es
+
+-- the answer always has tag 6: the number of nulls, two bytes (02, Change 3)
+abbrev pub countOf : List Entry → List ℕ
+countOf es = numberBytes 2 (nullEntries es)
 
 -- tag 3 is empty if the column holds no null
 abbrev pub validityOf : List Entry → List ℕ
@@ -69,7 +79,7 @@ valuesOf Utf8 es = textsOf es
 
 -- the column of a type, a nullable byte and entries
 abbrev pub columnOf : DataType → Bool → List Entry → TableColumn
-columnOf t n es = record { type = t; nullable = n; validity = validityOf es; offsets = offsetsOf t es; values = valuesOf t es }
+columnOf t n es = record { type = t; nullable = n; nulls = some (countOf es); validity = validityOf es; offsets = offsetsOf t es; values = valuesOf t es }
 
 -- the answer's text in all
 abbrev pub textLength : List Entry → ℕ

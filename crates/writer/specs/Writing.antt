@@ -34,6 +34,11 @@ unfoldable pub rowBytes : (ℕ → List ℕ) → ℕ → List ℕ
 rowBytes f zero = []
 rowBytes f (suc n) = rowBytes f n ++ f n
 
+-- how many of the first rows pass a test
+unfoldable pub countRows : (ℕ → Bool) → ℕ → ℕ
+countRows f zero = 0
+countRows f (suc n) = cond (f n) 1 0 + countRows f n
+
 -- some of the first rows passes a test
 unfoldable pub anyRow : (ℕ → Bool) → ℕ → Bool
 anyRow f zero = false
@@ -115,6 +120,24 @@ bitsFrom f from (suc n) = cond (f from) 1 0 + 2 * bitsFrom f (suc from) n
 abbrev pub rowBits : Bool → (ℕ → Value) → ℕ → ℕ → List ℕ
 rowBits truth v rows j = bitsFrom (flagAt truth v rows) (8 * j) 8 ∷ []
 
+-- how many of the first rows have their bit set
+abbrev pub flagCount : Bool → (ℕ → Value) → ℕ → ℕ
+flagCount truth v rows = countRows (λ i. flagOf truth (v i)) rows
+
+-- how many of the first rows are null
+abbrev pub rowNulls : (ℕ → Value) → ℕ → ℕ
+rowNulls v rows = countRows (λ i. eqb (kindOf (v i)) 0) rows
+
+-- the rows' bitmap stands at a place, nothing else is changed, and the answer is how many of the rows' bits are set
+pub record BitsWrote (truth : Bool) (v : ℕ → Value) (rows : ℕ) (out : List ℕ) (at r : ℕ) (out′ : List ℕ) : Type 0 where
+  pub written : Wrote out at (rowBytes (rowBits truth v rows) (bitmapLength rows)) (at + bitmapLength rows) out′
+  pub counted : r ≡ flagCount truth v rows
+
+-- the same of the field of a tag
+pub record BitFieldWrote (tag : ℕ) (truth : Bool) (v : ℕ → Value) (rows : ℕ) (out : List ℕ) (at r : ℕ) (out′ : List ℕ) : Type 0 where
+  pub written : Wrote out at (fieldBytes tag (rowBytes (rowBits truth v rows) (bitmapLength rows))) (at + 3 + bitmapLength rows) out′
+  pub counted : r ≡ flagCount truth v rows
+
 -- what reading the slots of the first rows asks
 pub record RowsAsk (w : List ℕ) (rows : ℕ) : Type 0 where
   pub few : rows ≤ 512
@@ -146,15 +169,21 @@ rowValues rule table v rows DataType.Float64 = fieldBytes 4 (rowBytes (rowNumber
 rowValues rule table v rows DataType.Utf8 =
     fieldBytes 5 (rowBytes (rowOffset rule table v) (suc rows)) ++ fieldBytes 4 (rowBytes (rowText rule table v) rows)
 
+-- tag 3 stands at a place, nothing else is changed, and the answer is how many of the rows are null
+pub record ValidityWrote (null : Bool) (v : ℕ → Value) (rows : ℕ) (out : List ℕ) (at r : ℕ) (out′ : List ℕ) : Type 0 where
+  pub written : Wrote out at (fieldBytes 3 (rowValidity null v rows)) (at + 3 + validitySize rows null) out′
+  pub counted : r ≡ rowNulls v rows
+
 -- the column of the rows
 abbrev pub rowColumn : List ℕ → List ℕ → (ℕ → Value) → ℕ → DataType → Bool → Bool → List ℕ
 rowColumn rule table v rows t nullable null =
-    fieldBytes 2 (typeNumber t ∷ markNumber nullable ∷ []) ++ fieldBytes 3 (rowValidity null v rows) ++ rowValues rule table v rows t
+    fieldBytes 2 (typeNumber t ∷ markNumber nullable ∷ []) ++ fieldBytes 6 (numberBytes 2 (rowNulls v rows)) ++ fieldBytes 3 (rowValidity null v rows)
+    ++ rowValues rule table v rows t
 
 -- the bytes of a row's payload
 abbrev pub plainNumbers : Bool → (ℕ → ℕ) → ℕ → List ℕ
 plainNumbers wide payload i = numberBytes (widthOf wide) (payload i)
 
--- tag 2, tag 3 without content and the head of tag 4: what stands before so many bytes of numbers none of which is null
+-- tag 2, tag 6 of no null, tag 3 without content and the head of tag 4: what stands before so many bytes of numbers none of which is null
 abbrev pub plainFront : DataType → Bool → ℕ → List ℕ
-plainFront t nullable size = fieldBytes 2 (typeNumber t ∷ markNumber nullable ∷ []) ++ fieldBytes 3 [] ++ (4 ∷ numberBytes 2 size)
+plainFront t nullable size = fieldBytes 2 (typeNumber t ∷ markNumber nullable ∷ []) ++ fieldBytes 6 (numberBytes 2 0) ++ fieldBytes 3 [] ++ (4 ∷ numberBytes 2 size)

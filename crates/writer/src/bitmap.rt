@@ -2,6 +2,7 @@
 use crate::put::put_byte;
 use crate::slot::get_slot;
 use layout::bits::bitmap_length;
+use layout::bits::ones_in;
 use scalar::value::Value;
 use scalar::value::kind;
 ghost use mathlib.Core.Path.{_≡_};
@@ -10,7 +11,7 @@ ghost use Prim.Native.Nat.{_+_, _*_, _<_, _≤_};
 ghost use lib.ListN.{length};
 ghost use Rattle.layout.specs.Bytes.{bitmapLength};
 ghost use Rattle.writer.specs.Slots.{slotAt};
-ghost use Rattle.writer.specs.Writing.{Wrote, RowsAsk, rowBytes, trueOf, flagOf, flagAt, bitsFrom, rowBits};
+ghost use Rattle.writer.specs.Writing.{BitsWrote, RowsAsk, rowBytes, trueOf, flagOf, flagAt, bitsFrom, rowBits};
 
 // Whether a value is true.
 fn is_true(v: Value) -> bool
@@ -63,17 +64,20 @@ fn bits_byte(work: &[u8], rows: usize, truth: bool, j: usize) -> u8
     n as u8
 }
 
-// The bitmap of the rows' bits.
+// The bitmap of the rows' bits, and how many of them are set.
 pub(crate) fn put_bits(work: &[u8], rows: usize, truth: bool, at: usize, output: &mut [u8]) -> usize
     requires { ⌜ RowsAsk (now work) rows × (at + length (rowBytes (rowBits truth (slotAt (now work)) rows) (bitmapLength rows)) ≤ length (now output)) ⌝ }
-    ensures { λ r. ⌜ Wrote (now (output .entry)) at (rowBytes (rowBits truth (slotAt (now (work .entry))) rows) (bitmapLength rows)) r (now (output .exit)) ⌝ }
+    ensures { λ r. ⌜ BitsWrote truth (slotAt (now (work .entry))) rows (now (output .entry)) at r (now (output .exit)) ⌝ }
 {
     let size = bitmap_length(rows);
     let mut p = at;
+    let mut set = 0;
     let mut j = 0;
     while j < size {
-        p = put_byte(output, p, bits_byte(work, rows, truth, j));
+        let b = bits_byte(work, rows, truth, j);
+        p = put_byte(output, p, b);
+        set += ones_in(b);
         j += 1;
     }
-    p
+    set
 }

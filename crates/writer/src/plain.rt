@@ -1,5 +1,6 @@
 // An answer of numbers none of which is null: 17 and nothing, or its bytes at the front of the output.
 use crate::RunAnswer;
+use crate::put::put_count;
 use crate::put::put_header;
 use crate::put::put_number;
 use crate::put::put_type;
@@ -75,11 +76,12 @@ pub(crate) fn write_plain(
 
 // The fields before the numbers, and the head of theirs.
 pub(crate) fn plain_front(rows: usize, t: DataType, nullable: bool, output: &mut [u8]) -> usize
-    requires { ⌜ (rows ≤ 512) × (8 + valuesSize t rows 0 ≤ length (now output)) ⌝ }
+    requires { ⌜ (rows ≤ 512) × (13 + valuesSize t rows 0 ≤ length (now output)) ⌝ }
     ensures { λ r. ⌜ Wrote (now (output .entry)) 0 (plainFront t nullable (valuesSize t rows 0 - 3)) r (now (output .exit)) ⌝ }
 {
     let p = put_type(output, 0, t, nullable);
-    let q = put_header(output, p, VALIDITY, 0);
+    let c = put_count(output, p, 0);
+    let q = put_header(output, c, VALIDITY, 0);
     let size = values_size(rows, t, 0) - 3;
     put_header(output, q, VALUES, size)
 }

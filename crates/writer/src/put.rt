@@ -92,3 +92,13 @@ pub(crate) fn put_type(output: &mut [u8], at: usize, t: DataType, nullable: bool
     let q = put_byte(output, p, type_number(t));
     put_byte(output, q, mark_number(nullable))
 }
+
+// Tag 6: how many rows are null.
+pub(crate) fn put_count(output: &mut [u8], at: usize, nulls: usize) -> usize
+    requires { ⌜ (at + 5 ≤ length (now output)) × (nulls < 65536) ⌝ }
+    ensures { λ r. ⌜ Wrote (now (output .entry)) at (fieldBytes 6 (numberBytes 2 nulls)) r (now (output .exit)) ⌝ }
+{
+    let p = put_header(output, at, 6, 2);
+    let _done = write_u16(output, p, nulls as u16);
+    p + 2
+}

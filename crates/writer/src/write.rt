@@ -5,6 +5,7 @@ use crate::bitmap::put_bits;
 use crate::numbers::put_numbers;
 use crate::plain::plain_rows;
 use crate::plain::write_plain;
+use crate::put::put_count;
 use crate::put::put_header;
 use crate::put::put_type;
 use crate::slot::get_slot;
@@ -16,6 +17,7 @@ use rule::types::type_number;
 use scalar::types::DataType;
 use scalar::value::kind;
 ghost use mathlib.Core.Path.{_≡_};
+ghost use mathlib.Core.Bool.{true};
 ghost use mathlib.Core.List.{_++_};
 ghost use Prim.Native.Nat.{suc, _+_, _<_, _≤_};
 ghost use lib.ListN.{length};
@@ -23,7 +25,7 @@ ghost use Rattle.layout.specs.Bytes.{bitmapLength};
 ghost use Rattle.layout.specs.Field.{fieldBytes};
 ghost use Rattle.writer.specs.Slots.{slotAt};
 ghost use Rattle.writer.specs.Write.{ColumnGives, WriteGives, WriteAsks, kindFits, lengthsFit, slotsFit, writable, rowsRun};
-ghost use Rattle.writer.specs.Writing.{Wrote, RowsAsk, someOfKind, rowBytes, rowNumbers, rowBits, rowText, rowOffset, rowValidity, rowValues, rowColumn, validitySize, valuesSize};
+ghost use Rattle.writer.specs.Writing.{Wrote, BitFieldWrote, ValidityWrote, RowsAsk, someOfKind, rowBytes, rowNumbers, rowBits, rowText, rowOffset, rowValues, rowColumn, validitySize, valuesSize};
 
 // Most rows, where their slots end, and most bytes of a rule and of a table.
 pub(crate) const ROWS_MOST: usize = 512;
@@ -205,12 +207,12 @@ pub(crate) fn values_size(rows: usize, t: DataType, text: usize) -> usize
 // How many bytes the answer takes.
 pub(crate) fn column_size(rows: usize, t: DataType, null: bool, text: usize) -> usize
     requires { ⌜ (rows ≤ 512) × (text ≤ 65535) ⌝ }
-    ensures { λ r. ⌜ r ≡ 8 + validitySize rows null + valuesSize t rows text ⌝ }
+    ensures { λ r. ⌜ r ≡ 13 + validitySize rows null + valuesSize t rows text ⌝ }
 {
-    8 + validity_size(rows, null) + values_size(rows, t, text)
+    13 + validity_size(rows, null) + values_size(rows, t, text)
 }
 
-// A field of the rows' bits.
+// A field of the rows' bits, and how many of them are set.
 fn put_bit_field(
     work: &[u8],
     rows: usize,
@@ -220,10 +222,19 @@ fn put_bit_field(
     output: &mut [u8],
 ) -> usize
     requires { ⌜ RowsAsk (now work) rows × (at + 3 + bitmapLength rows ≤ length (now output)) ⌝ }
-    ensures { λ r. ⌜ Wrote (now (output .entry)) at (fieldBytes tag (rowBytes (rowBits truth (slotAt (now (work .entry))) rows) (bitmapLength rows))) r (now (output .exit)) ⌝ }
+    ensures { λ r. ⌜ BitFieldWrote tag truth (slotAt (now (work .entry))) rows (now (output .entry)) at r (now (output .exit)) ⌝ }
 {
     let p = put_header(output, at, tag, bitmap_length(rows));
     put_bits(work, rows, truth, p, output)
+}
+
+// A field of the rows' truths.
+fn put_truth_field(work: &[u8], rows: usize, at: usize, output: &mut [u8]) -> usize
+    requires { ⌜ RowsAsk (now work) rows × (at + 3 + bitmapLength rows ≤ length (now output)) ⌝ }
+    ensures { λ r. ⌜ Wrote (now (output .entry)) at (fieldBytes 4 (rowBytes (rowBits true (slotAt (now (work .entry))) rows) (bitmapLength rows))) r (now (output .exit)) ⌝ }
+{
+    let _set = put_bit_field(work, rows, true, VALUES, at, output);
+    at + 3 + bitmap_length(rows)
 }
 
 // A field of the rows' numbers.
@@ -261,15 +272,16 @@ fn put_text_fields(
     put_texts(rule, table, work, rows, s, output)
 }
 
-// Tag 3: the bits of validity where some row is null, else nothing.
+// Tag 3: the bits of validity where some row is null, else nothing; and how many rows are null.
 fn put_validity(work: &[u8], rows: usize, null: bool, at: usize, output: &mut [u8]) -> usize
-    requires { ⌜ RowsAsk (now work) rows × (at + 3 + validitySize rows null ≤ length (now output)) ⌝ }
-    ensures { λ r. ⌜ Wrote (now (output .entry)) at (fieldBytes 3 (rowValidity null (slotAt (now (work .entry))) rows)) r (now (output .exit)) ⌝ }
+    requires { ⌜ RowsAsk (now work) rows × (null ≡ someOfKind (slotAt (now work)) 0 rows) × (at + 3 + validitySize rows null ≤ length (now output)) ⌝ }
+    ensures { λ r. ⌜ ValidityWrote null (slotAt (now (work .entry))) rows (now (output .entry)) at r (now (output .exit)) ⌝ }
 {
     if null {
-        return put_bit_field(work, rows, false, VALIDITY, at, output);
+        return rows - put_bit_field(work, rows, false, VALIDITY, at, output);
     }
-    put_header(output, at, VALIDITY, 0)
+    let _end = put_header(output, at, VALIDITY, 0);
+    0
 }
 
 // Tag 4, and before it tag 5 where the column is of text.
@@ -287,7 +299,7 @@ fn put_values(
     ensures { λ r. ⌜ Wrote (now (output .entry)) at (rowValues (now (rule .entry)) (now (table .entry)) (slotAt (now (work .entry))) rows t) r (now (output .exit)) ⌝ }
 {
     match t {
-        DataType::Boolean => put_bit_field(work, rows, true, VALUES, at, output),
+        DataType::Boolean => put_truth_field(work, rows, at, output),
         DataType::Int32 => put_number_field(work, rows, false, 4 * rows, at, output),
         DataType::Int64 => put_number_field(work, rows, true, 8 * rows, at, output),
         DataType::Float64 => put_number_field(work, rows, true, 8 * rows, at, output),
@@ -295,7 +307,7 @@ fn put_values(
     }
 }
 
-// The whole column.
+// The whole column. The null count, which stands before the validity, is known once the validity is written.
 fn put_column(
     rule: &[u8],
     table: &[u8],
@@ -307,10 +319,12 @@ fn put_column(
     text: usize,
     output: &mut [u8],
 ) -> usize
-    requires { ⌜ RowsAsk (now work) rows × (text ≡ length (rowBytes (rowText (now rule) (now table) (slotAt (now work))) rows)) × (text ≤ 65535) × (8 + validitySize rows null + valuesSize t rows text ≤ length (now output)) ⌝ }
+    requires { ⌜ RowsAsk (now work) rows × (text ≡ length (rowBytes (rowText (now rule) (now table) (slotAt (now work))) rows)) × (text ≤ 65535) × (null ≡ someOfKind (slotAt (now work)) 0 rows) × (13 + validitySize rows null + valuesSize t rows text ≤ length (now output)) ⌝ }
     ensures { λ r. ⌜ Wrote (now (output .entry)) 0 (rowColumn (now (rule .entry)) (now (table .entry)) (slotAt (now (work .entry))) rows t nullable null) r (now (output .exit)) ⌝ }
 {
     let p = put_type(output, 0, t, nullable);
-    let q = put_validity(work, rows, null, p, output);
-    put_values(rule, table, work, rows, t, text, q, output)
+    let nulls = put_validity(work, rows, null, p + 5, output);
+    let q = put_count(output, p, nulls);
+    let s = q + 3 + validity_size(rows, null);
+    put_values(rule, table, work, rows, t, text, s, output)
 }

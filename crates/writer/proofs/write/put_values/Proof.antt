@@ -28,7 +28,7 @@ put-values-spec =
     (λ c. search needs)
     (λ c κs. (c .before .before .before .before .before .before .before .pre .0, c .before .before .before .before .before .before .before .pre .1, c .before .before .before .before .before .before .before .pre .2, values-room (c .before .before .before .before .before .before .before .args .at) (c .before .before .before .before .before .before .before .args .rows) (c .before .before .before .before .before .before .before .args .text) _ (c .before .enum-told5 .given .1) (c .before .before .before .before .before .before .before .pre .3)))
     (λ c. search needs)
-    (λ c. values-as (now (c .before .before .before .before .before .before .before .before .before .before .args .rule)) (now (c .before .before .before .before .before .before .before .before .before .before .args .table)) (slotAt (now (c .before .before .before .before .before .before .before .before .before .before .args .work))) (c .before .before .before .before .before .before .before .before .before .before .args .rows) (c .before .before .before .before .enum-told .given .1) (c .before .before .put-bit-field .ensures))
+    (λ c. values-as (now (c .before .before .before .before .before .before .before .before .before .before .args .rule)) (now (c .before .before .before .before .before .before .before .before .before .before .args .table)) (slotAt (now (c .before .before .before .before .before .before .before .before .before .before .args .work))) (c .before .before .before .before .before .before .before .before .before .before .args .rows) (c .before .before .before .before .enum-told .given .1) (c .before .before .put-truth-field .ensures))
     (λ c. search needs)
     (λ c. values-as (now (c .before .before .before .before .before .before .before .before .before .before .args .rule)) (now (c .before .before .before .before .before .before .before .before .before .before .args .table)) (slotAt (now (c .before .before .before .before .before .before .before .before .before .before .args .work))) (c .before .before .before .before .before .before .before .before .before .before .args .rows) (c .before .before .before .before .enum-told2 .given .1) (c .before .before .put-number-field .ensures))
     (λ c. search needs)
