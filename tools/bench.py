@@ -1,10 +1,11 @@
 #!/usr/bin/env python3
-"""bench.py [--library ARCHIVE]... [--turns N] [--count]
+"""bench.py [--library ARCHIVE]... [--turns N] [--nulls] [--count]
 
 Times the readings of rules and tables through the static library, or through several of them in turns in one run, outside of the gate.
 
 ARCHIVE  target/staticlib/libtembalku.a unless said, which `rt staticlib tembalku` makes; a second one is compared with the first, and so on
 N        how often each reading is timed, the libraries in turn (default 5)
+--nulls  tables with null counts in their columns too, which libraries below 0.2 refuse
 --count  instructions of a reading too, by valgrind's callgrind
 
 Read are a flat rule of 32 branches, a deep rule, tables of 512 rows and 16 columns of each type (15 of the 8-byte types, which is as many as
@@ -35,11 +36,11 @@ def deep():
     return case(None, [(field(24, column(0, 2) + int32(2)), int32(5))], middle)
 
 
-def table(kind, nullable=1, rows=512):
+def table(kind, nullable=1, rows=512, counted=False):
     out = field(1, number(rows, 2))
     bits = bytes([0xff] * ((rows + 7) // 8))
     for _ in range(15 if kind in (3, 4) else 16):
-        out += field(2, bytes([kind, nullable])) + field(3, bits)
+        out += field(2, bytes([kind, nullable])) + (field(6, number(0, 2)) if counted else b"") + field(3, bits)
         if kind == 5:
             out += field(5, b"".join(number(2 * i, 4) for i in range(rows + 1))) + field(4, b"ab" * rows)
         elif kind == 1:
@@ -49,13 +50,15 @@ def table(kind, nullable=1, rows=512):
     return out
 
 
-def readings():
+def readings(nulls):
     """Which reading, a name and the bytes."""
     yield "rule", "flat rule", flat()
     yield "rule", "deep rule", deep()
     for kind in range(1, 6):
         yield "table", f"table of type {kind}", table(kind)
     yield "table", "bitmaps", table(1, nullable=0)
+    for kind in range(1, 6) if nulls else ():
+        yield "table", f"type {kind}, counted", table(kind, counted=True)
 
 
 def said(*words):
@@ -95,11 +98,12 @@ def main():
     a = argparse.ArgumentParser(usage=__doc__)
     a.add_argument("--library", action="append")
     a.add_argument("--turns", type=int, default=5)
+    a.add_argument("--nulls", action="store_true")
     a.add_argument("--count", action="store_true")
     args = a.parse_args()
     with tempfile.TemporaryDirectory() as folder:
         programs = [build(archive, os.path.join(folder, f"bench-{i}")) for i, archive in enumerate(args.library or [ARCHIVE])]
-        for kind, name, data in readings():
+        for kind, name, data in readings(args.nulls):
             path = os.path.join(folder, "bytes")
             with open(path, "wb") as out:
                 out.write(data)

@@ -37,7 +37,8 @@ bits; text as "text" (with \\" and \\\\) or x"00ff"; null. Expressions:
     (col NAME)                 the column as the table has it
     (col NAME TYPE [null])     with a type and a mark of the rule's own; a number may stand for the name
 
-Rows and unnamed columns are counted from 0. The numbers of refusals are explained in docs/REFUSALS.md, the bytes in docs/FORMAT.md.
+Rows and unnamed columns are counted from 0. Tables are written with their columns' null counts; bytes are read with them and without. The
+numbers of refusals are explained in docs/REFUSALS.md, the bytes in docs/FORMAT.md.
 """
 import argparse
 import os

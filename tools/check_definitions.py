@@ -4,9 +4,9 @@
 Has the checker compute the definitions of specs/ on stored cases, each by `refl`, in a scratch crate outside of the tree.
 
 SCRATCH  a folder to make; it must not lie in this repository
-FOLDER   a folder with rules.txt, listing.txt and runs.txt; tools/cases and tools/cases/change-2 unless said
+FOLDER   a folder with rules.txt, listing.txt and runs.txt, or some of them; tools/cases and the folders in it unless said
 rules.txt is taken whole: strategy, nullability and projection. Of listing.txt and runs.txt N cases each are taken (default
-300; `--listing 976 --runs 450` takes all), refusals and strategies in turn so that each kind is among them, those of at most BYTES
+300; `--listing 1366 --runs 898` takes all), refusals and strategies in turn so that each kind is among them, those of at most BYTES
 bytes of rule and table first. Prints how many agreed, by kind, and the first that did not.
 """
 import argparse

@@ -23,7 +23,7 @@ from dealer.layout import rule_bytes, table_bytes  # noqa: E402
 from dealer.library import Library  # noqa: E402
 from dealer.reading import read_answer, read_rule, read_table  # noqa: E402
 from dealer.text import FileError, load_bytes, parse  # noqa: E402
-from dealer.tree import TITLES, UTF8  # noqa: E402
+from dealer.tree import TITLES, UTF8, counted  # noqa: E402
 from dealer.words import explanation, value_text  # noqa: E402
 
 TARGETS = os.path.join(ROOT, "examples", "targets")
@@ -56,6 +56,8 @@ class Lines:
         """A column's fields; values are its entries."""
         self.head(f"{title}type and null mark", 0)
         self.take(2, f"    {TITLES[kind]}, {'nullable' if nullable else 'never null'}")
+        self.head("null count")
+        self.take(2, f"    {counted(values.count(None), 'null')}")
         size = self.head("validity" if None in values else "validity, no null")
         if size:
             nulls = [str(i) for i, v in enumerate(values) if v is None]
@@ -139,9 +141,14 @@ def said(so, rule, table, answer):
     count = so.tembalku_rule_projection(rule, ctypes.c_size_t(len(rule)), columns, ctypes.c_size_t(256)) - 256
     kind, strategy, nullable = (getattr(so, f"tembalku_rule_{name}")(rule, ctypes.c_size_t(len(rule))) - 256 for name in ("read", "strategy", "nullable"))
     rows = so.tembalku_table_read(table, ctypes.c_size_t(len(table))) - 65536
+    so.tembalku_table_null_count.restype = so.tembalku_answer_null_count.restype = ctypes.c_size_t
+    nulls = [so.tembalku_table_null_count(table, ctypes.c_size_t(len(table)), ctypes.c_size_t(i)) - 65536 for i in range(len(read_table(table)[1]))]
+    of_answer = so.tembalku_answer_null_count(answer, ctypes.c_size_t(len(answer)), ctypes.c_size_t(rows)) - 65536
     return (f"{len(answer)} bytes, so that `tembalku_evaluate` gives {65536 + len(answer):,}. Of the rule the functions say: type 256 + {kind}, "
             f"strategy 256 + {strategy}, nullability 256 + {nullable}, projection 256 + {count} "
-            f"(columns {' and '.join(str(i) for i in columns.raw[:count])}). Of the table `tembalku_table_read` says 65,536 + {rows}.")
+            f"(columns {' and '.join(str(i) for i in columns.raw[:count])}). Of the table `tembalku_table_read` says 65,536 + {rows}, "
+            f"`tembalku_table_null_count` of its columns 65,536 + {', + '.join(map(str, nulls[:-1]))} and + {nulls[-1]}. "
+            f"Of the answer `tembalku_answer_null_count` says 65,536 + {of_answer}.")
 
 
 def section(page, heading):

@@ -34,6 +34,12 @@ def numbers_in(words):
     return [number(n) for n in re.findall(r"\d[\d,]*", words)]
 
 
+def spans(words):
+    """The numbers of words as `1 to 3, 25` or `1 to 3 and 25`."""
+    pairs = re.findall(r"(\d+)(?: to (\d+))?", words)
+    return [n for low, high in pairs for n in range(int(low), int(high or low) + 1)]
+
+
 def spec_number(path, name):
     """The number of a definition `name = number`."""
     return int(found(rf"^{name} = (\d+)$", f"crates/{path}"))
@@ -57,6 +63,7 @@ def upper(name):
 # ---- the header ----
 
 HEADER = "include/tembalku.h"
+CODES = "crates/tembalku/specs/Codes.antt"
 
 
 def macro(name):
@@ -85,13 +92,13 @@ def header_functions():
 def header_refusals():
     """The refusals `refusal (1 to 8)` that a function's comment names."""
     commented = re.findall(r"/\*((?:(?!\*/)[\s\S])*)\*/\n(?:uint32_t|size_t) (tembalku_\w+)\(", text(HEADER))
-    return {name: set(re.findall(r"refusal \((\d+) to (\d+)\)", comment)) for comment, name in commented}
+    return {name: [spans(said) for said in re.findall(r"refusal \(([\d to,]+)\)", comment)] for comment, name in commented}
 
 
 # ---- the code ----
 
 RESULTS = {"u32": "uint32_t", "usize": "size_t"}
-SLICES = {"&[u8]": "const uint8_t *{0}, size_t {0}_len", "&mut [u8]": "uint8_t *{0}, size_t {0}_len"}
+ARGUMENTS = {"&[u8]": "const uint8_t *{0}, size_t {0}_len", "&mut [u8]": "uint8_t *{0}, size_t {0}_len", "usize": "size_t {0}"}
 
 
 def code_functions():
@@ -99,8 +106,8 @@ def code_functions():
     exported = re.findall(r'^pub extern "C" fn (\w+)\(([^)]*)\) -> (\w+)', text("crates/tembalku/src/lib.rt"), re.M)
     out = {}
     for name, arguments, result in exported:
-        pairs = re.findall(r"(\w+): (&(?:mut )?\[u8\])", arguments)
-        out[name] = (RESULTS[result], ", ".join(SLICES[kind].format(argument) for argument, kind in pairs))
+        pairs = re.findall(r"(\w+): (&(?:mut )?\[u8\]|usize)", arguments)
+        out[name] = (RESULTS[result], ", ".join(ARGUMENTS[kind].format(argument) for argument, kind in pairs))
     return out
 
 
@@ -118,21 +125,23 @@ def refusals():
     of_rule, of_table, of_run = (spec_list(path, name + "Refusals") for name in ("rule", "table", "evaluation"))
     of_builder = spec_list(path, "builderRefusals")
     numbers = of_rule + of_table + of_run + [n for n in of_builder if n not in of_table]
-    yield "the refusals' numbers", sorted(enum("refusal").values()), numbers
+    yield "the refusals' numbers", sorted(enum("refusal").values()), sorted(numbers)
     yield "the numbers of docs/REFUSALS.md", sorted(enum("refusal").values()), [int(n) for n, _, _, _ in rows]
     for n in sorted(set(paper) | set(header_sentences()), key=str):
         yield f"the sentence of refusal {n}", header_sentences().get(n), paper.get(n)
     for about, specified in (("rule", of_rule), ("table", of_table), ("builder", of_builder[1:])):
         yield f"docs/REFUSALS.md: about the {about}", [int(n) for n, a, _, _ in rows if a == about], specified
+    # a column by itself isn't tested for 12
+    alone = [n for n in of_table if n != 12]
     for name in header_functions():
-        which = of_table if "table" in name else of_rule if "rule" in name else of_rule + of_table + of_run
-        yield f"{name}: its refusals", header_refusals().get(name), {(str(which[0]), str(which[-1]))}
+        which = of_table if "table" in name else of_rule if "rule" in name else alone if "answer" in name else of_rule + of_table + of_run
+        yield f"{name}: its refusals", header_refusals().get(name), [sorted(which)]
 
 
 def limits():
     """The limits by the specifications."""
     rows, texts = spec_number("table/specs/Reading.antt", "rowsMost"), spec_number("writer/specs/Written.antt", "textMost")
-    longest = (3 + 2) + (3 + (rows + 7) // 8) + (3 + 4 * (rows + 1)) + (3 + texts)
+    longest = (3 + 2) + (3 + 2) + (3 + (rows + 7) // 8) + (3 + 4 * (rows + 1)) + (3 + texts)
     return {
         "RULE_MOST": int(found(r"require \(ltb 0 \(length bytes\) && leb \(length bytes\) (\d+)\) 1$", "crates/rule/specs/Reading.antt")),
         "TABLE_MOST": spec_number("table/specs/Reading.antt", "bytesMost"),
@@ -181,7 +190,7 @@ def words():
     yield "where refusals end, in words", int(found(r"below TEMBALKU_RULE_ACCEPTED \((\d+)\) it is a refusal", HEADER)), macro("RULE_ACCEPTED")
     yield "the most columns of a projection, in words", int(found(r"number, at most (\d+)\. They are", HEADER)), most["PROJECTION_MOST"]
     counted = {name: macro(accepted(name)) for name in header_functions()}
-    said = re.findall(r"refusal \([^)]*\), or ([\d,]+) and[\s\S]*?\n(?:uint32_t|size_t) (tembalku_\w+)\(", text(HEADER))
+    said = re.findall(r"refusal \([^)]*\)[^,;]*, or\s+(?:\* )?([\d,]+) and[\s\S]*?\n(?:uint32_t|size_t) (tembalku_\w+)\(", text(HEADER))
     yield "what answers count from, in words", {name: number(n) for n, name in said}, counted
     said = re.findall(r"^\| `(tembalku_\w+)` \| .* \| ([\d,]+) \+ ", text("docs/FORMAT.md"), re.M)
     yield "what answers count from, in docs/FORMAT.md", {name: number(n) for name, n in said}, counted
@@ -189,32 +198,35 @@ def words():
 
 def accepted(function):
     """The name of what a function's answers count from."""
-    return "ANSWERED" if "evaluate" in function else "TABLE_ACCEPTED" if "table" in function else "RULE_ACCEPTED"
+    return "TABLE_ACCEPTED" if "table" in function else "RULE_ACCEPTED" if "rule" in function else "ANSWERED"
 
 
 def states():
     """At which refusals the work buffer is untouched and at which it is zero, wherever that is said."""
     path = "layout/specs/Refusals.antt"
-    run = [n for name in ("rule", "table", "evaluation") for n in spec_list(path, name + "Refusals")]
-    last = int(found(r"^workAfter \(refused n\) work = cond \(leb n (\d+)\) work \(zeros work\)$", "crates/case/specs/Run.antt"))
-    untouched, zero = [run[0], last], [last + 1, run[-1]]
+    run = sorted(n for name in ("rule", "table", "evaluation") for n in spec_list(path, name + "Refusals"))
+    name = found(r"^workAfter \(refused n\) work = cond \(among (\w+) n\) \(zeros work\) work$", "crates/case/specs/Run.antt")
+    zero = spec_list(path, name)
+    untouched = [n for n in run if n not in zero]
     for file in (HEADER, "docs/FORMAT.md"):
-        said = found(r"at an answer and at (\d+ to \d+), and untouched at (\d+ to \d+)\.", file)
-        yield f"{file}: the work buffer's states", [numbers_in(s) for s in said], [zero, untouched]
-    said = re.findall(r"^\| (\d+ to \d+) \| (untouched|zero) \| untouched \|$", text("docs/REFUSALS.md"), re.M)
-    yield "docs/REFUSALS.md: the work buffer's states", [(numbers_in(s), state) for s, state in said], [(untouched, "untouched"), (zero, "zero")]
-    builder = spec_list(path, "builderRefusals")[1:]
-    said = numbers_in(found(r"^/\* Refusals\. The library's functions give (.*) are the result builder's\.", HEADER))
-    yield "the refusals of functions and builder, in words", said, [run[0], run[-1], builder[0], builder[-1]]
+        said = found(r"at an answer and at (\d+ to \d+), and untouched at (\d+ to \d+ and \d+)\.", file)
+        yield f"{file}: the work buffer's states", [spans(s) for s in said], [zero, untouched]
+    said = re.findall(r"^\| ([\d to,]+) \| (untouched|zero) \| untouched \|$", text("docs/REFUSALS.md"), re.M)
+    yield "docs/REFUSALS.md: the work buffer's states", [(spans(s), state) for s, state in said], [(untouched, "untouched"), (zero, "zero")]
+    said = found(r"^/\* Refusals\. The library's functions give (.*); (.*) are the result builder's\.", HEADER)
+    yield "the refusals of functions and builder, in words", [spans(s) for s in said], [run, spec_list(path, "builderRefusals")[1:]]
 
 
 def numbers():
     for name, limit in limits().items():
         yield f"TEMBALKU_{name}", macro(name), limit
     yield "TEMBALKU_OUTPUT_BYTES", macro("OUTPUT_BYTES"), int(found(r"^given c = run .* (\d+)$", "crates/case/specs/Cases.antt"))
-    for name, codes in (("RULE_ACCEPTED", ("rule", "strategy", "nullable", "projection")), ("TABLE_ACCEPTED", ("table",)), ("ANSWERED", ("run",))):
+    for name, codes in (("RULE_ACCEPTED", ("rule", "strategy", "nullable", "projection")), ("TABLE_ACCEPTED", ("table", "nullCount")),
+                        ("ANSWERED", ("run", "answerCount"))):
         for code in codes:
-            yield f"TEMBALKU_{name}, {code}Code", macro(name), int(found(rf"^{code}Code \(ok \w+\) = (\d+) \+", "crates/tembalku/specs/Codes.antt"))
+            yield f"TEMBALKU_{name}, {code}Code", macro(name), int(found(rf"^{code}Code (?:rows )?\((?:ok|Nulls) \w+\) = (\d+) \+", CODES))
+    yield "TEMBALKU_NO_COLUMN", macro("NO_COLUMN"), int(found(r"^nullCountCode NoColumn = (\d+)$", CODES))
+    yield "a missing column, in words", int(found(r"their number; or (\d+)\n \* \(TEMBALKU_NO_COLUMN\), which is no refusal", HEADER)), macro("NO_COLUMN")
     yield "the types", enum("type"), {upper(name): n for name, n in numbered("typeNumber", "crates/scalar/specs/Types.antt").items()}
     yield "the strategies", enum("strategy"), {upper(name): n for name, n in numbered("strategyNumber", "crates/rule/specs/Strategy.antt").items()}
     yield "the functions", header_functions(), code_functions()
@@ -240,7 +252,7 @@ def elsewhere():
     yield "the strategies of docs/FORMAT.md", enum("strategy"), strategies
     tags = [int(n) for n in re.findall(r"^\| (1[6-9]|2\d) \| ", page, re.M)]
     yield "the tags of docs/FORMAT.md", list(numbered("tagOf", "crates/rule/specs/Reading.antt").values()), tags
-    said = {name: {(low, high)} for name, low, high in re.findall(r"^\| `(tembalku_\w+)` \| (\d+) to (\d+) \|", page, re.M)}
+    said = {name: [spans(n)] for name, n in re.findall(r"^\| `(tembalku_\w+)` \| ([\d to,]+) \|", page, re.M)}
     yield "the functions' refusals in docs/FORMAT.md", header_refusals(), said
 
 

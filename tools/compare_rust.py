@@ -3,7 +3,8 @@
 port on the same cases.
 
 Makes N random rules with tables (rule_generator.py), runs the static library (`rt staticlib tembalku`, through stream_library.c) and the
-Rust (rust_oracle/README.md) on each, and compares entries and failures, strategy, projection and nullability. Prints how many agree and
+Rust (rust_oracle/README.md) on each, and compares entries and failures, strategy, projection and nullability. The Rust writes no null
+counts: the port's, of the answer and of the table's columns, are compared with the numbers of null entries. Prints how many agree and
 differ in each class (case_classes.py). A difference is explained when a named class holds of its input and, where the Rust can be run
 without the difference, that run agrees with the port; every other difference, and a case that one side alone takes, is shrunk and
 printed, and the exit status is 1. Then it compares ResultBuilder (compare_builder.py) if rt is on the path.
@@ -44,8 +45,9 @@ LONG = "more than 65535 bytes of text"
 # the classes in which the port must refuse
 REFUSED = {CONSTANT_CAST: "refused 8", LONG_TEXT: "refused 16"}
 
-# What one side said. `entries`: "failed", "panicked", "unreadable", "refused N", LONG, or the answer's bytes with 0 for the nullable byte.
-Said = collections.namedtuple("Said", "read strategy nullable projection entries")
+# What one side said. `entries`: "failed", "panicked", "unreadable", "refused N", LONG, or the answer's bytes without tag 6 and with 0 for the
+# nullable byte. `nulls`, of the port: the answer's tag 6, or nothing, and what the functions say of the columns' and the answer's nulls.
+Said = collections.namedtuple("Said", "read strategy nullable projection entries nulls", defaults=(None,))
 
 
 # ---- running ----
@@ -96,15 +98,16 @@ class Programs:
 
 def port_answers(lines):
     out = []
-    for about, entries in zip(lines[::2], lines[1::2], strict=True):
+    for about, entries, nulls in zip(lines[::3], lines[1::3], lines[2::3], strict=True):
         read, strategy, nullable, _, *projection = map(int, about.split())
+        count = b""
         if not entries.startswith("refused"):
             data = bytearray.fromhex(entries)
             if (data[3], data[4]) != (read - 256, nullable - 256):
                 raise RuntimeError("the answer's type or nullable byte is not what is read off the rule")
             data[4] = 0
-            entries = bytes(data)
-        out.append(Said(read, strategy - 256, str(nullable - 256), projection, entries))
+            count, entries = cut_count(bytes(data))
+        out.append(Said(read, strategy - 256, str(nullable - 256), projection, entries, (count, list(map(int, nulls.split())))))
     return out
 
 
@@ -138,14 +141,30 @@ def entry(kind, word):
 
 
 def answer(listing, nullable):
-    """A listing as the answer's bytes (01, Bytes of a table); LONG if its text doesn't fit a field."""
+    """A listing as the answer's bytes without tag 6 (01, Bytes of a table); LONG if its text doesn't fit a field."""
     head = listing[0].split()
     kind = int(head[3])
     values = [entry(kind, line.split()[1]) for line in listing[1:]]
     try:
-        return column_bytes(kind, nullable, values)
+        return cut_count(column_bytes(kind, nullable, values))[1]
     except OverflowError:
         return LONG
+
+
+def cut_count(data):
+    """The field of tag 6 behind tag 2 of an answer, and the answer without it. What stands there is cut off as it is."""
+    size = 3 + int.from_bytes(data[6:8], "little") if data[5:6] == b"\6" else 0
+    return data[5:5 + size], data[:5] + data[5 + size:]
+
+
+def null_entries(entries, rows):
+    """How many of so many entries are null, by the bits of an answer without tag 6 (02, Change 3)."""
+    valid = entries[8:8 + int.from_bytes(entries[6:8], "little")]
+    return sum(not valid[i // 8] >> i % 8 & 1 for i in range(rows)) if valid else 0
+
+
+def count_field(nulls):
+    return field(6, number(nulls, 2))
 
 
 # ---- comparing ----
@@ -158,6 +177,18 @@ def entries_agree(port, rust):
 
 def answers_agree(port, rust):
     return port.strategy == rust.strategy and port.projection == rust.projection
+
+
+def nulls_agree(c, port):
+    """Whether the port's null counts are the numbers of null entries: of each column, behind which there is none, and of the answer."""
+    if port.nulls is None:
+        return True
+    (rows, columns), (count, said) = c.table, port.nulls
+    wanted = [65536 + col[3].count(None) for col in columns] + [256]
+    if isinstance(port.entries, str):
+        return (count, said) == (b"", wanted + [0])
+    nulls = null_entries(port.entries, rows)
+    return (count, said) == (count_field(nulls), wanted + [65536 + nulls])
 
 
 def kind_of_difference(port, rust):
@@ -188,7 +219,7 @@ class Tally:
     def __init__(self, programs):
         self.programs = programs
         self.entries, self.nullable = collections.defaultdict(lambda: [0, 0]), collections.defaultdict(lambda: [0, 0])
-        self.answers, self.spread = [0, 0], collections.Counter()
+        self.answers, self.nulls, self.spread = [0, 0], [0, 0], collections.Counter()
         self.unexplained, self.kinds = [], {}
 
     def add(self, cases):
@@ -209,6 +240,9 @@ class Tally:
             self.unexplained.append((c, "entries"))
         elif without is not None and len(named) == 1:
             self.keep((named[0], kind_of_difference(port, rust)), c)
+        self.nulls[not nulls_agree(c, port)] += 1
+        if not nulls_agree(c, port):
+            self.unexplained.append((c, "nulls"))
         if CONSTANT_CAST in named:
             return
         about = answers_agree(port, rust)
@@ -235,12 +269,18 @@ class Tally:
     def count(self, c, port):
         words = [f"strategy {port.strategy}", f"type {WORDS.get(port.read - 256)}", f"nested {min(3, sum(x[0] == 'case' for x in nodes(c.rule)) - 1)}"]
         words.append("failed" if port.entries == "refused 15" else "no rows" if c.table[0] == 0 else "answered")
+        words += count_words(c)
         self.spread.update(words + float_words(c.rule, port.entries == "refused 15"))
 
 
 def float_words(rule, failed):
     """What is counted of a rule with a cast between Float64 and an integer (02, Change 2)."""
     return ["float cast"] + ["float cast failed"] * failed if case_classes.casts_floats(rule) else []
+
+
+def count_words(c):
+    """What is counted of a table with null counts (02, Change 3)."""
+    return ["null counts in the table"] * rule_generator.has_counts(c)
 
 
 # ---- shrinking ----
@@ -259,6 +299,8 @@ def differs_so(programs, what, named):
         about = what == "answers" or what.startswith("nullab")
         if r.entries == "unreadable" or not takes(p) and (about or p.read != 8):
             return None, None
+        if what == "nulls":
+            return what if not nulls_agree(c, p) else None, named
         if what == "answers":
             return what if not answers_agree(p, r) else None, named
         if what.startswith("nullab"):
@@ -276,7 +318,7 @@ def differs_so(programs, what, named):
 
 def takes(port):
     """Whether the port takes the rule and the table."""
-    return port.read > 256 and port.entries not in [f"refused {n}" for n in (9, 10, 11, 12, 13)]
+    return port.read > 256 and port.entries not in [f"refused {n}" for n in (9, 10, 11, 12, 13, 25)]
 
 
 def accepted(port, rust):
@@ -345,7 +387,8 @@ def report(tally, count, seconds):
         for name in sorted(table, key=order.index):
             print(f"  {name:43} {table[name][0]:8} {table[name][1]:8}")
         if table is tally.entries:
-            print(f"{'strategy and projection':45} {tally.answers[0]:8} {tally.answers[1]:8}\nnullability")
+            print(f"{'strategy and projection':45} {tally.answers[0]:8} {tally.answers[1]:8}")
+            print(f"{'null counts':45} {tally.nulls[0]:8} {tally.nulls[1]:8}\nnullability")
     print("spread: " + ", ".join(f"{k} {tally.spread[k]}" for k in sorted(tally.spread)))
     more = f", the first {SHRUNK_MOST} below" if len(tally.unexplained) > SHRUNK_MOST else ""
     print(f"unexplained differences: {len(tally.unexplained)}{more}")
@@ -381,12 +424,11 @@ def storable(c, rust):
 
 
 def run_record(c, rust):
-    """The Rust's answer as a run: 15, or 0 and the answer's bytes with the Rust's nullability."""
+    """The Rust's answer as a run: 15, or 0 and the answer's bytes with the Rust's nullability and the number of its null entries."""
     want = b"\x0f"
     if rust.entries != "failed":
-        data = bytearray(rust.entries)
-        data[4] = int(rust.nullable)
-        want = b"\0" + bytes(data)
+        head, rest = rust.entries[:4] + bytes([int(rust.nullable)]), rust.entries[5:]
+        want = b"\0" + head + count_field(null_entries(rust.entries, c.table[0])) + rest
     return record(rule_bytes(c.rule), rule_generator.table_bytes(c), 65536, 65536, want)
 
 
@@ -434,7 +476,7 @@ def store_answers(args, programs):
     for c, rust in both:
         failed = rust.entries == "failed"
         spread.update([f"strategy {rust.strategy}", f"type {case_classes.kind_of(c.rule)}", "failed" if failed else "answered"])
-        spread.update(float_words(c.rule, failed))
+        spread.update(float_words(c.rule, failed) + count_words(c))
     print(", ".join(f"{k} {spread[k]}" for k in sorted(spread)))
     return 0
 

@@ -3,7 +3,7 @@
 #
 #   include/tembalku.h
 #   lib/libtembalku.a              the static library
-#   lib/libtembalku.so.VERSION     a shared object, linked from it; libtembalku.so and libtembalku.so.MAJOR name it
+#   lib/libtembalku.so.VERSION     a shared object, linked from it; libtembalku.so and libtembalku.so.MAJOR.MINOR name it
 #   lib/pkgconfig/tembalku.pc      for `pkg-config --cflags --libs tembalku`
 #   share/doc/tembalku/            NOTICE, FORMAT.md, REFUSALS.md
 #
@@ -29,16 +29,16 @@ if [ $# -eq 1 ]; then
     library=$(realpath target/staticlib/libtembalku.a)
 fi
 version=$(sed -n 's/^#define TEMBALKU_VERSION "\(.*\)"$/\1/p' include/tembalku.h)
-major=${version%%.*}
+series=${version%.*}    # below 1.0 a minor version may change the answer's bytes
 
 mkdir -p "$prefix/include" "$prefix/lib/pkgconfig" "$prefix/share/doc/tembalku"
 shared=libtembalku.so.$version
 exports=$(mktemp)
 trap 'rm -f "$exports"' EXIT
 echo '{ global: tembalku_*; local: *; };' > "$exports"
-gcc -shared -o "$prefix/lib/$shared" -Wl,-soname,"libtembalku.so.$major" -Wl,--version-script,"$exports" -Wl,-z,defs -Wl,-z,text \
+gcc -shared -o "$prefix/lib/$shared" -Wl,-soname,"libtembalku.so.$series" -Wl,--version-script,"$exports" -Wl,-z,defs -Wl,-z,text \
     -Wl,--whole-archive "$library" -Wl,--no-whole-archive || fail "$library: can't be linked"
-ln -sf "$shared" "$prefix/lib/libtembalku.so.$major"
+ln -sf "$shared" "$prefix/lib/libtembalku.so.$series"
 ln -sf "$shared" "$prefix/lib/libtembalku.so"
 install -m 644 "$library" "$prefix/lib/libtembalku.a"
 install -m 644 include/tembalku.h "$prefix/include/tembalku.h"

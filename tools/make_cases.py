@@ -6,19 +6,21 @@ crates/rule_cases/data/rulesK.bin    records of: rule's length (2 bytes), rule, 
                                      behind the root CASE, and every rule of listing.txt that is refused as a rule
 crates/rule_cases/args, stdout       its files, rulesK.bin and the rustK.bin that are there (the same records, not made here), and how many
                                      rules each has
-crates/table_cases/data/tablesK.bin  records of: table's length (4 bytes), table; all refused tables of listing.txt, and 100 accepted
-crates/table_cases/stdout            for each table its number, and the refusal, or its rows and each column's entries
+crates/table_cases/data/tablesK.bin  records of: table's length (4 bytes), table; all refused tables of listing.txt, and 20 accepted of each
+                                     folder, those above 4,096 bytes left out
+crates/table_cases/stdout            for each table its number, and the refusal, or its rows and each column's nulls and entries
 
 rules.txt has no types: a rule's type is worked out from its bytes, and compared with that of the rule's answers in listing.txt and runs.txt.
 Numbers are little-endian. No file is longer than 65,536 bytes.
 """
 import os
 
-from stored_cases import CRATES, fields_of, listed_runs, number, rules, runs
+from stored_cases import CRATES, FOLDERS, fields_of, listed_runs, number, rules, runs
 
 MOST = 65536
 BEHIND_ROOT = 10
-ACCEPTED_TABLES = 100
+ACCEPTED_TABLES = 20
+TABLE_REFUSALS = (9, 10, 11, 12, 25)
 
 
 def path(crate, *names):
@@ -125,35 +127,42 @@ def entry(kind, offsets, values, i):
     return n[::-1].hex() if kind == 4 else str(int.from_bytes(n, "little", signed=True))
 
 
+def columns_of(table):
+    """The fields of each column of an accepted table, by their tags."""
+    columns = []
+    for tag, content in list(fields_of(table))[1:]:
+        if tag == 2:
+            columns.append({})
+        columns[-1][tag] = content
+    return columns
+
+
 def listed(table):
     """The rows and columns of an accepted table, a line each."""
-    parts = list(fields_of(table))
-    rows = int.from_bytes(parts[0][1], "little")
-    lines, column = [f"rows {rows}"], 0
-    for k, (tag, content) in enumerate(parts):
-        if tag != 2:
-            continue
-        kind, nullable = content
-        valid = parts[k + 1][1]
-        offsets = parts[k + 2][1] if kind == 5 else b""
-        values = parts[k + (3 if kind == 5 else 2)][1]
-        entries = [entry(kind, offsets, values, i) if not valid or bit(valid, i) else "null" for i in range(rows)]
-        lines.append(" ".join([f"column {column} type {kind} nullable {nullable}:"] + entries))
-        column += 1
+    rows = int.from_bytes(table[3:5], "little")
+    lines = [f"rows {rows}"]
+    for i, column in enumerate(columns_of(table)):
+        kind, nullable = column[2]
+        valid = [not column[3] or bit(column[3], row) for row in range(rows)]
+        entries = [entry(kind, column.get(5), column[4], row) if valid[row] else "null" for row in range(rows)]
+        lines.append(" ".join([f"column {i} type {kind} nullable {nullable} nulls {entries.count('null')}:"] + entries))
     return lines
 
 
 def stored_tables():
-    accepted, seen = 0, set()
-    for _, _, table, _, _, want in listed_runs():
-        if table in seen or len(table) > 4096:
-            continue
-        refused = want[1] if want[0] == "refused" and 9 <= want[1] <= 12 else 0
-        if not refused and (want[0] == "refused" and want[1] <= 12 or accepted == ACCEPTED_TABLES):
-            continue
-        seen.add(table)
-        accepted += not refused
-        yield number(len(table), 4) + table, [f"refused {refused}"] if refused else listed(table)
+    seen = set()
+    for folder in FOLDERS:
+        accepted = 0
+        for _, _, table, _, _, want in listed_runs([folder]):
+            refused = want[1] if want[0] == "refused" else 0
+            if table in seen or len(table) > 4096 or 0 < refused <= 8:
+                continue
+            if refused not in TABLE_REFUSALS:
+                if accepted == ACCEPTED_TABLES:
+                    continue
+                accepted, refused = accepted + 1, 0
+            seen.add(table)
+            yield number(len(table), 4) + table, [f"refused {refused}"] if refused else listed(table)
 
 
 def make_tables():

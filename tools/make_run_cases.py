@@ -1,10 +1,10 @@
 #!/usr/bin/env python3
 """make_run_cases.py: writes the data of the programs caserun and run_cases, from the stored cases of tools/cases.
 
-crates/caserun/data/listings.bin    all of listing.txt
+crates/caserun/data/listingsK.bin   all of listing.txt, in as many files as it takes; caserun/args names them
 crates/caserun/stdout               the listing of caserun's rule.bin and batch.bin, which is P1's, and those of listing.txt behind it
 crates/run_cases/data/runs.bin      all of runs.txt
-crates/run_cases/data/refusals.bin  the refused cases of listing.txt as runs, since runs.txt has no 1 to 8, 12, 15 and 16: what they leave in memory
+crates/run_cases/data/refusals.bin  the refused cases of listing.txt as runs, since runs.txt has no 1 to 8 and 16: what they leave in memory
 crates/run_cases/data/limits.bin    listings at both ends of limits: no rows, 512 and 513 rows, 32 and 33 branches, which document 01 says are run
                                     only; rules of 4,096 and 4,097 bytes, tables of 65,536 and 65,537 bytes
 crates/run_cases/stdout             how many of each of its files there are; rust.bin, the Rust's answers, is made by compare_rust.py and counted here
@@ -16,6 +16,7 @@ import os
 
 from stored_cases import CRATES, FULL, bitmap, field, listed_runs, listings, number, offsets, runs
 
+# what the programs hold of a file and of buffers
 MOST_FILE, MOST_WORK, MOST_OUTPUT = 524287, 70000, 65536
 HEAD = 20
 
@@ -58,11 +59,12 @@ def value(kind, i):
     return data, data[::-1].hex() if kind == 4 else str(signed)
 
 
-def column(kind, values, valid=None):
-    """A column of the table; nullable where it has validity bits."""
+def column(kind, values, valid=None, counted=False):
+    """A column of the table; nullable where it has validity bits; with its null count or without."""
     data = bitmap([v[0] for v in values]) if kind == 1 else b"".join(values)
     places = offsets(values) if kind == 5 else b""
-    return field(2, bytes([kind, int(valid is not None)])) + field(3, bitmap(valid or [])) + places + field(4, data)
+    nulls = field(6, number((valid or []).count(False), 2)) if counted else b""
+    return field(2, bytes([kind, int(valid is not None)])) + nulls + field(3, bitmap(valid or [])) + places + field(4, data)
 
 
 def named(index, kind, nullable=0):
@@ -92,7 +94,7 @@ def rows_case(kind, rows):
     """CASE WHEN column 0 THEN column 1 ELSE a literal."""
     rule = case(b"", [(named(0, 1), named(1, kind))], literal(kind, value(kind, 7)[0]))
     taken = [i % 3 == 0 for i in range(rows)]
-    data = table(rows, column(1, [bytes([t]) for t in taken]), column(kind, [value(kind, i)[0] for i in range(rows)]))
+    data = table(rows, column(1, [bytes([t]) for t in taken]), column(kind, [value(kind, i)[0] for i in range(rows)], counted=True))
     if rows > 512:
         return listed(rule, data, ["refused 10"])
     return answered(rule, data, kind, 0, [value(kind, i if t else 7)[1] for i, t in enumerate(taken)])
@@ -130,13 +132,13 @@ def long_rule_case(size):
 
 def long_table_case(size):
     """CASE WHEN column 0 < 0 THEN column 15 ELSE '' END over a table of so many bytes: 512 rows, 15 columns of Int64 with nulls and one of
-    text, whose last is as long as it takes."""
+    text, whose last is as long as it takes; all with their null counts."""
     valid = [i % 5 != 0 for i in range(512)]
     numbers = [value(3, i) for i in range(512)]
-    front = [column(3, [n for n, _ in numbers], valid)] * 15
+    front = [column(3, [n for n, _ in numbers], valid, True)] * 15
     texts = [b"%d" % (i % 7) for i in range(511)]
-    last = b"x" * (size - len(table(512, *front, column(5, texts + [b""], valid))))
-    data = table(512, *front, column(5, texts + [last], valid))
+    last = b"x" * (size - len(table(512, *front, column(5, texts + [b""], valid, True))))
+    data = table(512, *front, column(5, texts + [last], valid, True))
     assert len(data) == size
     rule = case(b"", [(field(24, named(0, 3, 1) + literal(3, number(0, 8))), named(15, 5, 1))], literal(5, b""))
     if size > TABLE_MOST:
@@ -181,6 +183,19 @@ def store(crate, name, records):
         out.write(data)
 
 
+def store_listings(records):
+    """The records in files of at most MOST_FILE bytes, and their names behind caserun's own two files."""
+    files = [[]]
+    for record in records:
+        if sum(map(len, files[-1])) + len(record) > MOST_FILE:
+            files.append([])
+        files[-1].append(record)
+    for k, part in enumerate(files):
+        store("caserun", f"listings{k}", part)
+    with open(path("caserun", "args"), "w", encoding="utf-8") as out:
+        out.write("rule.bin\nbatch.bin\n" + "".join(f"listings{k}.bin\n" for k in range(len(files))))
+
+
 def say(crate, text):
     with open(path(crate, "stdout"), "wb") as out:
         out.write(text)
@@ -188,7 +203,7 @@ def say(crate, text):
 
 def main():
     records = stored_listings()
-    store("caserun", "listings", records)
+    store_listings(records)
     say("caserun", P1 + b"".join(map(wanted, records)))
     print(f"listings: {len(records)}")
     for name, records in (("runs", stored_runs()), ("refusals", refusals()), ("limits", limits())):

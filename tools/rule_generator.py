@@ -396,7 +396,8 @@ def long_answer(rng):
 # ---- bytes ----
 
 def table_bytes(c):
-    """The table's bytes; with junk, spare bits are set, under nulls stand values, and a bitmap may stand where nothing is null."""
+    """The table's bytes; with junk, spare bits are set, under nulls stand values, a bitmap may stand where nothing is null, and columns may
+    have their null counts."""
     rows, columns = c.table
     rng = random.Random(c.junk) if c.junk else None
     return field(1, number(rows, 2)) + b"".join(column(rng, *col[1:]) for col in columns)
@@ -407,7 +408,8 @@ def column(rng, kind, nullable, values):
     valid = [v is not None for v in values]
     full = [any_value(rng, kind) if v is None and junk else v for v in values]
     bits = bits_of(rng, valid) if not all(valid) or junk and rng.random() < 0.3 else b""
-    out = field(2, bytes([kind, nullable])) + field(3, bits)
+    count = field(6, number(valid.count(False), 2)) if junk and rng.random() < 0.5 else b""
+    out = field(2, bytes([kind, nullable])) + count + field(3, bits)
     if kind == 1:
         return out + field(4, bits_of(rng, [bool(v) for v in full]))
     if kind == 5:
@@ -416,6 +418,16 @@ def column(rng, kind, nullable, values):
             ends.append(ends[-1] + len(v or b""))
         return out + field(5, b"".join(number(n, 4) for n in ends)) + field(4, b"".join(v or b"" for v in full))
     return out + field(4, b"".join(number(v or 0, WIDTHS[kind]) for v in full))
+
+
+def has_counts(c):
+    """Whether some column of the table's bytes has its null count."""
+    data, at = table_bytes(c) if c.junk else b"", 0
+    while at < len(data):
+        if data[at] == 6:
+            return True
+        at += 3 + int.from_bytes(data[at + 1:at + 3], "little")
+    return False
 
 
 def bits_of(rng, bits):

@@ -7,7 +7,7 @@ import os
 
 HERE = os.path.dirname(os.path.dirname(os.path.abspath(__file__)))
 CASES = os.path.join(HERE, "tools", "cases")
-FOLDERS = [CASES, os.path.join(CASES, "change-2")]
+FOLDERS = [CASES] + [os.path.join(CASES, name) for name in ("change-2", "change-3", "counted")]
 CRATES = os.path.join(HERE, "crates")
 FULL = 65536
 
@@ -56,8 +56,10 @@ def keyed(lines):
 
 
 def numbered(folders, name):
-    """The paragraphs of a file of each folder, with the folder's and the file's name, and numbers from 1."""
+    """The paragraphs of a file of each folder that has it, with the folder's and the file's name, and numbers from 1."""
     for folder in folders:
+        if not os.path.exists(os.path.join(folder, name + ".txt")):
+            continue
         for i, lines in enumerate(blocks(folder, name + ".txt")):
             yield f"{os.path.basename(folder)}/{name}", i + 1, lines
 
@@ -71,12 +73,12 @@ def rules(folders=FOLDERS):
 
 
 def answer(head, rows):
-    """The answer's bytes, from document 01's listing."""
+    """The answer's bytes, from document 01's listing; tag 6 always stands in it (02, Change 3)."""
     _, count, _, kind, _, nullable = head.split()
     kind, entries = int(kind), [r.split(" ", 1)[1] for r in rows]
     assert int(count) == len(entries)
     valid = [e != "null" for e in entries]
-    out = field(2, bytes([kind, int(nullable)])) + field(3, b"" if all(valid) else bitmap(valid))
+    out = field(2, bytes([kind, int(nullable)])) + field(6, number(valid.count(False), 2)) + field(3, b"" if all(valid) else bitmap(valid))
     if kind == 1:
         values = bitmap([e == "true" for e in entries])
     elif kind == 5:

@@ -1,6 +1,7 @@
 /* stream_library < FRAMES: the library's answers to many cases, for compare_rust.py. A frame is a length of 4 bytes, little-endian, and a
- * rule, then the same for a table. Each gives two lines: the answers to the rule (reading, strategy, nullability, projection with its
- * count), as the header has them, and `refused` with the number or the answer's bytes in hex. */
+ * rule, then the same for a table. Each gives three lines: the answers to the rule (reading, strategy, nullability, projection with its
+ * count), as the header has them; `refused` with the number or the answer's bytes in hex; and what is said of null counts: of the table's
+ * columns, up to the first that isn't there, and of the answer, or 0. */
 #include <stdio.h>
 #include <stdlib.h>
 #include "tembalku.h"
@@ -25,18 +26,29 @@ static void about_rule(const uint8_t *rule, size_t length) {
     putchar('\n');
 }
 
-static void evaluate(const uint8_t *rule, size_t rule_length, const uint8_t *table, size_t table_length) {
+static size_t evaluate(const uint8_t *rule, size_t rule_length, const uint8_t *table, size_t table_length) {
     static const char digits[] = "0123456789abcdef";
     size_t said = tembalku_evaluate(rule, rule_length, table, table_length, work, sizeof work, output, sizeof output);
     if (said < TEMBALKU_ANSWERED) {
         printf("refused %zu\n", said);
-        return;
+        return said;
     }
     for (size_t i = 0; i < said - TEMBALKU_ANSWERED; i++) {
         putchar(digits[output[i] >> 4]);
         putchar(digits[output[i] & 15]);
     }
     putchar('\n');
+    return said;
+}
+
+static void about_nulls(const uint8_t *table, size_t length, size_t said) {
+    size_t column = 0, nulls;
+    do {
+        nulls = tembalku_table_null_count(table, length, column++);
+        printf("%zu ", nulls);
+    } while (nulls >= TEMBALKU_TABLE_ACCEPTED);
+    size_t rows = tembalku_table_rows(table, length);
+    printf("%zu\n", said < TEMBALKU_ANSWERED ? 0 : tembalku_answer_null_count(output, said - TEMBALKU_ANSWERED, rows));
 }
 
 int main(void) {
@@ -45,7 +57,7 @@ int main(void) {
         uint8_t *table = part(&table_length);
         if (!table) return 2;
         about_rule(rule, rule_length);
-        evaluate(rule, rule_length, table, table_length);
+        about_nulls(table, table_length, evaluate(rule, rule_length, table, table_length));
         free(rule);
         free(table);
     }

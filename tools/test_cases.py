@@ -15,10 +15,10 @@ import make_cases  # noqa: E402
 import make_run_cases  # noqa: E402
 from case_classes import FLOAT_CASTS, cast_pairs  # noqa: E402
 from casetext import read_rule  # noqa: E402
-from stored_cases import CRATES, FOLDERS, answer, field, listed_runs, listings, number, rules, runs  # noqa: E402
+from stored_cases import CRATES, FOLDERS, answer, field, fields_of, listed_runs, listings, number, rules, runs  # noqa: E402
 
 # rules, listings and runs of each folder
-STORED = [(400, 618, 250), (200, 358, 200)]
+STORED = [(400, 618, 250), (200, 358, 200), (200, 390, 200), (0, 0, 248)]
 PROGRAMS = ["caserun", "rule_cases", "run_cases", "table_cases"]
 NOT_MADE = ("rule.bin", "batch.bin", "rust")
 
@@ -31,7 +31,7 @@ def made_files(folder):
             for name in names:
                 path = os.path.join(base, name)
                 data = os.path.basename(base) == "data" and not name.startswith(NOT_MADE)
-                if data or name == "stdout" or (program, name) == ("rule_cases", "args"):
+                if data or name == "stdout" or (program, name) in (("rule_cases", "args"), ("caserun", "args")):
                     with open(path, "rb") as source:
                         found[os.path.relpath(path, folder)] = source.read()
     return found
@@ -74,8 +74,13 @@ class Data(unittest.TestCase):
         """No case is left out of the programs' data."""
         every_rule, every_listing, every_run = map(sum, zip(*STORED))
         refused = [n for *_, (outcome, n) in listed_runs() if outcome == "refused"]
-        with open(os.path.join(CRATES, "caserun", "data", "listings.bin"), "rb") as source:
-            self.assertEqual(len(list(make_run_cases.records_in(source.read()))), every_listing)
+        with open(os.path.join(CRATES, "caserun", "args"), encoding="utf-8") as source:
+            files = source.read().split()[2:]
+        listed = 0
+        for name in files:
+            with open(os.path.join(CRATES, "caserun", "data", name), "rb") as source:
+                listed += len(list(make_run_cases.records_in(source.read())))
+        self.assertEqual(listed, every_listing)
         of_rules = [int(l.split()[1]) for l in printed("rule_cases") if l.startswith("rules")]
         self.assertEqual(sum(of_rules), every_rule + make_cases.BEHIND_ROOT + sum(n <= 8 for n in refused))
         of_runs = [int(l.split()[1]) for l in printed("run_cases")]
@@ -103,6 +108,42 @@ class Data(unittest.TestCase):
         for pair in FLOAT_CASTS:
             for failed in (True, False):
                 self.assertGreaterEqual(found[pair, failed], 50)
+
+
+    def test_null_counts(self):
+        """The programs' tables have null counts that are right and that are refused, and every answer has its own."""
+        tables = printed("table_cases")
+        self.assertGreaterEqual(tables.count("refused 25\n"), 30)
+        self.assertGreaterEqual(sum(" nulls " in l and " nulls 0:" not in l for l in tables), 50)
+        counted, nulls = 0, collections.Counter()
+        for name in ("runs", "rust"):
+            with open(os.path.join(CRATES, "run_cases", "data", name + ".bin"), "rb") as source:
+                for record in make_run_cases.records_in(source.read()):
+                    rule, table = (int.from_bytes(record[k:k + 4], "little") for k in (0, 4))
+                    start, want = make_run_cases.HEAD + rule, make_run_cases.wanted(record)
+                    if want[0] == 0:
+                        nulls[count_of(record[start:start + table], want[1:])] += 1
+                        counted += any(tag == 6 for tag, _ in fields_of(record[start:start + table]))
+        self.assertGreaterEqual(counted, 500)
+        self.assertGreater(len(nulls), 10)
+
+    def test_counted(self):
+        """The runs of the folder counted are runs of before, with an answer that is five bytes longer and an output of five bytes more."""
+        old = {(rule, table, work, output) for _, rule, table, work, output, _ in runs(FOLDERS[:2])}
+        for _, rule, table, work, output, (outcome, data) in runs(FOLDERS[3:]):
+            self.assertIn((rule, table, work, output - 5), old)
+            self.assertEqual(outcome, "ok")
+            self.assertGreaterEqual(output, len(data))
+            self.assertLess(output - 5, len(data))
+
+
+def count_of(table, data):
+    """The null count of an answer, which must be there and be that of its bits."""
+    rows, parts = int.from_bytes(table[3:5], "little"), list(fields_of(data))
+    assert [tag for tag, _ in parts[:3]] == [2, 6, 3] and len(parts[1][1]) == 2
+    nulls = sum(not make_cases.bit(parts[2][1], row) for row in range(rows)) if parts[2][1] else 0
+    assert int.from_bytes(parts[1][1], "little") == nulls
+    return nulls
 
 
 class Limits(unittest.TestCase):
@@ -135,7 +176,7 @@ class Types(unittest.TestCase):
         """The answer's bytes of document 01's listing."""
         lines = next(lines for *_, lines in listings() if not lines[0].startswith("refused"))
         self.assertEqual(answer(lines[0], lines[1:])[3], int(lines[0].split()[3]))
-        self.assertEqual(answer("rows 2 type 2 nullable 1", ["0 -1", "1 null"]).hex(), "020200020103010001040800ffffffff00000000")
+        self.assertEqual(answer("rows 2 type 2 nullable 1", ["0 -1", "1 null"]).hex(), "0202000201060200010003010001040800ffffffff00000000")
 
 
 if __name__ == "__main__":

@@ -1,5 +1,6 @@
 #!/usr/bin/env python3
-"""test_casetext.py: tests of casetext.py; runs those of test_casetext_check.py, test_casetext_casts.py and test_casetext_run.py too.
+"""test_casetext.py: tests of casetext.py; runs those of test_casetext_check.py, test_casetext_casts.py, test_casetext_nulls.py and
+test_casetext_run.py too.
 
 Here: the bytes, each expression and type, round trips, what can't be read, and the example of examples/targets.
 TEMBALKU_LIBRARY names the static library. Without it the tests that need it are not run, and a line says so.
@@ -29,6 +30,8 @@ TARGETS = os.path.join(os.path.dirname(HERE), "examples", "targets")
 # document 01, A listing
 RULE = bytes.fromhex("19 1A 00 02 01 10 03 00 00 01 01 11 06 00 02 00 01 00 00 00 11 06 00 02 00 00 00 00 00")
 TABLE = bytes.fromhex("01 02 00 04 00 02 02 00 01 01 03 01 00 0D 04 01 00 09")
+# the same table with its null count (02, Change 3)
+COUNTED = TABLE[:10] + bytes.fromhex("06 02 00 01 00") + TABLE[10:]
 TEXT = """rows 4
 column c0 boolean null true null false true
 rule
@@ -79,9 +82,10 @@ class Bytes(unittest.TestCase):
     def test_document(self):
         e, table = parse(TEXT)
         self.assertEqual(rule_bytes(e), RULE)
-        self.assertEqual(table_bytes(table), TABLE)
-        self.assertEqual(text_of(read_rule(RULE), read_table(TABLE)), TEXT)
-        self.assertEqual(listed(RULE, TABLE), LISTING)
+        self.assertEqual(table_bytes(table), COUNTED)
+        for data in (TABLE, COUNTED):
+            self.assertEqual(text_of(read_rule(RULE), read_table(data)), TEXT)
+            self.assertEqual(listed(RULE, data), LISTING)
 
     def test_columns_and_literals(self):
         for text, want in [
@@ -116,13 +120,14 @@ class Bytes(unittest.TestCase):
     def test_tables(self):
         for text, want in [
                 ("rows 0", "0102000000"),
-                ("rows 0\ncolumn a utf8 null", "0102000000" "0202000501" "030000" "05040000000000" "040000"),
-                ("rows 9\ncolumn a boolean true false true false true false true false true", "0102000900" "0202000100" "030000" "0402005501"),
-                ("rows 2\ncolumn a int32 null null -1", "0102000200" "0202000201" "03010002" "04080000000000ffffffff"),
-                ("rows 1\ncolumn a int64 7", "0102000100" "0202000300" "030000" "0408000700000000000000"),
-                ("rows 1\ncolumn a float64 null 1.5", "0102000100" "0202000401" "030000" "040800000000000000f83f"),
+                ("rows 0\ncolumn a utf8 null", "0102000000" "0202000501" "0602000000" "030000" "05040000000000" "040000"),
+                ("rows 9\ncolumn a boolean true false true false true false true false true",
+                 "0102000900" "0202000100" "0602000000" "030000" "0402005501"),
+                ("rows 2\ncolumn a int32 null null -1", "0102000200" "0202000201" "0602000100" "03010002" "04080000000000ffffffff"),
+                ("rows 1\ncolumn a int64 7", "0102000100" "0202000300" "0602000000" "030000" "0408000700000000000000"),
+                ("rows 1\ncolumn a float64 null 1.5", "0102000100" "0202000401" "0602000000" "030000" "040800000000000000f83f"),
                 ('rows 3\ncolumn a utf8 null "ab" null\n  x"ff"',
-                 "0102000300" "0202000501" "03010005" "05100000000000020000000200000003000000" "0403006162ff")]:
+                 "0102000300" "0202000501" "0602000100" "03010005" "05100000000000020000000200000003000000" "0403006162ff")]:
             _, table = parse(text + "\nrule (case)")
             self.assertEqual(table_bytes(table).hex(), want, text)
             self.assertEqual(read_table(bytes.fromhex(want))[1], [("c0",) + c[1:] for c in table[1]])
@@ -291,11 +296,12 @@ class Errors(unittest.TestCase):
         """No beginning of the two files is taken, but for a table cut behind its rows."""
         for n in range(len(RULE)):
             self.assertRaises(Refused, read_rule, RULE[:n])
-        for n in range(len(TABLE)):
-            if n == 5:
-                self.assertEqual(read_table(TABLE[:n]), (4, []))
-            else:
-                self.assertRaises(Refused, read_table, TABLE[:n])
+        for data in (TABLE, COUNTED):
+            for n in range(len(data)):
+                if n == 5:
+                    self.assertEqual(read_table(data[:n]), (4, []))
+                else:
+                    self.assertRaises(Refused, read_table, data[:n])
 
     def test_changed_rule(self):
         """Any byte changed to any other is read or refused, and what is read is written again as it was."""
@@ -316,8 +322,9 @@ class Errors(unittest.TestCase):
             bits = [(valid >> i & 1, values >> i & 1) for i in range(rows)]
             self.assertEqual(got, (rows, [("c0", 1, nullable, [bool(value) if there else None for there, value in bits])]))
             rows_only = (1 << rows) - 1
+            tag6 = bytes([6, 2, 0, sum(not there for there, _ in bits), 0])
             tag3 = bytes([3, 0, 0]) if valid & rows_only == rows_only else bytes([3, 1, 0, valid & rows_only])
-            self.assertEqual(table_bytes(got), changed[:10] + tag3 + bytes([4, 1, 0, values & valid & rows_only]))
+            self.assertEqual(table_bytes(got), changed[:10] + tag6 + tag3 + bytes([4, 1, 0, values & valid & rows_only]))
         # 1 to 8 rows but 4, the other mark, the other bytes of validity and of values
         self.assertEqual(taken, 7 + 1 + 255 + 255)
 
@@ -345,8 +352,8 @@ def each_change(data):
 
 
 def run_all():
-    """Runs the tests of the four files; those that need the library only if there is one."""
-    names = ["__main__", "test_casetext_check", "test_casetext_casts"]
+    """Runs the tests of the five files; those that need the library only if there is one."""
+    names = ["__main__", "test_casetext_check", "test_casetext_casts", "test_casetext_nulls"]
     loader = unittest.defaultTestLoader
     with_library = loader.loadTestsFromName("test_casetext_run")
     suite = loader.loadTestsFromNames(names)

@@ -107,7 +107,7 @@ class Refusals(InFolder):
             ("rows 0\n" + "".join(f"column c{i} int32\n" for i in range(257)) + "rule " + OK, "line 258: a 257th column: at most 16, 10"),
             ("rows 0\n" + "".join(f"column c{i} int32\n" for i in range(17)) + "rule " + OK, "line 18: column c16: a 17th column: at most 16, 10"),
             ("rows 600\n" + "".join(f"column c{i} int64" + " 1" * 600 + "\n" for i in range(14)) + "rule " + OK,
-             "the table has 67359 bytes: at most 65536, 9")])
+             "the table has 67429 bytes: at most 65536, 9")])
 
     def test_values(self):
         self.each([
@@ -298,7 +298,7 @@ class Disagreeing(InFolder):
 
     def test_answer_and_more(self):
         """An answer is one column and nothing else."""
-        answer = bytes.fromhex("0202000200" "030000" "04040005000000")
+        answer = bytes.fromhex("0202000200" "0602000000" "030000" "04040005000000")
         self.assertEqual(read_answer(answer, 1), (2, [5]))
         self.assertRaises(Refused, read_answer, answer + b"\0", 1)
 

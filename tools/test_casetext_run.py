@@ -5,6 +5,7 @@ TEMBALKU_LIBRARY names the static library.
 test_casetext_run.py N [SEED]    holds the check against the library on N texts and N mutated rules and tables, and prints how many
                                  were refused with which number
 """
+import ctypes
 import os
 import random
 import re
@@ -15,6 +16,7 @@ from collections import Counter
 sys.dont_write_bytecode = True
 sys.path.insert(0, os.path.dirname(os.path.abspath(__file__)))
 import test_casetext_casts  # noqa: E402
+import test_casetext_nulls  # noqa: E402
 from dealer.checking import check_bytes  # noqa: E402
 from dealer.evaluation import Disagreement, evaluated  # noqa: E402
 from dealer.library import Library  # noqa: E402
@@ -149,7 +151,34 @@ def changed_bytes(rng, data):
         return data + bytes([rng.randrange(256)])
     if choice < 0.3:
         return data[:i] + data[i + 1:]
-    return data[:i] + bytes([rng.choice([0, 1, 2, 3, 5, 16, 17, 18, 23, 25, data[i] ^ 1 << rng.randrange(8)])]) + data[i + 1:]
+    return data[:i] + bytes([rng.choice([0, 1, 2, 3, 5, 6, 16, 17, 18, 23, 25, data[i] ^ 1 << rng.randrange(8)])]) + data[i + 1:]
+
+
+def some_counts_gone(rng, data):
+    """A table's bytes with some of its null counts left out, or doubled, or one more or less."""
+    out, at = b"", 0
+    while at < len(data):
+        stop = at + 3 + int.from_bytes(data[at + 1:at + 3], "little")
+        part, choice = data[at:stop], rng.random()
+        if part[0] == 6:
+            part = b"" if choice < 0.5 else part * 2 if choice < 0.52 else part[:3] + bytes([part[3] ^ 1, part[4]]) if choice < 0.56 else part
+        out, at = out + part, stop
+    return out
+
+
+def library_nulls(library, table, columns):
+    """What tembalku_table_null_count says of the columns, and of one more."""
+    asked = library.so.tembalku_table_null_count
+    asked.restype, asked.argtypes = ctypes.c_size_t, [ctypes.c_char_p, ctypes.c_size_t, ctypes.c_size_t]
+    return [asked(table, len(table), i) for i in range(columns + 1)]
+
+
+def own_nulls(table):
+    """The same, worked out here; the refusal's number for a table that is refused."""
+    number = number_of(lambda: read_table(table, True))
+    if number is not None:
+        return [number]
+    return [65536 + c[3].count(None) for c in read_table(table)[1]] + [256]
 
 
 def number_of(call):
@@ -179,11 +208,14 @@ def hold_bytes(library, rng, count):
         rule, table = source.rule_data, source.table_data
         which = rng.random()
         rule = changed_bytes(rng, rule) if which < 0.6 else rule
-        table = changed_bytes(rng, table) if which > 0.4 else table
+        table = changed_bytes(rng, table) if which > 0.4 else some_counts_gone(rng, table)
         said = [number_of(lambda: read_rule(rule, True)), number_of(lambda: read_table(table, True)), number_of(lambda: check_bytes(rule, table))]
         wanted = [library.rule_refusal(rule), library.table_refusal(table), library.evaluate(rule, table)[0]]
         if said != wanted:
             raise AssertionError(f"check says {said}, the library {wanted}: rule {rule.hex()} table {table.hex()}")
+        nulls = own_nulls(table)
+        if nulls != library_nulls(library, table, len(nulls) - 1):
+            raise AssertionError(f"null counts {nulls}, the library's {library_nulls(library, table, len(nulls) - 1)}: table {table.hex()}")
         numbers[said[2]] += 1
     return numbers
 
@@ -201,8 +233,20 @@ class Agreement(unittest.TestCase):
 
     def test_bytes(self):
         numbers = hold_bytes(self.library, random.Random(2), 800)
-        for number in (None, 1, 2, 3, 4, 7, 9, 11, 12, 13):
+        for number in (None, 1, 2, 3, 4, 7, 9, 11, 12, 13, 25):
             self.assertGreater(numbers[number], 0, number)
+
+    def test_null_counts(self):
+        """The tables of test_casetext_nulls.py through the library: their numbers, and the null count of each column."""
+        for name, data, nulls in test_casetext_nulls.TAKEN:
+            with self.subTest(name):
+                table = bytes.fromhex(data)
+                self.assertEqual(library_nulls(self.library, table, len(nulls)), [65536 + n for n in nulls] + [256])
+                self.assertEqual(own_nulls(table), [65536 + n for n in nulls] + [256])
+        for name, data, want, _ in test_casetext_nulls.TURNED_AWAY:
+            with self.subTest(name):
+                table = bytes.fromhex(data)
+                self.assertEqual((self.library.table_refusal(table), library_nulls(self.library, table, 0)), (want, [want]))
 
     def test_ends_of_limits(self):
         """Both sides of each limit: 4,096 bytes of a rule, 65,536 of a table, 65,535 of text in all."""
@@ -213,7 +257,7 @@ class Agreement(unittest.TestCase):
             return f"rows {rows}\n" + (f'column a utf8 "{"a" * size}"' + ' ""' * (rows - 1) if rows else "") + "\n"
         for text, want in [
                 ("rows 1\n" + rule("a" * 4080), None), ("rows 1\n" + rule("a" * 4081), 1),
-                (table(1, 65536 - 27) + rule(""), None), (table(1, 65537 - 27) + rule(""), 9),
+                (table(1, 65536 - 32) + rule(""), None), (table(1, 65537 - 32) + rule(""), 9),
                 ("rows 17\n" + rule("a" * 3855), None), ("rows 18\n" + rule("a" * 3641), 16),
                 ("rows 512\n" + rule(""), None), ("rows 513\n" + rule(""), 10)]:
             source = Source("text", *parse(text))

@@ -79,8 +79,10 @@ class Layout(unittest.TestCase):
         rust = said(bytes.fromhex("0202000200030000040400") + b"\7\0\0\0", strategy=3, nullable="1", projection=[0, 1])
         rule, table = rule_bytes(c.rule), rg.table_bytes(c)
         lengths = [int.from_bytes(cr.run_record(c, rust)[i:i + 4], "little") for i in range(0, 20, 4)]
-        self.assertEqual(lengths, [len(rule), len(table), 65536, 65536, 16])
-        self.assertEqual(cr.run_record(c, rust)[20:], rule + table + bytes.fromhex("00 0202000201030000040400 07000000"))
+        self.assertEqual(lengths, [len(rule), len(table), 65536, 65536, 21])
+        self.assertEqual(cr.run_record(c, rust)[20:], rule + table + bytes.fromhex("00 0202000201 0602000000 030000040400 07000000"))
+        null = said(bytes.fromhex("020200020003010000040400") + bytes(4), nullable="1")
+        self.assertEqual(cr.run_record(c, null)[20:], rule + table + bytes.fromhex("00 0202000201 0602000100 03010000 040400 00000000"))
         self.assertEqual(cr.run_record(c, said("failed"))[20:], rule + table + b"\x0f")
         self.assertEqual(cr.rule_record(c, rust), len(rule).to_bytes(2, "little") + rule + bytes([0, 3, 1, 2, 2, 0, 1]))
 
@@ -88,8 +90,10 @@ class Layout(unittest.TestCase):
 class Comparing(unittest.TestCase):
     def test_answers_are_read(self):
         rust = cr.rust_answers("strategy 5|nullable 1|projection 0 3|rows 1 type 2 nullable 1|0 5|.|strategy 3|nullable 0|projection|failed|.".split("|"))
-        port = cr.port_answers(["258 261 257 258 0 3", "0202000201030000040400" + "05000000", "259 259 256 256", "refused 15"])
-        self.assertEqual([r._replace(read=0) for r in rust[:1]], [p._replace(read=0) for p in port[:1]])
+        port = cr.port_answers(["258 261 257 258 0 3", "0202000201" "0602000000" "030000040400" "05000000", "65536 256 65536",
+                                "259 259 256 256", "refused 15", "256 0"])
+        self.assertEqual([r._replace(read=0) for r in rust[:1]], [p._replace(read=0, nulls=None) for p in port[:1]])
+        self.assertEqual([p.nulls for p in port], [(bytes.fromhex("0602000000"), [65536, 256, 65536]), (b"", [256, 0])])
         self.assertTrue(cr.entries_agree(port[1], rust[1]) and cr.answers_agree(port[1], rust[1]))
         self.assertEqual((rust[1].strategy, rust[1].nullable, rust[1].projection), (3, "0", []))
 
@@ -97,7 +101,27 @@ class Comparing(unittest.TestCase):
         """The answer's nullable byte and type are those that are read off the rule."""
         for about in ("258 261 256 256", "259 261 257 256"):
             with self.assertRaises(RuntimeError):
-                cr.port_answers([about, "0202000201030000040400" + "05000000"])
+                cr.port_answers([about, "0202000201" "0602000000" "030000040400" "05000000", "256 65536"])
+
+    def test_null_counts(self):
+        """The counts of the columns and of the answer, held against the null entries; spare bits don't count."""
+        c = made("rows 3\ncolumn a int32 null 1 null null\ncolumn b boolean true true true\nrule\n(case (when (col b) (then (col a))))")
+        entries = bytes.fromhex("0202000200" "03010005" "040c00") + bytes(12)
+        right = said(entries)._replace(nulls=(cr.count_field(1), [65538, 65536, 256, 65537]))
+        self.assertTrue(cr.nulls_agree(c, right))
+        refused = said("refused 15")._replace(nulls=(b"", [65538, 65536, 256, 0]))
+        self.assertTrue(cr.nulls_agree(c, refused))
+        for count, told in ((b"", [65538, 65536, 256, 65537]), (cr.count_field(6), [65538, 65536, 256, 65537]), (b"\6\1\0\1", [65538, 65536, 256, 65537]),
+                            (cr.count_field(1), [65538, 65536, 256, 65538]), (cr.count_field(1), [65537, 65536, 256, 65537]),
+                            (cr.count_field(1), [65538, 256, 65537]), (cr.count_field(1), [65538, 65536, 65537])):
+            self.assertFalse(cr.nulls_agree(c, right._replace(nulls=(count, told))))
+        self.assertFalse(cr.nulls_agree(c, refused._replace(nulls=(b"", [65538, 65536, 256, 65536]))))
+
+    def test_count_is_cut(self):
+        """An answer without its count, whatever stands there; one that has none stays."""
+        head, rest = bytes.fromhex("0202000200"), bytes.fromhex("030000" "040000")
+        for count in (b"", cr.count_field(0), cr.count_field(300), b"\6\0\0", b"\6\3\0abc"):
+            self.assertEqual(cr.cut_count(head + count + rest), (count, head + rest))
 
     def test_failures(self):
         self.assertTrue(cr.entries_agree(said("refused 15"), said("failed")))
@@ -127,6 +151,7 @@ class Comparing(unittest.TestCase):
                                     (plain, one._replace(projection=[1]), one, ["answers"]), (plain, one._replace(nullable="1"), one, ["nullable"]),
                                     (plain, said("refused 13"), one, ["reading"]), (plain, said("refused 7", 7), one, ["reading"]),
                                     (plain, said("refused 8", 8), one, ["reading"]), (plain, one, said("unreadable"), ["reading"]),
+                                    (plain, one._replace(nulls=(b"", [])), one, ["nulls"]),
                                     (eight, said("refused 8", 8), one, []), (eight, one, one, ["entries"]),
                                     (eight, said("refused 15"), said("failed"), ["entries"])):
             tally = cr.Tally(Told(port, rust))
@@ -139,7 +164,8 @@ class Comparing(unittest.TestCase):
         one = said(b"aaaaa", 257)
         for what, port, rust, want in (("entries", said(b"bbbbb", 257), one, True), ("entries", one, one, False), ("reading", said("refused 8", 8), one, True),
                                        ("reading", one, one, False), ("reading", said("refused 7", 7), said("unreadable"), False),
-                                       ("entries", said("refused 7", 7), one, False), ("answers", one._replace(strategy=1), one, True)):
+                                       ("entries", said("refused 7", 7), one, False), ("answers", one._replace(strategy=1), one, True),
+                                       ("nulls", one._replace(nulls=(b"", [])), one, True), ("nulls", one, one, False)):
             self.assertEqual(cr.differs_so(Told(port, rust), what, "")([c]), [want])
 
 

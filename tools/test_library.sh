@@ -44,7 +44,9 @@ if "$scratch/shared" > /dev/null 2>&1; then
 fi
 sed -n 's/^\(uint32_t\|size_t\) \(tembalku_[a-z_]*\)(.*/\2/p' include/tembalku.h | sort > "$scratch/declared"
 nm -D --defined-only "$scratch/prefix/lib/libtembalku.so" | sed 's/.* //' | sort | diff "$scratch/declared" -
-[ "$(pkg-config --modversion tembalku)" = "$(sed -n 's/^#define TEMBALKU_VERSION "\(.*\)"$/\1/p' include/tembalku.h)" ]
+version=$(sed -n 's/^#define TEMBALKU_VERSION "\(.*\)"$/\1/p' include/tembalku.h)
+[ "$(pkg-config --modversion tembalku)" = "$version" ]
+[ "$(readlink "$scratch/prefix/lib/libtembalku.so.${version%.*}")" = "libtembalku.so.$version" ]
 if (PATH=$scratch; /bin/sh tools/install.sh "$scratch/none" "$library") 2> "$scratch/said"; then
     echo "install.sh does without gcc"
     exit 1

@@ -56,9 +56,9 @@ def places(e, at=0):
 
 
 def column_bytes(kind, nullable, values):
-    """Tag 3 is empty if no value is null; under a null stand zeros or empty text."""
+    """Tag 6 is always there; tag 3 is empty if no value is null; under a null stand zeros or empty text."""
     valid = [v is not None for v in values]
-    out = field(2, bytes([kind, nullable])) + field(3, b"" if all(valid) else bitmap(valid))
+    out = field(2, bytes([kind, nullable])) + field(6, number(valid.count(False), 2)) + field(3, b"" if all(valid) else bitmap(valid))
     if kind == BOOLEAN:
         return out + field(4, bitmap([bool(v) for v in values]))
     if kind == UTF8:

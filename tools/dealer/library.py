@@ -9,7 +9,7 @@ from dealer.text import FileError
 
 ROOT = os.path.dirname(os.path.dirname(os.path.dirname(os.path.abspath(__file__))))
 ARCHIVE = os.path.join("target", "staticlib", "libtembalku.a")
-WORK_BYTES, OUTPUT_MOST = 65536, 67665
+WORK_BYTES, OUTPUT_MOST = 65536, 67670
 RULE_ACCEPTED, TABLE_ACCEPTED, ANSWERED = 256, 65536, 65536
 
 
@@ -61,7 +61,7 @@ class Library:
         return said if said < RULE_ACCEPTED else None
 
     def table_refusal(self, table):
-        """9 to 12, or None."""
+        """9 to 12 or 25, or None."""
         said = self.so.tembalku_table_read(table, len(table))
         return said if said < RULE_ACCEPTED else None
 

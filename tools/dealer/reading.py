@@ -7,7 +7,7 @@ import struct
 
 from dealer.rows import constant_unfit
 from dealer.tree import (BOOLEAN, BRANCHES_MOST, CASE, CASES_MOST, CASTS, COLUMN, COLUMNS_MOST, DEPTH_MOST, LITERAL, NAMES, NESTED_MOST,
-                         ROWS_MOST, RULE_MOST, TABLE_MOST, TAGS, UTF8, WIDTHS, WORDS, FLOAT64, Node)
+                         ROWS_MOST, RULE_MOST, TABLE_MOST, TAGS, UTF8, WIDTHS, WORDS, FLOAT64, Node, counted)
 from dealer.typecheck import misfit
 
 SHAPELESS = {2, 3, 9, 11}
@@ -199,13 +199,14 @@ class TableReader(Fields):
         return rows, columns
 
     def column(self, at, rows, index=None):
-        """Type, mark and values of the column there, and where it ends."""
+        """Type, mark and values of the column there, and where it ends. An answer has no index: it always has tag 6, and no 12."""
         start, stop = self.expect(2, at)
         if stop - start != 2:
             self.refuse(9, "a column's head has 2 bytes", start)
         if index == COLUMNS_MOST:
             self.refuse(10, f"a {COLUMNS_MOST + 1}th column: at most {COLUMNS_MOST}", at, column=index)
         kind, nullable = self.kind(start, 11), self.flag(start + 1, 11)
+        count, stop = self.null_count(stop, index is None)
         room = (rows + 7) // 8
         start, stop = self.expect(3, stop)
         valid = self.data[start:stop]
@@ -219,7 +220,22 @@ class TableReader(Fields):
         values = [entry(kind, valid, ends, raw, i) for i in range(rows)]
         if not nullable and None in values and index is not None:
             self.refuse(12, f"row {values.index(None)} is null, but the column isn't marked null", at, column=index)
+        self.check_count(count, values.count(None), at + 5, index)
         return (kind, nullable, values), stop
+
+    def null_count(self, at, demanded):
+        """The content of tag 6 there, and where it ends; None where another tag stands and none is demanded."""
+        if not demanded and self.data[at:at + 1] != b"\6":
+            return None, at
+        start, stop = self.expect(6, at)
+        return self.data[start:stop], stop
+
+    def check_count(self, count, nulls, at, index):
+        if count is not None and len(count) != 2:
+            self.refuse(25, f"a null count of {counted(len(count), 'byte')}: it has 2", at, column=index)
+        elif count is not None and int.from_bytes(count, "little") != nulls:
+            said = f"the null count says {int.from_bytes(count, 'little')}, but {counted(nulls, 'row')} {'is' if nulls == 1 else 'are'} null"
+            self.refuse(25, said, at, column=index)
 
     def offsets(self, at, rows):
         start, stop = self.expect(5, at)

@@ -1,5 +1,5 @@
 // Evaluates the rule in rule.bin over the table in batch.bin, or in the two files that the first arguments name, and prints the listing of the
-// run. A single argument, or a third, names a file of records: the listings of their runs are printed one behind the other.
+// run. A single argument, or each from the third on, names a file of records: the listings of their runs are printed one behind the other.
 mod file;
 mod list;
 mod record;
@@ -60,6 +60,15 @@ fn list_file(argument: usize) {
     }
 }
 
+// The same of each argument from the third on.
+fn list_others(words: usize) {
+    let mut argument = 3;
+    while argument < words {
+        list_file(argument);
+        argument += 1;
+    }
+}
+
 fn main() {
     let words = os::arg_count();
     if words == 2 {
@@ -67,7 +76,5 @@ fn main() {
         return;
     }
     list_files();
-    if 3 < words {
-        list_file(3);
-    }
+    list_others(words);
 }

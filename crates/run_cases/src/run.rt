@@ -25,7 +25,7 @@ fn answer_agrees(want: &[u8], size: usize, work: &[u8], output: &[u8]) -> bool {
     all_are(work, 0)
 }
 
-// Whether a refusal is the stored one, with the output untouched and the work buffer untouched up to 14, zero from 15 on.
+// Whether a refusal is the stored one, with the output untouched and the work buffer zero at 15 to 17, untouched at any other.
 fn refusal_agrees(want: &[u8], n: u8, work: &[u8], output: &[u8]) -> bool {
     if n == 0 {
         return false;
@@ -40,6 +40,9 @@ fn refusal_agrees(want: &[u8], n: u8, work: &[u8], output: &[u8]) -> bool {
         return false;
     }
     if n < 15 {
+        return all_are(work, FILLING);
+    }
+    if 17 < n {
         return all_are(work, FILLING);
     }
     all_are(work, 0)

@@ -1,4 +1,4 @@
-// Reads the stored tables and prints of each its refusal, or its rows and every column's entries.
+// Reads the stored tables and prints of each its refusal, or its rows and every column's nulls and entries.
 use layout::number::read_u32;
 use libc::STDOUT_FILENO;
 use scalar::text::place_text;
@@ -98,10 +98,12 @@ fn print_head(column: usize, place: ColumnPlace) {
     let kind = place.data_type;
     print_number(type_number(kind));
     if place.nullable {
-        print(b" nullable 1:")
+        print(b" nullable 1 nulls ")
     } else {
-        print(b" nullable 0:")
+        print(b" nullable 0 nulls ")
     }
+    print_number(place.null_count as u64);
+    print(b":");
 }
 
 // A column's line. A table has at most 512 rows.

@@ -95,14 +95,26 @@ fn plain(t: u8, v: &[u8], rows: usize, nulls: Option<NullBuffer>) -> Option<Arra
     })
 }
 
+/// The null count as tag 6 has it (02, Change 3).
+fn count(nulls: Option<&NullBuffer>) -> [u8; 2] {
+    (nulls.map_or(0, |n| n.null_count()) as u16).to_le_bytes()
+}
+
 /// The next column: type, nullable mark and entries.
 fn column(c: &mut Cursor, rows: usize) -> Option<(u8, bool, ArrayRef)> {
     let &[t, nullable] = c.field(2)? else {
         return None;
     };
     type_of(t)?;
+    let written = match c.0.first() {
+        Some(6) => Some(c.field(6)?),
+        _ => None,
+    };
     let nulls = validity(c.field(3)?, rows)?;
     if nullable > 1 || nullable == 0 && nulls.is_some() {
+        return None;
+    }
+    if written.is_some_and(|w| w != count(nulls.as_ref())) {
         return None;
     }
     let array = if t == 5 {
@@ -200,11 +212,12 @@ fn bytes_of(b: &BooleanBuffer) -> Vec<u8> {
     v
 }
 
-/// The answer as document 01 writes it: zero, or empty text, under nulls.
+/// The answer as documents 01 and 02 write it: its null count, and zero, or empty text, under nulls.
 pub fn write(a: &dyn Array, nullable: bool) -> Vec<u8> {
     let mut out = Vec::new();
     put(&mut out, 2, &[number_of(a.data_type()), nullable as u8]);
     let nulls = a.nulls().filter(|n| n.null_count() > 0);
+    put(&mut out, 6, &count(nulls));
     put(&mut out, 3, &nulls.map_or(Vec::new(), |n| bytes_of(n.inner())));
     macro_rules! numbers {
         ($t:ty, $zero:expr) => {{
