@@ -27,9 +27,9 @@ extern "C" {
 #endif
 
 #define TEMBALKU_VERSION_MAJOR 0
-#define TEMBALKU_VERSION_MINOR 1
+#define TEMBALKU_VERSION_MINOR 2
 #define TEMBALKU_VERSION_PATCH 0
-#define TEMBALKU_VERSION "0.1.0"
+#define TEMBALKU_VERSION "0.2.0"
 
 /* Limits: more is refused (1, 9, 10, 10, 6). */
 #define TEMBALKU_RULE_MOST 4096
@@ -45,15 +45,18 @@ extern "C" {
 #define TEMBALKU_OUTPUT_BYTES 65536
 
 /* Bytes of the longest answer: 512 rows with a null and 65,535 bytes of text. An output of this length is never too short. */
-#define TEMBALKU_OUTPUT_MOST 67665
+#define TEMBALKU_OUTPUT_MOST 67670
 
 /* Bytes that hold every projection: a rule's column index is a byte. */
 #define TEMBALKU_PROJECTION_MOST 256
 
-/* What answers count from: those about a rule alone, those about a table, and the answer of an evaluation. */
+/* What answers count from: those about a rule alone, those about a table, and the answer of an evaluation and those about it. */
 #define TEMBALKU_RULE_ACCEPTED 256u
 #define TEMBALKU_TABLE_ACCEPTED 65536u
 #define TEMBALKU_ANSWERED 65536u
+
+/* What tembalku_table_null_count says of a column that the table doesn't have. */
+#define TEMBALKU_NO_COLUMN 256u
 
 /* Types of columns, values and answers. */
 enum tembalku_type {
@@ -74,8 +77,8 @@ enum tembalku_strategy {
     TEMBALKU_WITH_EXPR_SCALAR_LOOKUP_TABLE = 6
 };
 
-/* Refusals. The library's functions give 1 to 17; 18 to 21 are the result builder's. tembalku_refusal_sentence says what each means and
- * what to do about it. */
+/* Refusals. The library's functions give 1 to 17 and 25; 18 to 21 are the result builder's. tembalku_refusal_sentence says what each means
+ * and what to do about it. */
 enum tembalku_refusal {
     TEMBALKU_REFUSED_RULE_SIZE = 1,
     TEMBALKU_REFUSED_RULE_CUT = 2,
@@ -97,7 +100,8 @@ enum tembalku_refusal {
     TEMBALKU_REFUSED_BUILDER_ROW = 18,
     TEMBALKU_REFUSED_BUILDER_LENGTH = 19,
     TEMBALKU_REFUSED_BUILDER_HELD = 20,
-    TEMBALKU_REFUSED_BUILDER_WHOLE = 21
+    TEMBALKU_REFUSED_BUILDER_WHOLE = 21,
+    TEMBALKU_REFUSED_NULL_COUNT = 25
 };
 
 /* Reads a rule. Gives its refusal (1 to 8), or 256 and the number of the result's type (tembalku_type). */
@@ -114,21 +118,30 @@ uint32_t tembalku_rule_nullable(const uint8_t *rule, size_t rule_len);
  * behind them is untouched. If they don't fit, or at a refusal, all of `columns` is untouched. */
 size_t tembalku_rule_projection(const uint8_t *rule, size_t rule_len, uint8_t *columns, size_t columns_len);
 
-/* Reads a table. Gives its refusal (9 to 12), or 65,536 and the number of its rows. */
+/* Reads a table. Gives its refusal (9 to 12, 25), or 65,536 and the number of its rows. */
 uint32_t tembalku_table_read(const uint8_t *table, size_t table_len);
 
-/* Evaluates a rule over a table. Gives a refusal (1 to 17), or 65,536 and the length of the answer in bytes.
+/* How many rows of a table's column, counted from 0, are null. Gives the table's refusal (9 to 12, 25), or 65,536 and their number; or 256
+ * (TEMBALKU_NO_COLUMN), which is no refusal, if the table is accepted and has no such column. */
+size_t tembalku_table_null_count(const uint8_t *table, size_t table_len, size_t column);
+
+/* Evaluates a rule over a table. Gives a refusal (1 to 17, 25), or 65,536 and the length of the answer in bytes.
  *
- * The answer stands at the front of `output`. It is one column in the layout of a table's (tag 2, 3, 5 for text, 4): its type is the
- * result's, its nullable byte the rule's nullability, its tag 3 empty if it holds no null. It has an entry for each row of the table, in
- * the table's order: what the rule gives at that row (docs/FORMAT.md). Spare bits and values under nulls are zero, texts under nulls empty.
+ * The answer stands at the front of `output`. It is one column in the layout of a table's (tag 2, 6, 3, 5 for text, 4): its type is the
+ * result's, its nullable byte the rule's nullability, its tag 6 the number of its nulls, its tag 3 empty if it holds none. It has an entry
+ * for each row of the table, in the table's order: what the rule gives at that row (docs/FORMAT.md). Spare bits and values under nulls are
+ * zero, texts under nulls empty.
  *
- * Afterwards: `work` is zero in all its work_len bytes at an answer and at 15 to 17, and untouched at 1 to 14. `output` is untouched
+ * Afterwards: `work` is zero in all its work_len bytes at an answer and at 15 to 17, and untouched at 1 to 14 and 25. `output` is untouched
  * behind an answer, and all of it at a refusal. */
 size_t tembalku_evaluate(const uint8_t *rule, size_t rule_len,
                          const uint8_t *table, size_t table_len,
                          uint8_t *work, size_t work_len,
                          uint8_t *output, size_t output_len);
+
+/* How many entries of an answer of so many rows are null. Gives the refusal (9 to 11, 25) of bytes that are no column of so many rows, or
+ * 65,536 and their number. A column without tag 6, or with a mark of 0 and a null, is taken too. */
+size_t tembalku_answer_null_count(const uint8_t *answer, size_t answer_len, size_t rows);
 
 /* ---- Helpers: reading an answer, and the sentence of a refusal. Not proved. ---- */
 
@@ -177,6 +190,8 @@ static inline const char *tembalku_refusal_sentence(uint32_t number) {
         return "A row is given a second time: correct the program that builds the result.";
     case TEMBALKU_REFUSED_BUILDER_WHOLE:
         return "A whole result comes after a part, or something comes after a whole: correct the program that builds the result.";
+    case TEMBALKU_REFUSED_NULL_COUNT:
+        return "A column's null count isn't the number of its nulls, in two bytes: the display's program must write the right count, or none.";
     default:
         return "";
     }
@@ -193,6 +208,7 @@ struct tembalku_answer {
     int type;                /* a value of tembalku_type; 0 if the bytes were no answer */
     int nullable;            /* the answer's nullable byte */
     size_t rows;             /* its entries are those of rows 0 to rows - 1 */
+    size_t null_count;       /* how many of them are null */
     const uint8_t *validity; /* a bit for each row, or NULL if no entry is null */
     const uint8_t *offsets;  /* rows + 1 offsets of four bytes, for text only, else NULL */
     const uint8_t *values;
@@ -233,12 +249,22 @@ static inline size_t tembalku_values_len(int type, size_t rows) {
     return type == TEMBALKU_BOOLEAN ? (rows + 7) >> 3 : type == TEMBALKU_INT32 ? 4 * rows : 8 * rows;
 }
 
+/* How many of the first `rows` rows are null, by their validity bits; NULL has none. */
+static inline size_t tembalku_nulls(const uint8_t *validity, size_t rows) {
+    size_t row, nulls = 0;
+    for (row = 0; validity != NULL && row < rows; row++) nulls += !tembalku_bit(validity, row);
+    return nulls;
+}
+
 /* The parts of an answer behind its tag 2; 0 if they aren't as docs/FORMAT.md lists them. */
 static inline int tembalku_answer_parts(struct tembalku_answer *answer, const uint8_t *bytes, size_t bytes_len, size_t at) {
-    size_t validity_len = 0, offsets_len = 0, values_len = 0, rows = answer->rows;
-    const uint8_t *validity = tembalku_field(bytes, bytes_len, &at, 3, &validity_len);
-    if (validity == NULL || (validity_len != 0 && validity_len != (rows + 7) >> 3)) return 0;
+    size_t count_len = 0, validity_len = 0, offsets_len = 0, values_len = 0, rows = answer->rows;
+    const uint8_t *count = tembalku_field(bytes, bytes_len, &at, 6, &count_len);
+    const uint8_t *validity = count == NULL ? NULL : tembalku_field(bytes, bytes_len, &at, 3, &validity_len);
+    if (validity == NULL || count_len != 2 || (validity_len != 0 && validity_len != (rows + 7) >> 3)) return 0;
     answer->validity = validity_len == 0 ? NULL : validity;
+    answer->null_count = tembalku_nulls(answer->validity, rows);
+    if (tembalku_number(count, 2) != answer->null_count) return 0;
     if (answer->type == TEMBALKU_UTF8) {
         answer->offsets = tembalku_field(bytes, bytes_len, &at, 5, &offsets_len);
         if (answer->offsets == NULL || offsets_len != 4 * (rows + 1)) return 0;
@@ -253,7 +279,7 @@ static inline int tembalku_answer_parts(struct tembalku_answer *answer, const ui
  * and the number of the table's rows, which the answer itself doesn't have. Gives 1, or 0 if the bytes are no answer for so many rows;
  * then it has no rows and type 0. Takes any bytes. */
 static inline int tembalku_answer_read(struct tembalku_answer *answer, const uint8_t *bytes, size_t bytes_len, size_t rows) {
-    const struct tembalku_answer none = {0, 0, 0, NULL, NULL, NULL};
+    const struct tembalku_answer none = {0, 0, 0, 0, NULL, NULL, NULL};
     size_t at = 0, head_len = 0;
     const uint8_t *head = tembalku_field(bytes, bytes_len, &at, 2, &head_len);
     *answer = none;

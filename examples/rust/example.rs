@@ -4,6 +4,7 @@
 mod library {
     extern "C" {
         pub fn tembalku_table_read(table: *const u8, table_len: usize) -> u32;
+        pub fn tembalku_table_null_count(table: *const u8, table_len: usize, column: usize) -> usize;
         pub fn tembalku_evaluate(
             rule: *const u8, rule_len: usize,
             table: *const u8, table_len: usize,
@@ -14,16 +15,17 @@ mod library {
 }
 
 const WORK_BYTES: usize = 65536;
-const OUTPUT_MOST: usize = 67665;
+const OUTPUT_MOST: usize = 67670;
 
 /// CASE WHEN c0 THEN 1 ELSE 0 END
 const RULE: [u8; 29] = [
     0x19, 0x1A, 0x00, 0x02, 0x01, 0x10, 0x03, 0x00, 0x00, 0x01, 0x01, 0x11, 0x06, 0x00, 0x02,
     0x00, 0x01, 0x00, 0x00, 0x00, 0x11, 0x06, 0x00, 0x02, 0x00, 0x00, 0x00, 0x00, 0x00,
 ];
-/// Four rows, one Boolean column: true, null, false, true.
-const TABLE: [u8; 18] = [
-    0x01, 0x02, 0x00, 0x04, 0x00, 0x02, 0x02, 0x00, 0x01, 0x01, 0x03, 0x01, 0x00, 0x0D, 0x04, 0x01, 0x00, 0x09,
+/// Four rows, one Boolean column, of which one row is null: true, null, false, true.
+const TABLE: [u8; 23] = [
+    0x01, 0x02, 0x00, 0x04, 0x00, 0x02, 0x02, 0x00, 0x01, 0x01, 0x06, 0x02,
+    0x00, 0x01, 0x00, 0x03, 0x01, 0x00, 0x0D, 0x04, 0x01, 0x00, 0x09,
 ];
 
 /// The answer's length, or the refusal.
@@ -43,6 +45,12 @@ fn table_rows(table: &[u8]) -> Result<usize, usize> {
     if said < 256 { Err(said as usize) } else { Ok((said - 65536) as usize) }
 }
 
+/// How many rows of a table's column are null; none if there is no such column, or the refusal.
+fn table_nulls(table: &[u8], column: usize) -> Result<Option<usize>, usize> {
+    let said = unsafe { library::tembalku_table_null_count(table.as_ptr(), table.len(), column) };
+    if said < 256 { Err(said) } else { Ok(said.checked_sub(65536)) }
+}
+
 /// A little-endian number.
 fn number(bytes: &[u8]) -> u64 {
     bytes.iter().rev().fold(0, |n, b| n << 8 | *b as u64)
@@ -57,9 +65,15 @@ fn bit(map: &[u8], row: usize) -> bool {
     map[row >> 3] >> (row & 7) & 1 == 1
 }
 
+/// How many entries of an answer are null.
+fn answer_nulls(answer: &[u8]) -> u64 {
+    number(&answer[8..10])
+}
+
 /// Prints an answer as the program caserun lists it.
 fn list(answer: &[u8], rows: usize) {
     let (head, rest) = field(answer);
+    let (_, rest) = field(rest);
     let (valid, rest) = field(rest);
     let (offsets, rest) = if head[0] == 5 { field(rest) } else { (&[][..], rest) };
     let (values, _) = field(rest);
@@ -82,15 +96,20 @@ fn list(answer: &[u8], rows: usize) {
     }
 }
 
+/// The listing of the answer, and the null counts of the table's column and of the answer; or the refusal.
+fn run(work: &mut [u8], output: &mut [u8]) -> Result<(), usize> {
+    let size = evaluate(&RULE, &TABLE, work, output)?;
+    let answer = &output[..size];
+    list(answer, table_rows(&TABLE)?);
+    if let Some(nulls) = table_nulls(&TABLE, 0)? {
+        println!("nulls: {} in column 0, {} in the answer", nulls, answer_nulls(answer));
+    }
+    Ok(())
+}
+
 fn main() {
-    let mut work = vec![0; WORK_BYTES];
-    let mut output = vec![0; OUTPUT_MOST];
-    let answer = evaluate(&RULE, &TABLE, &mut work, &mut output);
-    match answer.and_then(|size| Ok((size, table_rows(&TABLE)?))) {
-        Ok((size, rows)) => list(&output[..size], rows),
-        Err(number) => {
-            println!("refused {}", number);
-            std::process::exit(1);
-        }
+    if let Err(number) = run(&mut vec![0; WORK_BYTES], &mut vec![0; OUTPUT_MOST]) {
+        println!("refused {}", number);
+        std::process::exit(1);
     }
 }
