@@ -1,12 +1,12 @@
 -- How many bits of a bitmap are set: byte by byte. Assumes nothing.
-use mathlib.Core.Path.{_≡_, refl, sym, ap, ap₂, subst, _∙_}
+use mathlib.Core.Path.{_≡_, refl, sym, ap, ap₂, _∙_}
 use mathlib.Core.Bool.{Bool, true, false, cond}
 use mathlib.Core.List.{List}
 use Prim.Native.Nat.{ℕ, zero, suc, _+_, _-_, _*_, _/_, _%_, _^_, _<_, _≤_}
 use native.Mathlib.Nat.{add-zero, add-suc, zero-add, pow-suc, mod-lt}
 use native.Mathlib.Omega.{arith}
 use lib.Bits.{bitAnd}
-use lib.Count.{ones, ones-cat, ones-le}
+use lib.Count.{ones, ones-cat}
 use lib.Dec.{eqb}
 use lib.ListN.{length, take}
 use lib.Seq.{drop-cons}
@@ -44,7 +44,7 @@ ones-more b k =
     ap (λ (x : ℕ). ones (b % 2 ^ x)) e ∙ ap ones (mod-pow-add b 1 k) ∙ ones-cat k (b / 2 ^ k % 2) (b % 2 ^ k) (mod-lt b (power-some k)) ∙ ap (λ (x : ℕ). x + ones (b % 2 ^ k)) (ones-digit (b / 2 ^ k % 2) d)
 
 -- the bits of a byte from its first row on
-pub set-in-byte : (map : List ℕ) (i k : ℕ) → k ≤ 8 → setBits map (8 * i + k) ≡ setBits map (8 * i) + ones (byte map i % 2 ^ k)
+set-in-byte : (map : List ℕ) (i k : ℕ) → k ≤ 8 → setBits map (8 * i + k) ≡ setBits map (8 * i) + ones (byte map i % 2 ^ k)
 unfolding setBits
 set-in-byte map i zero h = ap (setBits map) (add-zero (8 * i)) ∙ sym (ap (λ (x : ℕ). setBits map (8 * i) + x) (ones-none (byte map i)) ∙ add-zero (setBits map (8 * i)))
 set-in-byte map i (suc k) h =

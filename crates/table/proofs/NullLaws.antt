@@ -49,13 +49,8 @@ count-bits validity (suc n) h = ap (λ (b : Bool). cond b 0 1 + nullCount validi
 
 -- there are no more nulls than rows
 pub count-most : (validity : List ℕ) (n : ℕ) → nullCount validity n ≤ n
-unfolding nullCount
-count-most validity zero = omega arith
-count-most validity (suc n) = go (validIn validity n) (count-most validity n)
-  where
-    go : (b : Bool) → nullCount validity n ≤ n → cond b 0 1 + nullCount validity n ≤ suc n
-    go true h = omega arith
-    go false h = omega arith
+count-most [] n = omega (arith, none-null n)
+count-most (b ∷ v) n = omega (arith, count-bits (b ∷ v) n (λ (e : length (b ∷ v) ≡ 0). omega (arith, e)))
 
 -- none of the rows is null just where their number is 0
 pub no-null-count : (validity : List ℕ) (n : ℕ) → noNull validity n ≡ eqb (nullCount validity n) 0
