@@ -1,26 +1,31 @@
 -- Nullability out of a rule's bytes. Assumes nothing.
 use mathlib.Core.Path.{_≡_, refl, ap, ap₂, sym, subst, _∙_}
-use mathlib.Core.Bool.{Bool, true, false, _&&_, _||_, or-false}
+use mathlib.Core.Bool.{Bool, true, false, _&&_, _||_, or-false, or-true}
 use mathlib.Core.List.{List, [], _∷_, _++_}
 use Prim.Native.Nat.{ℕ, _+_, _-_, _%_, _<_, _≤_}
 use native.Mathlib.Omega.{arith}
 use lib.Dec.{eqb}
 use lib.ListN.{length}
 use Rattle.layout.specs.Bytes.{byte, part}
+use Rattle.scalar.specs.declared.types.DataType.{DataType}
 use Rattle.scalar.specs.declared.value.Value.{Value}
 use Rattle.scalar.specs.Entry.{isNull}
-use Rattle.rule.specs.Tree.{Expr, Branches, noMore, branch, Optional, absent, present, branchCount}
+use Rattle.scalar.specs.Cast.{canFailToFit}
+use Rattle.rule.specs.Tree.{Expr, caseWhen, Branches, noMore, branch, Optional, absent, present, branchCount}
 use Rattle.rule.specs.TreeBytes.{bytesOf, isPresent}
 use Rattle.rule.specs.Row.{eval}
 use Rattle.rule.specs.Constant.{unread}
 use Rattle.rule.specs.Nullable.{stripped, replaced, mayPass, reachable, nullable, nullableThen, nullableElse}
+use Rattle.rule.specs.Typing.{typeOf}
 use Rattle.rule.specs.Node.{NodeAt}
 use Rattle.rule.specs.Walks.{branchTrees, optionalTrees, childrenOf, headBytes, TreesAt, EndGives, ChildrenGives, BehindGives}
+use Rattle.rule.specs.Walked.{typeAt}
 use Rattle.rule.specs.ConstantWalks.{PassGives, ConstantGives}
 use Rattle.rule.specs.AnswerWalks.{anyNullable, StrippedGives, ReachableGives, NullableGives, AnyGives, CaseNullableGives, BranchesNullableGives, BranchNullableGives}
 use Rattle.rule.proofs.NodeLaws.{Tagged, ofColumn, ofLiteral, ofNegation, ofNegative, ofIsNotNull, ofCast, ofTryCast, ofEqual, ofLess, ofCase, node-byte, node-children, node-deep, node-deeper, trees-one, trees-none, trees-some, trees-deeper}
 use Rattle.rule.proofs.WalkLaws.{nothing-behind, node-of-tag, first-tree, first-two, base-flag}
 use Rattle.rule.proofs.LiteralLaws.{mark-told}
+use Rattle.rule.proofs.TypeOfLaws.{type-gives}
 
 -- a tree that is stripped to the same stands at the place
 pub record StrippedLeft (rule : List ℕ) (start at : ℕ) : Type 0 where
@@ -219,9 +224,11 @@ module _ {rule : List ℕ} {at end count depth place left then next : ℕ} {base
   branch-is : {w t : Expr} {es : List Expr} → depth ≤ 8 → TreesAt rule place end (w ∷ t ∷ es) depth → (null ≡ (nullable t && (base || reachable w t))) × TreesAt rule next end es depth
   branch-is {w} {t} most trees = let (first, second, later) = first-two e f trees in (given .is w t most first second, later)
 
-  pub thens-found : null ≡ true → BranchesNullableGives rule at end count base depth true
+  pub thens-found : {start : ℕ} → null ≡ true → BranchesNullableGives rule start at end count base depth true
   unfolding nullable branchCount
-  thens-found is = record { is = λ bs els most n t. let (cs, size, trees, same) = inv .stand bs els most n t in ap (λ (x : Bool). x || nullableElse els) (go cs els most size trees ∙ sym same) }
+  thens-found {start} is = record {
+    is = λ bs els most n t. let (cs, size, trees, same) = inv .stand bs els most n t in ap (λ (x : Bool). x || nullableElse els (typeAt rule start)) (go cs els most size trees ∙ sym same);
+  }
     where
       go : (cs : Branches) (els : Optional) → depth ≤ 8 → branchCount cs ≡ left → TreesAt rule place end (branchTrees cs ++ optionalTrees els) depth → true ≡ nullableThen cs base
       go noMore els most n t = absurd (omega arith)
@@ -238,32 +245,53 @@ module _ {rule : List ℕ} {at end count depth place left then next : ℕ} {base
           let (null-is, later) = branch-is most t in
           (cs, omega arith, later, same ∙ ap (λ (x : Bool). x || nullableThen cs base) (sym null-is ∙ is))
 
+-- whether the try-cast of an ELSE can fail, by its tree
+else-fails : {rule : List ℕ} {place end depth : ℕ} {fails : Bool} {e : Expr} (result : DataType) → fails ≡ canFailToFit (typeAt rule place) result → TreesAt rule place end (e ∷ []) depth
+    → fails ≡ canFailToFit (typeOf e) result
+else-fails {end = end} {depth} {e = e} result told t = told ∙ ap (λ (d : DataType). canFailToFit d result) (type-gives refl end e depth (trees-one t))
+
 -- none is left: ELSE
-module _ {rule : List ℕ} {at end count depth place left : ℕ} {base : Bool} (inv : NullableLeft rule at end count base depth place left) (none : left ≤ 0) where
+module _ {rule : List ℕ} {start at end count depth place left : ℕ} {base : Bool} (inv : NullableLeft rule at end count base depth place left) (none : left ≤ 0) where
   -- it stands at the place
-  else-at : {r : Bool} → ((els : Optional) → depth ≤ 8 → TreesAt rule place end (optionalTrees els) depth → r ≡ nullableElse els) → BranchesNullableGives rule at end count base depth r
+  else-at : {r : Bool} → ((els : Optional) → depth ≤ 8 → TreesAt rule place end (optionalTrees els) depth → r ≡ nullableElse els (typeAt rule start))
+      → BranchesNullableGives rule start at end count base depth r
   unfolding nullable branchCount
-  else-at {r} told = record { is = λ bs els most n t. let (cs, size, trees, same) = inv .stand bs els most n t in go cs els most size trees ∙ ap (λ (x : Bool). x || nullableElse els) (sym same) }
+  else-at {r} told = record {
+    is = λ bs els most n t.
+        let (cs, size, trees, same) = inv .stand bs els most n t in
+        go cs els most size trees ∙ ap (λ (x : Bool). x || nullableElse els (typeAt rule start)) (sym same);
+  }
     where
-      go : (cs : Branches) (els : Optional) → depth ≤ 8 → branchCount cs ≡ left → TreesAt rule place end (branchTrees cs ++ optionalTrees els) depth → r ≡ (nullableThen cs base || nullableElse els)
+      go : (cs : Branches) (els : Optional) → depth ≤ 8 → branchCount cs ≡ left → TreesAt rule place end (branchTrees cs ++ optionalTrees els) depth
+          → r ≡ (nullableThen cs base || nullableElse els (typeAt rule start))
       go noMore els most n t = told els most t
       go (branch w u cs) els most n t = absurd (omega arith)
 
-  pub thens-absent : place ≡ end → BranchesNullableGives rule at end count base depth true
+  pub thens-absent : place ≡ end → BranchesNullableGives rule start at end count base depth true
   unfolding nullable
   thens-absent same = else-at go
     where
-      go : (els : Optional) → depth ≤ 8 → TreesAt rule place end (optionalTrees els) depth → true ≡ nullableElse els
+      go : (els : Optional) → depth ≤ 8 → TreesAt rule place end (optionalTrees els) depth → true ≡ nullableElse els (typeAt rule start)
       go absent most t = refl
       go (present e) most t = absurd (let k = trees-some t in omega arith)
 
-  pub thens-else : {r : Bool} → (place ≡ end → ⊥) → NullableGives rule place end depth r → BranchesNullableGives rule at end count base depth r
-  unfolding nullable
-  thens-else {r} differ gives = else-at go
-    where
-      go : (els : Optional) → depth ≤ 8 → TreesAt rule place end (optionalTrees els) depth → r ≡ nullableElse els
-      go absent most t = absurd (differ (trees-none t))
-      go (present e) most t = gives .is e most (trees-one t)
+  -- ELSE is there: nullable where its try-cast can fail, else by its own answer
+  module _ {fails : Bool} (differ : place ≡ end → ⊥) (told : fails ≡ canFailToFit (typeAt rule place) (typeAt rule start)) where
+    pub thens-fails : fails ≡ true → BranchesNullableGives rule start at end count base depth true
+    unfolding nullable
+    thens-fails is = else-at go
+      where
+        go : (els : Optional) → depth ≤ 8 → TreesAt rule place end (optionalTrees els) depth → true ≡ nullableElse els (typeAt rule start)
+        go absent most t = absurd (differ (trees-none t))
+        go (present e) most t = sym (ap (λ (x : Bool). nullable e || x) (sym (else-fails (typeAt rule start) told t) ∙ is) ∙ or-true (nullable e))
+
+    pub thens-else : {r : Bool} → fails ≡ false → NullableGives rule place end depth r → BranchesNullableGives rule start at end count base depth r
+    unfolding nullable
+    thens-else {r} is gives = else-at go
+      where
+        go : (els : Optional) → depth ≤ 8 → TreesAt rule place end (optionalTrees els) depth → r ≡ nullableElse els (typeAt rule start)
+        go absent most t = absurd (differ (trees-none t))
+        go (present e) most t = gives .is e most (trees-one t) ∙ sym (ap (λ (x : Bool). nullable e || x) (sym (else-fails (typeAt rule start) told t) ∙ is) ∙ or-false (nullable e))
 
 -- a CASE
 present-flag : (b : Optional) → eqb (length (optionalTrees b)) 1 ≡ isPresent b
@@ -271,8 +299,8 @@ present-flag absent = refl
 present-flag (present e) = refl
 
 pub case-nullable : {rule : List ℕ} {start end at flags count depth : ℕ} {r : Bool} → flags ≡ byte rule (start + 3) → count ≡ byte rule (start + 4) → BehindGives rule (start + 5) (flags % 2) at
-    → BranchesNullableGives rule at end count (eqb (flags % 2) 1) depth r → CaseNullableGives rule start end depth r
-unfolding nullable
+    → BranchesNullableGives rule start at end count (eqb (flags % 2) 1) depth r → CaseNullableGives rule start end depth r
+unfolding nullable typeOf
 case-nullable {rule} {start} {end} {at} {flags} {count} {depth} {r} flags-is count-is behind gives = record {
   is = λ b bs els most n.
       let flag = node-byte 0 (start + 3) n (omega arith) (omega arith) in
@@ -281,7 +309,7 @@ case-nullable {rule} {start} {end} {at} {flags} {count} {depth} {r} flags-is cou
       let trees = trees-deeper depth (omega arith) (node-children (start + 5) n (omega arith)) in
       let later = behind .stand end (optionalTrees b) (branchTrees bs ++ optionalTrees els) depth (sym base) trees in
       gives .is bs els most (omega arith) later
-      ∙ ap (λ (x : Bool). nullableThen bs x || nullableElse els) (ap (λ (x : ℕ). eqb x 1) base ∙ present-flag b);
+      ∙ ap₂ (λ (x : Bool) (t : DataType). nullableThen bs x || nullableElse els t) (ap (λ (x : ℕ). eqb x 1) base ∙ present-flag b) (type-gives refl end (caseWhen b bs els) (depth + 1) n);
 }
 
 pub case-outside : {rule : List ℕ} {start end depth : ℕ} {r : Bool} → length rule ≤ start → CaseNullableGives rule start end depth r

@@ -10,6 +10,7 @@ use Rattle.rule.specs.declared.strategy.Strategy.{Strategy}
 use Rattle.rule.specs.Strategy.{isLiteral, strategy}
 use Rattle.rule.specs.Node.{NodeAt}
 use Rattle.rule.specs.Walks.{branchTrees, optionalTrees, TreesAt}
+use Rattle.rule.specs.Walked.{typeAt}
 
 -- so many trees are all literals
 abbrev pub treesLiteral : List Expr → Bool
@@ -45,10 +46,10 @@ pub record AnyGives (rule : List ℕ) (start end depth : ℕ) (r : Bool) : Type 
 pub record CaseNullableGives (rule : List ℕ) (start end depth : ℕ) (r : Bool) : Type 0 where
   pub is : (b : Optional) (bs : Branches) (els : Optional) → depth ≤ 8 → NodeAt rule start end (caseWhen b bs els) (depth + 1) → r ≡ nullable (caseWhen b bs els)
 
--- whether it is by its branches and what is behind them
-pub record BranchesNullableGives (rule : List ℕ) (at end count : ℕ) (base : Bool) (depth : ℕ) (r : Bool) : Type 0 where
+-- whether it is by its branches and what is behind them, the result's type being that of the node at `start`
+pub record BranchesNullableGives (rule : List ℕ) (start at end count : ℕ) (base : Bool) (depth : ℕ) (r : Bool) : Type 0 where
   pub is : (bs : Branches) (els : Optional) → depth ≤ 8 → branchCount bs ≡ count → TreesAt rule at end (branchTrees bs ++ optionalTrees els) depth
-      → r ≡ (nullableThen bs base || nullableElse els)
+      → r ≡ (nullableThen bs base || nullableElse els (typeAt rule start))
 
 -- whether it is by a branch alone
 pub record BranchNullableGives (rule : List ℕ) (when then end : ℕ) (base : Bool) (depth : ℕ) (r : Bool) : Type 0 where

@@ -1,12 +1,14 @@
--- Nullability follows `CaseExpr::nullable` (01, Strategies).
+-- Nullability follows `CaseExpr::nullable` (01, Strategies), and takes ELSE's try-cast in (02, Change 5).
 use mathlib.Core.Bool.{Bool, true, false, cond, _&&_, _||_}
 use mathlib.Core.List.{List}
 use Prim.Native.Nat.{ℕ}
+use Rattle.scalar.specs.declared.types.DataType.{DataType}
 use Rattle.scalar.specs.Entry.{null, isNull, isTrue, Outcome, entry, unfit}
 use Rattle.scalar.specs.Text.{sameBytes}
+use Rattle.scalar.specs.Cast.{canFailToFit}
 use Rattle.rule.specs.Tree.{Expr, column, literal, negation, negative, isNotNull, cast, tryCast, equal, less, caseWhen, Branches, noMore, branch, Optional, absent, present}
 use Rattle.rule.specs.TreeBytes.{bytesOf, isPresent}
-use Rattle.rule.specs.Typing.{typeOf}
+use Rattle.rule.specs.Typing.{typeOf, resultType}
 use Rattle.rule.specs.Row.{eval}
 use Rattle.rule.specs.Constant.{unread}
 
@@ -74,14 +76,15 @@ unfoldable mutual
   nullable (tryCast t e) = true
   nullable (equal a b) = nullable a || nullable b
   nullable (less a b) = nullable a || nullable b
-  nullable (caseWhen b bs e) = nullableThen bs (isPresent b) || nullableElse e
+  nullable (caseWhen b bs e) = nullableThen bs (isPresent b) || nullableElse e (resultType bs)
 
   -- with a base any nullable THEN; without, a nullable THEN that is reachable
   pub nullableThen : Branches → Bool → Bool
   nullableThen noMore base = false
   nullableThen (branch w t bs) base = (nullable t && (base || reachable w t)) || nullableThen bs base
 
-  -- ELSE's answer, true without ELSE; a null literal ELSE, which is dropped, is nullable itself
-  pub nullableElse : Optional → Bool
-  nullableElse absent = true
-  nullableElse (present e) = nullable e
+  -- ELSE's answer, true without ELSE (a null literal ELSE, which is dropped, is nullable itself); ELSE counts as nullable also where it is try-cast from Int64 to
+  -- Int32, or from Float64 to an integer (02, Change 5), by the types alone
+  pub nullableElse : Optional → DataType → Bool
+  nullableElse absent result = true
+  nullableElse (present e) result = nullable e || canFailToFit (typeOf e) result

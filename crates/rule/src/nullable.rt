@@ -1,11 +1,16 @@
 // Whether the answer of a rule is marked nullable.
 use crate::constant::constant;
 use crate::constant::may_pass;
+use crate::type_of::type_of;
 use crate::walk::behind_fields;
 use crate::walk::children_at;
 use crate::walk::field_end;
 use layout::number::byte_at;
 use layout::part::part_of;
+use scalar::cast::can_fail_to_fit;
+ghost use mathlib.Core.Path.{_≡_};
+ghost use Rattle.scalar.specs.Cast.{canFailToFit};
+ghost use Rattle.rule.specs.Walked.{typeAt};
 ghost use Rattle.rule.specs.AnswerWalks.{StrippedGives, ReachableGives, NullableGives, AnyGives, CaseNullableGives, BranchesNullableGives, BranchNullableGives, RuleNullableGives};
 
 // Where a node stands without the NOT, negative and cast above it.
@@ -39,6 +44,13 @@ fn is_reachable(rule: &[u8], when: usize, then: usize, end: usize) -> bool
     let at = stripped_at(rule, then);
     let target = part_of(rule, at, end);
     may_pass(constant(rule, when, then, target, 8))
+}
+
+// Whether the try-cast of an ELSE to the type of its CASE, at `start`, can fail to fit.
+fn else_can_fail(rule: &[u8], start: usize, at: usize) -> bool
+    ensures { λ r. ⌜ r ≡ canFailToFit (typeAt (now (rule .entry)) at) (typeAt (now (rule .entry)) start) ⌝ }
+{
+    can_fail_to_fit(type_of(rule, at), type_of(rule, start))
 }
 
 // Whether a node is nullable, by its tag: a column's and a literal's mark, never IS NOT NULL, always try-cast, else as its children.
@@ -90,19 +102,20 @@ fn nullable_case(rule: &[u8], start: usize, end: usize, depth: usize) -> bool
     let base = byte_at(rule, start + 3) % 2;
     let count = byte_at(rule, start + 4);
     let at = behind_fields(rule, start + 5, base as usize);
-    nullable_branches(rule, at, end, count, base == 1, depth)
+    nullable_branches(rule, start, at, end, count, base == 1, depth)
 }
 
-// Whether a branch or ELSE is nullable; without ELSE a CASE is.
+// Whether a branch or ELSE is nullable, or ELSE's try-cast can fail; without ELSE a CASE is.
 fn nullable_branches(
     rule: &[u8],
+    start: usize,
     at: usize,
     end: usize,
     count: u8,
     base: bool,
     depth: usize,
 ) -> bool
-    ensures { λ r. ⌜ BranchesNullableGives (now (rule .entry)) at end count base depth r ⌝ }
+    ensures { λ r. ⌜ BranchesNullableGives (now (rule .entry)) start at end count base depth r ⌝ }
 {
     let mut place = at;
     let mut left = count;
@@ -117,6 +130,10 @@ fn nullable_branches(
         left -= 1;
     }
     if place == end {
+        return true;
+    }
+    let fails = else_can_fail(rule, start, place);
+    if fails {
         return true;
     }
     nullable_node(rule, place, end, depth)

@@ -11,7 +11,7 @@ use Rattle.scalar.specs.declared.types.DataType.the-variants.{Boolean, I
 use Rattle.scalar.specs.Integer.{signed, inRange}
 use Rattle.scalar.specs.Entry.{Entry, null, boolean, int32, int64, float64, utf8, entry, unfit, ofType}
 use Rattle.scalar.proofs.TypeLaws.{boolean-type, int32-type, int64-type, float64-type, utf8-type}
-use Rattle.scalar.specs.Cast.{listed, wholeFits, castEntry, FailsToFit, CastFailsExactly}
+use Rattle.scalar.specs.Cast.{listed, wholeFits, castEntry, canFailToFit, CanFailExactly, FailsToFit, CastFailsExactly}
 
 -- an entry fits
 entry-fits : {A : Type 0} (e : Entry) → entry e ≡ unfit → A
@@ -80,3 +80,21 @@ cast-fails-exactly from to v l p = (go v p, fails-given from to v)
     go (int64 n) p = at-type (int64-type from n p) (int64-fails to n) l
     go (float64 n) p = at-type (float64-type from n p) (float64-fails to n) l
     go (utf8 t) p = at-type (utf8-type from t p) (utf8-fails to t) l
+
+-- each of the three pairs has a value that doesn't fit
+some-fails : (from to : DataType) → canFailToFit from to ≡ true → (v : Entry) × (ofType from v ≡ true) × (castEntry to v ≡ unfit)
+unfolding castEntry ofType
+some-fails Int64 to = elim to [ Int32 ↦ λ p. (int64 0x8000_0000, refl, refl) | Boolean ↦ never | Int64 ↦ never | Float64 ↦ never | Utf8 ↦ never ]
+some-fails Float64 to = elim to [ Int32 ↦ λ p. (float64 0x7ff8_0000_0000_0000, refl, refl) | Int64 ↦ λ p. (float64 0x7ff8_0000_0000_0000, refl, refl) | Boolean ↦ never | Float64 ↦ never | Utf8 ↦ never ]
+some-fails Boolean to = never
+some-fails Int32 to = never
+some-fails Utf8 to = never
+
+-- a cast that fails is of one of them
+fails-paired : (from to : DataType) (v : Entry) → FailsToFit from to v → canFailToFit from to ≡ true
+fails-paired from to v (inl h) = rw (h .from-is, h .to-is) refl
+fails-paired from to v (inr (inl h)) = rw (h .from-is, h .to-is) refl
+fails-paired from to v (inr (inr h)) = rw (h .from-is, h .to-is) refl
+
+pub can-fail-exactly : CanFailExactly
+can-fail-exactly from to l = (some-fails from to, λ (v, typed, fails). fails-paired from to v (cast-fails-exactly from to v l typed .0 fails))

@@ -6,7 +6,7 @@ use Prim.Native.Nat.{ℕ}
 use lib.Dec.{eqb}
 use Rattle.scalar.specs.declared.types.DataType.{DataType}
 use Rattle.scalar.specs.declared.types.DataType.the-variants.{Boolean, Int32, Int64, Float64, Utf8}
-use Rattle.scalar.specs.Types.{sameType, isNumber}
+use Rattle.scalar.specs.Types.{sameType, isNumber, isInteger}
 use Rattle.scalar.specs.Integer.{signed, bitsOf, inRange}
 use Rattle.scalar.specs.Float.{floatBits}
 use Rattle.scalar.specs.WholePart.{finite, wholePart}
@@ -97,6 +97,18 @@ castEntry Utf8 e = toUtf8 e
 abbrev pub isUnfit : Outcome → Bool
 isUnfit (entry e) = false
 isUnfit unfit = true
+
+-- the casts that can fail to fit, by the types alone: Int64 to Int32 (01, One row), Float64 to an integer (02, Change 2)
+abbrev pub canFailToFit : DataType → DataType → Bool
+canFailToFit Boolean to = false
+canFailToFit Int32 to = false
+canFailToFit Int64 to = sameType to Int32
+canFailToFit Float64 to = isInteger to
+canFailToFit Utf8 to = false
+
+-- of the listed casts these and no others have a value that doesn't fit
+abbrev pub CanFailExactly : Type 0
+CanFailExactly = (from to : DataType) → listed from to ≡ true → (canFailToFit from to ≡ true) ↔ ((v : Entry) × (ofType from v ≡ true) × (castEntry to v ≡ unfit))
 
 -- an Int64 cast to Int32, at a value outside Int32's range (01, One row)
 pub record NarrowsOutside (from to : DataType) (v : Entry) : Type 0 where

@@ -28,6 +28,14 @@ isNumber Int64 = true
 isNumber Float64 = true
 isNumber Utf8 = false
 
+-- the types of integers: 2, 3
+abbrev pub isInteger : DataType → Bool
+isInteger Boolean = false
+isInteger Int32 = true
+isInteger Int64 = true
+isInteger Float64 = false
+isInteger Utf8 = false
+
 -- the type of a number, or the refusal n where it has none (01, Where a call stops: 3 and 11)
 unfoldable pub typeNumbered : ℕ → ℕ → Result DataType
 typeNumbered n zero = refused n

@@ -3,13 +3,41 @@
 use crate::truncate::truncated_int32;
 use crate::truncate::truncated_int64;
 use crate::types::DataType;
+use crate::types::is_integer;
 use crate::types::mark_number;
 use crate::value::Value;
 use crate::value::float_bits;
 ghost use mathlib.Core.Path.{_≡_};
 ghost use lib.Ieee.{binary64, ofInt};
 ghost use Rattle.scalar.specs.Integer.{signed, bitsOf};
+ghost use Rattle.scalar.specs.Cast.{canFailToFit};
 ghost use Rattle.scalar.specs.Casts.{floatAs, keptAs, castValue};
+
+// Whether an Int64 can fail to fit the type that it is cast to: Int32 alone.
+fn int64_can_fail(to: DataType) -> bool
+    ensures { λ r. ⌜ r ≡ canFailToFit DataType.Int64 to ⌝ }
+{
+    match to {
+        DataType::Boolean => false,
+        DataType::Int32 => true,
+        DataType::Int64 => false,
+        DataType::Float64 => false,
+        DataType::Utf8 => false,
+    }
+}
+
+// Whether a cast from a type to a type can fail to fit: Int64 to Int32, Float64 to an integer.
+pub fn can_fail_to_fit(from: DataType, to: DataType) -> bool
+    ensures { λ r. ⌜ r ≡ canFailToFit from to ⌝ }
+{
+    match from {
+        DataType::Boolean => false,
+        DataType::Int32 => false,
+        DataType::Int64 => int64_can_fail(to),
+        DataType::Float64 => is_integer(to),
+        DataType::Utf8 => false,
+    }
+}
 
 // Int64 to Int32: a value outside of Int32's range fails.
 pub fn narrowed(n: u64) -> Value

@@ -1,6 +1,6 @@
 // The types of columns, literals and results.
 ghost use mathlib.Core.Path.{_≡_};
-ghost use Rattle.scalar.specs.Types.{typeNumbered, typeAnswer, markNumber};
+ghost use Rattle.scalar.specs.Types.{isInteger, typeNumbered, typeAnswer, markNumber};
 
 pub enum DataType {
     Boolean,
@@ -27,6 +27,19 @@ pub fn type_numbered(number: u8) -> TypeAnswer
         4 => TypeAnswer::Known(DataType::Float64),
         5 => TypeAnswer::Known(DataType::Utf8),
         _ => TypeAnswer::Unknown,
+    }
+}
+
+// Whether a type is an integer's.
+pub fn is_integer(t: DataType) -> bool
+    ensures { λ r. ⌜ r ≡ isInteger t ⌝ }
+{
+    match t {
+        DataType::Boolean => false,
+        DataType::Int32 => true,
+        DataType::Int64 => true,
+        DataType::Float64 => false,
+        DataType::Utf8 => false,
     }
 }
 

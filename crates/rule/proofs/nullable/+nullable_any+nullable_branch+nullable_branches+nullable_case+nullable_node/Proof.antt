@@ -2,7 +2,7 @@
 -- next node. The loops' invariants: the trees, or the branches, that are left stand at the place, and one of them is nullable if one of all is.
 use native.Mathlib.Omega.{arith}
 use borrow.Author.Tests.{not-true, not-false}
-use Rattle.rule.proofs.NullableLaws.{any-outside, AnyLeft, any-start, any-found, any-next, any-end, branch-never, branch-base, branch-when, NullableLeft, thens-start, thens-found, thens-next, thens-absent, thens-else, case-nullable, case-outside, nullable-none, nullable-behind, nullable-column, nullable-literal, nullable-isNotNull, nullable-tryCast, nullable-children}
+use Rattle.rule.proofs.NullableLaws.{any-outside, AnyLeft, any-start, any-found, any-next, any-end, branch-never, branch-base, branch-when, NullableLeft, thens-start, thens-found, thens-next, thens-absent, thens-fails, thens-else, case-nullable, case-outside, nullable-none, nullable-behind, nullable-column, nullable-literal, nullable-isNotNull, nullable-tryCast, nullable-children}
 use Rattle.rule.proofs.NullableLaws as laws
 use Prim.Native.Nat.{ℕ, _+_, _-_, _*_, _<_}
 use borrow.Fn.Kinds.{In}
@@ -23,6 +23,7 @@ use Rattle.rule.proofs.nullable.nullable_node.Reads as nullable-node
 use Rattle.rule.proofs.nullable.nullable_node.Kinds as nullable-node-kinds
 use Rattle.rule.proofs.nullable.+nullable_any+nullable_branch+nullable_branches+nullable_case+nullable_node.Lts-nullable_node as nullable-node-lts
 use Rattle.layout.proofs.number.byte_at.Reads as byte-at-reads
+use Rattle.rule.proofs.nullable.else_can_fail.Reads as else-can-fail-reads
 use Rattle.rule.proofs.nullable.is_reachable.Reads as is-reachable-reads
 use Rattle.rule.proofs.walk.behind_fields.Reads as behind-fields-reads
 use Rattle.rule.proofs.walk.children_at.Reads as children-at-reads
@@ -42,7 +43,7 @@ abbrev μ-nullable-branch : Measures 1 nullable-branch-kinds.ps ℕ
 μ-nullable-branch κs a = 8 * a .1 .1 .1 .1 .1 .0 + 1
 
 abbrev μ-nullable-branches : Measures 1 nullable-branches-kinds.ps ℕ
-μ-nullable-branches κs a = 8 * a .1 .1 .1 .1 .1 .0 + 2
+μ-nullable-branches κs a = 8 * a .1 .1 .1 .1 .1 .1 .0 + 2
 
 abbrev μ-nullable-case : Measures 1 nullable-case-kinds.ps ℕ
 μ-nullable-case κs a = 8 * a .1 .1 .1 .0 + 3
@@ -96,13 +97,13 @@ nullable-branch-calls t = (nullable-node-below t, nullable-node.Post, is-reachab
 
 -- what the calls of `nullable_branches` ask and give, at the measure t
 abbrev nullable-branches-calls : ℕ → nullable-branches-lts.Claims
-nullable-branches-calls t = (field-end-reads.Asked, field-end-reads.Learnt, nullable-branch-below t, nullable-branch.Post, nullable-node-below t, nullable-node.Post)
+nullable-branches-calls t = (field-end-reads.Asked, field-end-reads.Learnt, nullable-branch-below t, nullable-branch.Post, else-can-fail-reads.Asked, else-can-fail-reads.Learnt, nullable-node-below t, nullable-node.Post)
 
 abbrev nullable-branches-Inv-loop : nullable-branches-lts.InvT-loop
-nullable-branches-Inv-loop rule at end count base depth place₀ left₀ place left = NullableLeft rule at end count base depth place left
+nullable-branches-Inv-loop rule start at end count base depth place₀ left₀ place left = NullableLeft rule at end count base depth place left
 
 abbrev nullable-branches-μ-loop : nullable-branches-lts.MeasureT-loop
-nullable-branches-μ-loop rule at end count base depth place₀ left₀ place left = left
+nullable-branches-μ-loop rule start at end count base depth place₀ left₀ place left = left
 
 -- what the calls of `nullable_case` ask and give, at the measure t
 abbrev nullable-case-calls : ℕ → nullable-case-lts.Claims
@@ -146,8 +147,10 @@ pub +nullable-any+nullable-branch+nullable-branches+nullable-case+nullable-node-
     (λ c. omega arith)
     (λ c. thens-next (c .before .before .before .before .before .loop .inv) (c .before .before .before .before .loop-test .taken) (end-gives (c .before .before .before .field-end .ensures)) (end-gives (c .before .before .field-end2 .ensures)) (c .before .nullable-branch .ensures) (c .if1 .left))
     (λ c. thens-absent (c .before .before .loop .inv) (c .before .loop-test .left) (c .if2 .taken))
-    (λ c κs. let q = c .before .before .before .before .pre .0 in (omega arith, tt))
-    (λ c. thens-else (c .before .before .before .loop .inv) (c .before .before .loop-test .left) (c .before .if2 .left) (c .nullable-node .ensures)))
+    (λ c κs. tt)
+    (λ c. thens-fails (c .before .before .before .before .loop .inv) (c .before .before .before .loop-test .left) (c .before .before .if2 .left) (c .before .else-can-fail .ensures) (c .if3 .taken))
+    (λ c κs. let q = c .before .before .before .before .before .before .pre .0 in (omega arith, tt))
+    (λ c. thens-else (c .before .before .before .before .before .loop .inv) (c .before .before .before .before .loop-test .left) (c .before .before .before .if2 .left) (c .before .before .else-can-fail .ensures) (c .before .if3 .left) (c .nullable-node .ensures)))
     (λ t. nullable-case-lts.spec (nullable-case-calls t) (nullable-case-at t) nullable-case.Post
     (λ c. case-outside (c .if1 .taken))
     (λ c. omega arith)
