@@ -23,6 +23,7 @@ pub mod ConstantCase
 pub mod FailsLaws
 pub mod StrategyLaws
 pub mod NullableLaws
+pub mod NullableExamples
 pub mod ReadNode
 pub mod AnswerLaws
 pub mod RefusalLaws
