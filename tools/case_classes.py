@@ -86,6 +86,11 @@ def other_type(e):
     return e[0] == "case" and else_of(e) is not None and kind_of(e[3]) != kind_of(e)
 
 
+def else_can_fail(e):
+    """Whether the try-cast of a CASE's ELSE to the result's type can fail to fit, by the types alone (02, Change 5)."""
+    return e[0] == "case" and else_of(e) is not None and (kind_of(e[3]), kind_of(e)) in MAY_FAIL
+
+
 def cast_pairs(e):
     """The types that a rule's casts go from and to, those of ELSEs included."""
     casts = {(kind_of(x[2]), x[1]) for x in nodes(e) if x[0] in ("cast", "trycast")}

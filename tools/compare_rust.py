@@ -471,7 +471,7 @@ def store_answers(args, programs):
     runs = [run_record(c, rust) for c, rust in both]
     store("run_cases", "rust", runs)
     rules = list(dict.fromkeys(rule_record(c, rust) for c, rust in both if rust.entries != "failed"))
-    print(f"{len(runs)} runs of the Rust in {sum(map(len, runs))} bytes (at most {MOST_FILE}), {len(rules)} rules in {write('rule_cases', 'rust', rules)} files")
+    print(f"{len(runs)} runs of the Rust in {sum(map(len, runs))} bytes (at most {MOST_FILE}), {len(rules)} rules in {len(write('rule_cases', 'rust', rules))} files")
     spread = collections.Counter()
     for c, rust in both:
         failed = rust.entries == "failed"

@@ -8,7 +8,8 @@ crates/rule_cases/args, stdout       its files, rulesK.bin and the rustK.bin tha
                                      rules each has
 crates/table_cases/data/tablesK.bin  records of: table's length (4 bytes), table; all refused tables of listing.txt, and 20 accepted of each
                                      folder, those above 4,096 bytes left out
-crates/table_cases/stdout            for each table its number, and the refusal, or its rows and each column's nulls and entries
+crates/table_cases/args, stdout      its files, and for each table its number in the file, and the refusal, or its rows and each column's nulls
+                                     and entries
 
 rules.txt has no types: a rule's type is worked out from its bytes, and compared with that of the rule's answers in listing.txt and runs.txt.
 Numbers are little-endian. No file is longer than 65,536 bytes.
@@ -27,21 +28,33 @@ def path(crate, *names):
     return os.path.join(CRATES, crate, *names)
 
 
+def parts(records):
+    """Records in parts of at most MOST bytes."""
+    found = [[]]
+    for r in records:
+        if sum(map(len, found[-1])) + len(r) > MOST:
+            found.append([])
+        found[-1].append(r)
+    return found
+
+
 def write(crate, name, records):
-    """Writes records to the numbered files of a name; the files of that name that were there go."""
+    """Writes records to the numbered files of a name; the files of that name that were there go. Gives how many each file has."""
     folder = path(crate, "data")
     for old in os.listdir(folder):
         if old.startswith(name):
             os.remove(os.path.join(folder, old))
-    files, data = 0, b""
-    for r in records + [None]:
-        if r is None or len(data) + len(r) > MOST:
-            with open(os.path.join(folder, f"{name}{files}.bin"), "wb") as out:
-                out.write(data)
-            files, data = files + 1, b""
-        if r is not None:
-            data += r
-    return files
+    for k, part in enumerate(parts(records)):
+        with open(os.path.join(folder, f"{name}{k}.bin"), "wb") as out:
+            out.write(b"".join(part))
+    return list(map(len, parts(records)))
+
+
+def say(crate, names, lines):
+    """A program's arguments, and what it must print."""
+    for end, text in (("args", "".join(n + "\n" for n in names)), ("stdout", lines)):
+        with open(path(crate, end), "w", encoding="utf-8") as out:
+            out.write(text)
 
 
 def type_of(expression):
@@ -100,15 +113,13 @@ def rules_in(data):
 
 def make_rules():
     files = write("rule_cases", "rules", list(stored_rules()))
-    names = [f"rules{k}.bin" for k in range(files)]
+    names = [f"rules{k}.bin" for k in range(len(files))]
     names += sorted((n for n in os.listdir(path("rule_cases", "data")) if n.startswith("rust")), key=lambda n: (len(n), n))
     lines = ""
     for name in names:
         with open(path("rule_cases", "data", name), "rb") as source:
             lines += f"{name}: {rules_in(source.read())} rules agree\n"
-    for end, text in (("args", "".join(n + "\n" for n in names)), ("stdout", lines)):
-        with open(path("rule_cases", end), "w", encoding="utf-8") as out:
-            out.write(text)
+    say("rule_cases", names, lines)
     print(lines, end="")
 
 
@@ -168,10 +179,13 @@ def stored_tables():
 def make_tables():
     both = list(stored_tables())
     files = write("table_cases", "tables", [record for record, _ in both])
-    with open(path("table_cases", "stdout"), "w", encoding="utf-8") as out:
-        for i, (_, lines) in enumerate(both):
-            out.write(f"table {i}\n" + "".join(l + "\n" for l in lines))
-    print(f"{len(both)} tables in {files} file{'' if files == 1 else 's'}")
+    names, text, left = [f"tables{k}.bin" for k in range(len(files))], "", iter(both)
+    for name, count in zip(names, files):
+        text += name + "\n"
+        for i in range(count):
+            text += f"table {i}\n" + "".join(l + "\n" for l in next(left)[1])
+    say("table_cases", names, text)
+    print(f"{len(both)} tables in {len(files)} file{'' if len(files) == 1 else 's'}")
 
 
 def main():

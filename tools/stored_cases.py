@@ -7,7 +7,7 @@ import os
 
 HERE = os.path.dirname(os.path.dirname(os.path.abspath(__file__)))
 CASES = os.path.join(HERE, "tools", "cases")
-FOLDERS = [CASES] + [os.path.join(CASES, name) for name in ("change-2", "change-3", "counted")]
+FOLDERS = [CASES] + [os.path.join(CASES, name) for name in ("change-2", "change-3", "change-5", "counted")]
 CRATES = os.path.join(HERE, "crates")
 FULL = 65536
 

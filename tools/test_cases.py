@@ -13,12 +13,13 @@ sys.dont_write_bytecode = True
 sys.path.insert(0, os.path.dirname(os.path.abspath(__file__)))
 import make_cases  # noqa: E402
 import make_run_cases  # noqa: E402
-from case_classes import FLOAT_CASTS, cast_pairs  # noqa: E402
+from case_classes import FLOAT_CASTS, MAY_FAIL, cast_pairs, else_can_fail, kind_of, nodes  # noqa: E402
 from casetext import read_rule  # noqa: E402
+from nullability import nullable  # noqa: E402
 from stored_cases import CRATES, FOLDERS, answer, field, fields_of, listed_runs, listings, number, rules, runs  # noqa: E402
 
 # rules, listings and runs of each folder
-STORED = [(400, 618, 250), (200, 358, 200), (200, 390, 200), (0, 0, 248)]
+STORED = [(400, 618, 250), (200, 358, 200), (200, 390, 200), (200, 390, 200), (0, 0, 248)]
 PROGRAMS = ["caserun", "rule_cases", "run_cases", "table_cases"]
 NOT_MADE = ("rule.bin", "batch.bin", "rust")
 
@@ -31,7 +32,7 @@ def made_files(folder):
             for name in names:
                 path = os.path.join(base, name)
                 data = os.path.basename(base) == "data" and not name.startswith(NOT_MADE)
-                if data or name == "stdout" or (program, name) in (("rule_cases", "args"), ("caserun", "args")):
+                if data or name == "stdout" or (program, name) in (("rule_cases", "args"), ("table_cases", "args"), ("caserun", "args")):
                     with open(path, "rb") as source:
                         found[os.path.relpath(path, folder)] = source.read()
     return found
@@ -88,14 +89,13 @@ class Data(unittest.TestCase):
         self.assertGreaterEqual(of_runs[3], 3000)
 
     def test_sizes(self):
-        """What each program can hold of a file; table_cases reads one file and at most 400 tables."""
+        """What each program can hold of a file, and table_cases of its tables."""
         most = {"caserun": make_run_cases.MOST_FILE, "run_cases": make_run_cases.MOST_FILE, "rule_cases": make_cases.MOST, "table_cases": make_cases.MOST}
         for program, size in most.items():
             folder = os.path.join(CRATES, program, "data")
             for name in os.listdir(folder):
                 self.assertLessEqual(os.path.getsize(os.path.join(folder, name)), size)
-        self.assertEqual(os.listdir(os.path.join(CRATES, "table_cases", "data")), ["tables0.bin"])
-        self.assertLessEqual(sum(l.startswith("table ") for l in printed("table_cases")), 400)
+        self.assertLess(max(int(l.split()[1]) for l in printed("table_cases") if l.startswith("table ")), 400)
 
     def test_rust(self):
         """The Rust's answers hold each cast of change 2, in runs that fail and in runs that answer."""
@@ -109,6 +109,19 @@ class Data(unittest.TestCase):
             for failed in (True, False):
                 self.assertGreaterEqual(found[pair, failed], 50)
 
+    def test_nullability(self):
+        """Every stored nullability answer is what is worked out from the rule's tree; each try-cast of an ELSE that can fail decides some."""
+        marks = [(rule, mark) for rule, _, mark, _ in rules()]
+        marks += [(rule, want[4]) for source in (listed_runs(), runs()) for _, rule, _, _, _, (outcome, want) in source if outcome == "ok"]
+        decided = collections.Counter()
+        for data, mark in marks:
+            rule = read_rule(data)
+            self.assertEqual(mark, nullable(rule), data.hex())
+            if mark and not nullable(rule, lambda e: False):
+                decided.update((kind_of(e[3]), kind_of(e), e is rule) for e in nodes(rule) if else_can_fail(e))
+        for source, target in MAY_FAIL:
+            for root in (True, False):
+                self.assertGreaterEqual(decided[source, target, root], 3, (source, target, root))
 
     def test_null_counts(self):
         """The programs' tables have null counts that are right and that are refused, and every answer has its own."""
@@ -130,7 +143,7 @@ class Data(unittest.TestCase):
     def test_counted(self):
         """The runs of the folder counted are runs of before, with an answer that is five bytes longer and an output of five bytes more."""
         old = {(rule, table, work, output) for _, rule, table, work, output, _ in runs(FOLDERS[:2])}
-        for _, rule, table, work, output, (outcome, data) in runs(FOLDERS[3:]):
+        for _, rule, table, work, output, (outcome, data) in runs(FOLDERS[-1:]):
             self.assertIn((rule, table, work, output - 5), old)
             self.assertEqual(outcome, "ok")
             self.assertGreaterEqual(output, len(data))

@@ -1,4 +1,5 @@
-// Reads the stored tables and prints of each its refusal, or its rows and every column's nulls and entries.
+// Reads the stored tables of the files that its arguments name and prints of each its number in the file, and its refusal, or its rows and
+// every column's nulls and entries.
 use layout::number::read_u32;
 use libc::STDOUT_FILENO;
 use scalar::text::place_text;
@@ -168,13 +169,15 @@ fn next(s: &[u8], at: usize, index: u64) -> usize {
     to
 }
 
-fn main() {
-    let path = b"tables0.bin";
+// Shows the tables of a file, at most 400.
+fn show_file(path: &[u8]) {
     let file = os::open_read(path);
     if file < 0 {
         os::fail(path);
         return;
     }
+    print(path);
+    print(b"\n");
     let mut buffer = io::large_buffer();
     let n = io::read_full(file, &mut buffer);
     libc::close(file);
@@ -185,5 +188,21 @@ fn main() {
             at = next(&buffer[..n], at, index);
         }
         index += 1;
+    }
+}
+
+// Shows the tables of the file that an argument names.
+fn show_argument(argument: usize) {
+    let mut path = io::buffer();
+    let size = os::arg(argument, &mut path);
+    show_file(&path[..size]);
+}
+
+fn main() {
+    let words = os::arg_count();
+    let mut argument = 1;
+    while argument < words {
+        show_argument(argument);
+        argument += 1;
     }
 }

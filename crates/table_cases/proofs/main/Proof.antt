@@ -1,15 +1,14 @@
--- `main`: the index rises to 400, and what is handed on lies in the buffer.
+-- `main`: the argument rises to their count.
 use Prim.Native.Nat.{_-_, _≤_}
 use native.Mathlib.Omega.{arith}
-use lib.ListN.{length}
 use Rattle.table_cases.proofs.main.Statement.{statement}
 use Rattle.table_cases.proofs.main.Tie as tie
 
 abbrev Inv-loop : tie.InvT-loop
-Inv-loop file buffer n at₀ index₀ at index = (index ≤ 400) × (n ≤ length buffer)
+Inv-loop words argument₀ argument = 1 ≤ argument
 
 abbrev μ-loop : tie.MeasureT-loop
-μ-loop file buffer n at₀ index₀ at index = 400 - index
+μ-loop words argument₀ argument = words - argument
 
 pub main-spec : {M : Type 1} → statement M
 main-spec =
@@ -18,14 +17,6 @@ main-spec =
     Inv-loop
     μ-loop
     (λ c κs. tt)
-    (λ c κs. tt)
-    (λ c. tt)
-    (λ c κs. tt)
-    (λ c. omega arith)
-    (λ c κs. tt)
-    (λ c κs. tt)
-    (λ c. omega arith)
-    (λ c. omega arith)
     (λ c. omega arith)
     (λ c κs. tt)
     (λ c. omega arith)
