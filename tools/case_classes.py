@@ -19,6 +19,7 @@ NEGATED = "a constant lowest integer negated"
 NOT_UTF8 = "text that isn't UTF-8"
 OUTSIDE = "outside of the domain, nothing named"
 INSIDE = "inside of the domain"
+ELSE_CAN_FAIL = "an ELSE's try-cast can fail to fit"
 CASE_IN_WHEN = "a WHEN holds a CASE"
 NEGATED_IN_WHEN = "a WHEN negates a lowest integer"
 COMPARED = "every other rule"
@@ -323,8 +324,9 @@ def classes(rule, table):
 
 
 def nullable_classes(rule):
-    """Where the Rust's nullability answer isn't compared (01, Strategies)."""
+    """Where the Rust's nullability answer isn't compared (01, Strategies; 02, Change 5)."""
     whens = [w for x in nodes(rule) if x[0] == "case" for w, _ in x[2]]
-    found = [CASE_IN_WHEN] if any(holds(w, "case") for w in whens) else []
+    found = [ELSE_CAN_FAIL] if any(map(else_can_fail, nodes(rule))) else []
+    found += [CASE_IN_WHEN] if any(holds(w, "case") for w in whens) else []
     found += [NEGATED_IN_WHEN] if any(map(negates_lowest, whens)) else []
     return found or [COMPARED]

@@ -4,10 +4,11 @@ port on the same cases.
 
 Makes N random rules with tables (rule_generator.py), runs the static library (`rt staticlib tembalku`, through stream_library.c) and the
 Rust (rust_oracle/README.md) on each, and compares entries and failures, strategy, projection and nullability. The Rust writes no null
-counts: the port's, of the answer and of the table's columns, are compared with the numbers of null entries. Prints how many agree and
-differ in each class (case_classes.py). A difference is explained when a named class holds of its input and, where the Rust can be run
-without the difference, that run agrees with the port; every other difference, and a case that one side alone takes, is shrunk and
-printed, and the exit status is 1. Then it compares ResultBuilder (compare_builder.py) if rt is on the path.
+counts: the port's, of the answer and of the table's columns, are compared with the numbers of null entries. The port's nullability is
+also compared with what is worked out from the tree (nullability.py). Prints how many agree and differ in each class (case_classes.py). A
+difference is explained when a named class holds of its input and, where the Rust can be run without the difference, that run agrees with
+the port; every other difference, and a case that one side alone takes, is shrunk and printed, and the exit status is 1. Then it compares
+ResultBuilder (compare_builder.py) if rt is on the path.
 
 --smallest  prints the smallest input that was found of each kind of explained difference
 --document  runs the cases that a document shows as --smallest does, and tells whether both sides still say what stands there
@@ -31,10 +32,11 @@ import time
 import case_classes
 import compare_builder
 import rule_generator
-from case_classes import COMPARED, CONSTANT_CAST, INSIDE, LONG_TEXT, NEGATED, NO_ROWS, UNCAST_ELSE, nodes
+from case_classes import COMPARED, CONSTANT_CAST, ELSE_CAN_FAIL, INSIDE, LONG_TEXT, NEGATED, NO_ROWS, UNCAST_ELSE, nodes
 from casetext import WORDS, column_bytes, field, number, read_rule, read_table, rule_bytes, text_of, value_text
 from make_cases import write
 from make_run_cases import MOST_FILE, record, store
+from nullability import nullable
 from shrinking import shrunk
 
 HERE = os.path.dirname(os.path.dirname(os.path.abspath(__file__)))
@@ -213,24 +215,37 @@ def unexplained(named, port, rust, without):
     return (named[0] in REFUSED or not entries_agree(port, rust)) and not explained(named, port, rust, without)
 
 
+def worked_out(rule):
+    return str(int(nullable(rule)))
+
+
+def mark_explained(named, port, tried):
+    """Whether the classes of a rule account for a difference of nullability. `tried` is the Rust's answer with a try-cast written above each
+    ELSE whose cast can fail to fit."""
+    return port.nullable == tried.nullable if named == [ELSE_CAN_FAIL] else named != [COMPARED]
+
+
 class Tally:
     """Counts by class, and the differences."""
 
     def __init__(self, programs):
         self.programs = programs
         self.entries, self.nullable = collections.defaultdict(lambda: [0, 0]), collections.defaultdict(lambda: [0, 0])
-        self.answers, self.nulls, self.spread = [0, 0], [0, 0], collections.Counter()
+        self.answers, self.nulls, self.marks, self.spread = [0, 0], [0, 0], [0, 0], collections.Counter()
         self.unexplained, self.kinds = [], {}
 
     def add(self, cases):
         said = list(zip(cases, *self.programs.both(cases), strict=True))
-        differing = [x for x in said if not entries_agree(x[1], x[2])]
-        without = self.programs.rust([x[0] for x in differing], "--cast-else", "--wrap-negation")
-        reasons = {id(x[0]): w for x, w in zip(differing, without, strict=True)}
+        without = self.again([c for c, port, rust in said if not entries_agree(port, rust)], "--cast-else", "--wrap-negation")
+        tried = self.again([c for c, port, rust in said if port.nullable != rust.nullable], "--try-else")
         for c, port, rust in said:
-            self.compare(c, port, rust, reasons.get(id(c)))
+            self.compare(c, port, rust, without.get(id(c)), tried.get(id(c)))
 
-    def compare(self, c, port, rust, without):
+    def again(self, cases, *flags):
+        """What the Rust says of cases with differences switched off."""
+        return {id(c): said for c, said in zip(cases, self.programs.rust(cases, *flags), strict=True)}
+
+    def compare(self, c, port, rust, without, tried):
         named = case_classes.classes(c.rule, c.table)
         if not accepted(port, rust) and CONSTANT_CAST not in named:
             self.unexplained.append((c, "reading"))
@@ -249,16 +264,19 @@ class Tally:
         self.answers[not about] += 1
         if not about:
             self.unexplained.append((c, "answers"))
-        self.compare_nullable(c, port, rust)
+        self.compare_nullable(c, port, rust, tried)
         self.count(c, port)
 
-    def compare_nullable(self, c, port, rust):
+    def compare_nullable(self, c, port, rust, tried):
         named, same = case_classes.nullable_classes(c.rule), port.nullable == rust.nullable
         self.nullable[named[0]][not same] += 1
-        if not same and named == [COMPARED]:
+        if not same and not mark_explained(named, port, tried):
             self.unexplained.append((c, "nullable"))
         elif not same and len(named) == 1:
             self.keep((named[0], f"nullability: the Rust {rust.nullable}, the port {port.nullable}"), c)
+        self.marks[port.nullable != worked_out(c.rule)] += 1
+        if port.nullable != worked_out(c.rule):
+            self.unexplained.append((c, "mark"))
 
     def keep(self, kind, c):
         """Keeps the shortest case of a kind of difference, one with rows if there is any."""
@@ -290,29 +308,33 @@ def differs_so(programs, what, named):
     shown with a row, unless it is one of no rows."""
     def test(cases):
         port, rust = programs.both(cases)
-        without = programs.rust(cases, "--cast-else", "--wrap-negation")
-        return [told(c, p, r, w) == (what, named) for c, p, r, w in zip(cases, port, rust, without, strict=True)]
+        without, tried = programs.rust(cases, "--cast-else", "--wrap-negation"), programs.rust(cases, "--try-else")
+        return [told(*said) == (what, named) for said in zip(cases, port, rust, without, tried, strict=True)]
 
-    def told(c, p, r, w):
+    def told(c, p, r, w, t):
         if what == "reading":
             return what if taken_alone(c, p, r) else None, named
-        about = what == "answers" or what.startswith("nullab")
+        about = what in ("answers", "mark") or what.startswith("nullab")
         if r.entries == "unreadable" or not takes(p) and (about or p.read != 8):
             return None, None
         if what == "nulls":
             return what if not nulls_agree(c, p) else None, named
         if what == "answers":
             return what if not answers_agree(p, r) else None, named
+        if what == "mark":
+            return what if p.nullable != worked_out(c.rule) else None, named
         if what.startswith("nullab"):
-            same = p.nullable == r.nullable
-            said = "nullable" if what == "nullable" else f"nullability: the Rust {r.nullable}, the port {p.nullable}"
-            return None if same else said, ", ".join(case_classes.nullable_classes(c.rule))
+            return mark_told(case_classes.nullable_classes(c.rule), p, r, t)
         classes = case_classes.classes(c.rule, c.table)
         if what == "entries":
             return what if unexplained(classes, p, r, w) else None, named
         if entries_agree(p, r) or c.table[0] == 0 and NO_ROWS not in classes:
             return None, None
         return kind_of_difference(p, r), ", ".join(classes)
+
+    def mark_told(classes, p, r, t):
+        said = f"nullability: the Rust {r.nullable}, the port {p.nullable}" if mark_explained(classes, p, t) else "nullable"
+        return None if p.nullable == r.nullable else said, ", ".join(classes)
     return test
 
 
@@ -388,7 +410,8 @@ def report(tally, count, seconds):
             print(f"  {name:43} {table[name][0]:8} {table[name][1]:8}")
         if table is tally.entries:
             print(f"{'strategy and projection':45} {tally.answers[0]:8} {tally.answers[1]:8}")
-            print(f"{'null counts':45} {tally.nulls[0]:8} {tally.nulls[1]:8}\nnullability")
+            print(f"{'null counts':45} {tally.nulls[0]:8} {tally.nulls[1]:8}")
+            print(f"{'nullability worked out from the tree':45} {tally.marks[0]:8} {tally.marks[1]:8}\nnullability")
     print("spread: " + ", ".join(f"{k} {tally.spread[k]}" for k in sorted(tally.spread)))
     more = f", the first {SHRUNK_MOST} below" if len(tally.unexplained) > SHRUNK_MOST else ""
     print(f"unexplained differences: {len(tally.unexplained)}{more}")

@@ -12,6 +12,7 @@ sys.path.insert(0, HERE)
 import case_classes as cc  # noqa: E402
 import compare_builder  # noqa: E402
 import compare_rust as cr  # noqa: E402
+import nullability  # noqa: E402
 import rule_generator as rg  # noqa: E402
 from casetext import parse, read_rule, read_table, rule_bytes  # noqa: E402
 from dealer.rows import Unfit, at_row  # noqa: E402
@@ -37,16 +38,16 @@ def random_cases(count, seed=5):
 
 
 class Told:
-    """Programs that say of each case what they are told to."""
+    """Programs that say of each case what they are told to; `tried` with a try-cast above ELSE."""
 
-    def __init__(self, port, rust):
-        self.port, self.said = port, rust
+    def __init__(self, port, rust, tried=None):
+        self.port, self.said, self.tried = port, rust, tried or rust
 
     def both(self, cases):
         return [self.port] * len(cases), self.rust(cases)
 
     def rust(self, cases, *flags):
-        return [self.said] * len(cases)
+        return [self.tried if "--try-else" in flags else self.said] * len(cases)
 
 
 class Layout(unittest.TestCase):
@@ -144,11 +145,12 @@ class Comparing(unittest.TestCase):
 
     def test_tally(self):
         """What a run calls unexplained: entries, answers, nullability, a refusal that is missing, and what one side alone takes."""
-        plain = made("rows 1\ncolumn a boolean true\nrule\n(case (when (col a) (then (col a))))")
+        plain = made("rows 1\ncolumn a boolean true\nrule\n(case (when (col a) (then (col a))) (else (col a)))")
         eight = made("rows 1\nrule\n(case (when (boolean false) (then (cast int32 (int64 2147483648)))))")
         one, two = said(b"aaaaa", 257), said(b"bbbbb", 257)
         for c, port, rust, want in ((plain, one, one, []), (plain, two, one, ["entries"]), (plain, one._replace(strategy=3), one, ["answers"]),
-                                    (plain, one._replace(projection=[1]), one, ["answers"]), (plain, one._replace(nullable="1"), one, ["nullable"]),
+                                    (plain, one._replace(projection=[1]), one, ["answers"]), (plain, one._replace(nullable="1"), one, ["nullable", "mark"]),
+                                    (plain, one, one._replace(nullable="1"), ["nullable"]),
                                     (plain, said("refused 13"), one, ["reading"]), (plain, said("refused 7", 7), one, ["reading"]),
                                     (plain, said("refused 8", 8), one, ["reading"]), (plain, one, said("unreadable"), ["reading"]),
                                     (plain, one._replace(nulls=(b"", [])), one, ["nulls"]),
@@ -158,15 +160,32 @@ class Comparing(unittest.TestCase):
             tally.add([c])
             self.assertEqual([what for _, what in tally.unexplained], want)
 
+    def test_marks(self):
+        """Where an ELSE's try-cast can fail, the Rust with the try-cast written must say what the port says."""
+        for named, port, tried, want in (([cc.ELSE_CAN_FAIL], "1", "1", True), ([cc.ELSE_CAN_FAIL], "1", "0", False), ([cc.ELSE_CAN_FAIL], "0", "1", False),
+                                         ([cc.ELSE_CAN_FAIL, cc.CASE_IN_WHEN], "0", "1", True), ([cc.NEGATED_IN_WHEN], "0", "1", True),
+                                         ([cc.COMPARED], "1", "1", False)):
+            self.assertEqual(cr.mark_explained(named, said(b"", nullable=port), said(b"", nullable=tried)), want)
+        c = made("rows 0\ncolumn a boolean\nrule\n(case (when (col a) (then (int32 1))) (else (int64 5)))")
+        one, null = said(b"aaaaa"), said(b"aaaaa", nullable="1")
+        for port, rust, tried, want in ((null, one, null, []), (null, one, one, ["nullable"]), (one, one, null, ["mark"]), (null, null, null, [])):
+            tally = cr.Tally(Told(port, rust, tried))
+            tally.add([c])
+            self.assertEqual([what for _, what in tally.unexplained], want)
+
     def test_still_differs(self):
         """What shrinking goes by."""
-        c = made("rows 1\ncolumn a boolean true\nrule\n(case (when (col a) (then (col a))))")
+        c = made("rows 1\ncolumn a boolean true\nrule\n(case (when (col a) (then (col a))) (else (col a)))")
         one = said(b"aaaaa", 257)
         for what, port, rust, want in (("entries", said(b"bbbbb", 257), one, True), ("entries", one, one, False), ("reading", said("refused 8", 8), one, True),
                                        ("reading", one, one, False), ("reading", said("refused 7", 7), said("unreadable"), False),
                                        ("entries", said("refused 7", 7), one, False), ("answers", one._replace(strategy=1), one, True),
-                                       ("nulls", one._replace(nulls=(b"", [])), one, True), ("nulls", one, one, False)):
+                                       ("nulls", one._replace(nulls=(b"", [])), one, True), ("nulls", one, one, False),
+                                       ("mark", one._replace(nullable="1"), one, True), ("mark", one, one, False)):
             self.assertEqual(cr.differs_so(Told(port, rust), what, "")([c]), [want])
+        for rust, what, named, want in ((one, "nullable", cc.COMPARED, True), (one._replace(nullable="1"), "nullable", cc.COMPARED, False),
+                                        (one, "nullable", cc.ELSE_CAN_FAIL, False), (one, "nullability: the Rust 0, the port 1", cc.COMPARED, False)):
+            self.assertEqual(cr.differs_so(Told(one._replace(nullable="1"), rust), what, named)([c]), [want])
 
 
 class Classes(unittest.TestCase):
@@ -236,6 +255,18 @@ rule
                                   ("(col a)", f"(case (when {case} (then (col a))))", cc.CASE_IN_WHEN)):
             self.assertEqual(cc.nullable_classes(made(text.format(when, other)).rule), [want])
 
+    def test_else_can_fail(self):
+        """By the types alone, wherever the CASE stands; what is left out of the comparison."""
+        text = "rows 0\ncolumn a boolean\nrule\n{}"
+        case = "(case (when (col a) (then ({}))) (else ({})))"
+        nested = "(case (when (col a) (then (boolean true))) (else (isnotnull {})))"
+        for then, other, want in (("int32 1", "int64 5", True), ("int32 1", "float64 2.0", True), ("int64 1", "float64 2.0", True),
+                                  ("float64 2.0", "int64 5", False), ("int64 1", "int32 5", False), ("int32 1", "boolean true", False),
+                                  ("boolean true", "int64 5", False), ("int32 1", "int32 5", False), ("int32 1", "null int64", False)):
+            inner = case.format(then, other)
+            for whole in (inner, nested.format(inner)):
+                self.assertEqual(cc.nullable_classes(made(text.format(whole)).rule), [cc.ELSE_CAN_FAIL if want else cc.COMPARED])
+
     def test_casts(self):
         """Document 02's sentences on the casts between floats and integers."""
         low, high = float(-2 ** 63), float(2 ** 63)
@@ -253,6 +284,21 @@ rule
         self.assertEqual(cc.cast_pairs(rule), {(4, 2), (2, 3), (3, 2)})
         self.assertTrue(cc.casts_floats(rule))
         self.assertFalse(cc.casts_floats(rule[3]))
+
+    def test_worked_out(self):
+        """Nullability by the tree: document 01's sentences, and ELSE's try-cast (02, Change 5)."""
+        text = "rows 0\ncolumn a boolean null\ncolumn n int32 null\nrule\n{}"
+        turns, fits = "(case (when (col a) (then (int32 1))) (else (int64 5)))", "(case (when (col a) (then (int64 1))) (else (int32 5)))"
+        for rule, want in ((turns, True), (fits, False), ("(case (when (col a) (then (float64 2.0))) (else (int64 5)))", False),
+                           ("(case (when (col a) (then (int64 1))) (else (float64 2.0)))", True), ("(case (when (col a) (then (int32 1))))", True),
+                           ("(case (base (col a)) (when (boolean true) (then (int32 1))) (else (int64 5)))", True),
+                           (f"(case (when (col a) (then {turns})) (else (int32 1)))", True), (f"(case (when (col a) (then (int32 1))) (else {turns}))", True),
+                           (f"(case (when (boolean false) (then {turns})) (else (int32 1)))", False),
+                           (f"(case (when (isnotnull {turns}) (then (int32 1))) (else (int32 1)))", False),
+                           ("(case (when (isnotnull (col n)) (then (neg (col n)))) (else (int32 1)))", False),
+                           ("(case (when (isnotnull (col a)) (then (col n))) (else (int32 1)))", True),
+                           ("(case (base (col a)) (when (boolean true) (then (col n))) (else (int32 1)))", True)):
+            self.assertEqual(nullability.nullable(made(text.format(rule)).rule), want, rule)
 
     def test_meaning(self):
         """The same values as casetext.py's meaning of one row, which was written apart from it."""

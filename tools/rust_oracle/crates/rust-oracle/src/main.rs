@@ -3,12 +3,13 @@
 //! rust-oracle --answers RULE.bin             strategy, nullability, projection
 //! rust-oracle --bench RULE.bin BATCH.bin     median nanoseconds: `evaluate`, with
 //!                                            into_array; `whole`, from bytes to bytes
-//! rust-oracle [--cast-else] [--wrap-negation] --stream < FRAMES
+//! rust-oracle [--cast-else] [--wrap-negation] [--try-else] --stream < FRAMES
 //!     many cases: a frame is a four-byte little-endian length and a rule, then
 //!     the same for a table. Each gives its answers, its listing and a line with
 //!     a dot. --cast-else puts a try-cast above the ELSE that `expr_or_expr` may
-//!     leave uncast, --wrap-negation makes the negation of a scalar wrap: a known
-//!     difference is then gone.
+//!     leave uncast, --wrap-negation makes the negation of a scalar wrap, and
+//!     --try-else asks the nullability of the rule with a try-cast above each ELSE
+//!     whose cast can fail to fit: a known difference is then gone.
 //! rust-oracle --builder < TEXT               `ResultBuilder` on Int32:
 //!     a line with the row count, then a line a part (`0 4 = 7 null`: rows, then
 //!     their values), then an empty line; gives a listing, `failed` or `panicked`,
@@ -26,6 +27,7 @@ use arrow::datatypes::{DataType, Schema};
 use datafusion_common::ScalarValue;
 use datafusion_physical_expr::PhysicalExpr;
 use datafusion_physical_expr::expressions::case::probe;
+use rule::CastElse;
 use std::fmt::Write as _;
 use std::hint::black_box;
 use std::io::{Read, Write};
@@ -58,7 +60,7 @@ fn evaluate(rule: &rule::Rule, batch: &RecordBatch) -> Result<ArrayRef, String> 
     guarded(|| rule.case.evaluate(batch)?.into_array(batch.num_rows()))
 }
 
-fn listing(r: &[u8], t: &[u8], cast_else: bool) -> String {
+fn listing(r: &[u8], t: &[u8], cast_else: CastElse) -> String {
     let Some(rule) = rule::read_as(r, cast_else) else {
         return "unreadable\n".into();
     };
@@ -82,15 +84,16 @@ fn numbers(v: &[usize]) -> String {
     })
 }
 
-fn answers(r: &[u8]) -> String {
-    let Some(rule) = rule::read(r) else {
+/// The nullability answer is that of the rule with its ELSEs cast so.
+fn answers(r: &[u8], cast_else: CastElse) -> String {
+    let (Some(rule), Some(asked)) = (rule::read(r), rule::read_as(r, cast_else)) else {
         return "unreadable\n".into();
     };
     let case = &rule.case;
     format!(
         "strategy {}\nnullable {}\nprojection{}\n",
         probe::strategy(case),
-        nullable(&rule, &rule.schema()),
+        nullable(&asked, &asked.schema()),
         match guarded(|| probe::projection(case)) {
             Ok(p) => numbers(&p),
             Err(e) => format!(" {e}"),
@@ -148,7 +151,7 @@ fn bench(r: &[u8], t: &[u8]) -> String {
     format!("evaluate {evaluate:.0}\nwhole {all:.0}\n")
 }
 
-fn stream(cast_else: bool, wrap: bool) -> std::io::Result<()> {
+fn stream(listed: CastElse, wrap: bool, asked: CastElse) -> std::io::Result<()> {
     datafusion_common::WRAP_SCALAR_NEGATION.store(wrap, Ordering::Relaxed);
     let mut all = Vec::new();
     std::io::stdin().lock().read_to_end(&mut all)?;
@@ -162,7 +165,7 @@ fn stream(cast_else: bool, wrap: bool) -> std::io::Result<()> {
         Some(x)
     }
     while let (Some(r), Some(t)) = (frame(&mut b), frame(&mut b)) {
-        write!(out, "{}{}.\n", answers(r), listing(r, t, cast_else))?;
+        write!(out, "{}{}.\n", answers(r, asked), listing(r, t, listed))?;
     }
     out.flush()
 }
@@ -211,7 +214,10 @@ fn main() -> std::process::ExitCode {
     let s = match args.as_slice() {
         [flags @ .., "--stream"] => {
             let on = |flag| flags.contains(&flag);
-            return match stream(on("--cast-else"), on("--wrap-negation")) {
+            let cast = |flag, how| if on(flag) { how } else { CastElse::None };
+            let listed = cast("--cast-else", CastElse::LeftUncast);
+            let asked = cast("--try-else", CastElse::CanFail);
+            return match stream(listed, on("--wrap-negation"), asked) {
                 Ok(()) => 0.into(),
                 Err(_) => 1.into(),
             };
@@ -221,9 +227,9 @@ fn main() -> std::process::ExitCode {
             let _ = std::io::stdin().lock().read_to_string(&mut text);
             builder(&text).unwrap_or("unreadable\n".into())
         }
-        ["--answers", r] => answers(&read(r)),
+        ["--answers", r] => answers(&read(r), CastElse::None),
         ["--bench", r, t] => bench(&read(r), &read(t)),
-        [r, t] => listing(&read(r), &read(t), false),
+        [r, t] => listing(&read(r), &read(t), CastElse::None),
         _ => {
             eprintln!("usage: see the head of main.rs, or tools/rust_oracle/README.md");
             return 2.into();

@@ -58,9 +58,19 @@ impl Rule {
     }
 }
 
+/// Which ELSEs of another type than the result are put under a try-cast.
+#[derive(Clone, Copy)]
+pub enum CastElse {
+    None,
+    /// those that `expr_or_expr` (strategy 5) may leave as they are
+    LeftUncast,
+    /// those whose cast can fail to fit
+    CanFail,
+}
+
 struct Reader {
     columns: BTreeMap<usize, (u8, bool)>,
-    cast_else: bool,
+    cast_else: CastElse,
 }
 
 /// A field's tag, content and what follows it.
@@ -85,13 +95,16 @@ fn castable(from: u8, to: u8) -> bool {
     from == to || both(1..=3) || both(2..=4)
 }
 
-pub fn read(bytes: &[u8]) -> Option<Rule> {
-    read_as(bytes, false)
+/// Int64 to Int32, and Float64 to an integer.
+fn can_fail(from: u8, to: u8) -> bool {
+    matches!((from, to), (3, 2) | (4, 2) | (4, 3))
 }
 
-/// With `cast_else`, an ELSE of another type than the result is put under a
-/// try-cast where `expr_or_expr` (strategy 5) may leave it as it is.
-pub fn read_as(bytes: &[u8], cast_else: bool) -> Option<Rule> {
+pub fn read(bytes: &[u8]) -> Option<Rule> {
+    read_as(bytes, CastElse::None)
+}
+
+pub fn read_as(bytes: &[u8], cast_else: CastElse) -> Option<Rule> {
     if bytes.is_empty() || bytes.len() > 4096 {
         return None;
     }
@@ -150,13 +163,14 @@ impl Reader {
                 return None;
             }
             let both_literal = e.is::<Literal>() && branches[0].1.is::<Literal>();
-            if self.cast_else
-                && t != result
-                && base.is_none()
-                && count == 1
-                && !both_literal
-                && !null
-            {
+            let try_cast = match self.cast_else {
+                CastElse::None => false,
+                CastElse::LeftUncast => {
+                    t != result && base.is_none() && count == 1 && !both_literal
+                }
+                CastElse::CanFail => can_fail(t, result),
+            };
+            if try_cast && !null {
                 Some(Arc::new(TryCastExpr::new(e, type_of(result)?)) as Expr)
             } else {
                 Some(e)
