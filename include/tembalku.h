@@ -27,9 +27,9 @@ extern "C" {
 #endif
 
 #define TEMBALKU_VERSION_MAJOR 0
-#define TEMBALKU_VERSION_MINOR 2
+#define TEMBALKU_VERSION_MINOR 3
 #define TEMBALKU_VERSION_PATCH 0
-#define TEMBALKU_VERSION "0.2.0"
+#define TEMBALKU_VERSION "0.3.0"
 
 /* Limits: more is refused (1, 9, 10, 10, 6). */
 #define TEMBALKU_RULE_MOST 4096
@@ -110,7 +110,8 @@ uint32_t tembalku_rule_read(const uint8_t *rule, size_t rule_len);
 /* The strategy of a rule. Gives its refusal (1 to 8), or 256 and the number of the root CASE's strategy (tembalku_strategy). */
 uint32_t tembalku_rule_strategy(const uint8_t *rule, size_t rule_len);
 
-/* The nullability of a rule: the nullable byte that its answers carry. Gives its refusal (1 to 8), or 256 and the byte, 0 or 1. */
+/* The nullability of a rule: the nullable byte that its answers carry (docs/FORMAT.md). Gives its refusal (1 to 8), or 256 and the byte, 0
+ * or 1. An ELSE that is try-cast from Int64 to Int32, or from Float64 to an integer, counts as nullable, whatever its value. */
 uint32_t tembalku_rule_nullable(const uint8_t *rule, size_t rule_len);
 
 /* The projection of a rule: the indexes of the columns that it names, each once, rising. Gives its refusal (1 to 8), or 256 and their

@@ -6,7 +6,7 @@ Has the checker compute the definitions of specs/ on stored cases, each by `refl
 SCRATCH  a folder to make; it must not lie in this repository
 FOLDER   a folder with rules.txt, listing.txt and runs.txt, or some of them; tools/cases and the folders in it unless said
 rules.txt is taken whole: strategy, nullability and projection. Of listing.txt and runs.txt N cases each are taken (default
-300; `--listing 1366 --runs 898` takes all), refusals and strategies in turn so that each kind is among them, those of at most BYTES
+300; `--listing 1756 --runs 1098` takes all), refusals and strategies in turn so that each kind is among them, those of at most BYTES
 bytes of rule and table first. Prints how many agreed, by kind, and the first that did not.
 """
 import argparse

@@ -34,6 +34,7 @@ typedef struct {
 
 #define TRUE 0x11, 3, 0, 1, 0, 1
 #define INT32(n) 0x11, 6, 0, 2, 0, n, 0, 0, 0
+#define INT64(n) 0x11, 10, 0, 3, 0, n, 0, 0, 0, 0, 0, 0, 0
 #define COLUMN(index, type, nullable) 0x10, 3, 0, index, type, nullable
 #define NULLS(n) 6, 2, 0, n, 0
 
@@ -48,6 +49,10 @@ INPUT(rule_2, 0x19, 26, 0, 1, 1, COLUMN(3, 2, 0), INT32(7), INT32(1));
 INPUT(rule_3, 0x19, 14, 0, 0, 1, COLUMN(2, 1, 0), COLUMN(1, 5, 1));
 INPUT(rule_5, 0x19, 17, 0, 0, 1, COLUMN(0, 1, 1), INT32(1));
 INPUT(rule_6, 0x19, 44, 0, 1, 2, COLUMN(3, 2, 0), INT32(7), INT32(1), INT32(8), INT32(2));
+
+/* an ELSE of Int64 below a THEN of Int32, whose try-cast may turn null, and one of Int32 below a THEN of Int64 */
+INPUT(narrowed_else, 0x19, 30, 0, 2, 1, COLUMN(0, 1, 1), INT32(1), INT64(5));
+INPUT(widened_else, 0x19, 30, 0, 2, 1, COLUMN(0, 1, 1), INT64(1), INT32(5));
 
 /* refused as rules: the number is in the name */
 INPUT(refused_2, 0x19, 26, 0, 2, 1, COLUMN(0, 1, 1), INT32(1), 0x11, 6, 0, 2, 0, 0, 0, 0);
@@ -278,6 +283,8 @@ static void test_rules(void) {
     test_rule(rule_3, TEMBALKU_UTF8, TEMBALKU_INFALLIBLE_EXPR_OR_NULL, 1, two);
     test_rule(rule_5, TEMBALKU_INT32, TEMBALKU_EXPRESSION_OR_EXPRESSION, 1, first);
     test_rule(rule_6, TEMBALKU_INT32, TEMBALKU_WITH_EXPR_SCALAR_LOOKUP_TABLE, 1, fourth);
+    test_rule(narrowed_else, TEMBALKU_INT32, TEMBALKU_SCALAR_OR_SCALAR, 1, first);
+    test_rule(widened_else, TEMBALKU_INT64, TEMBALKU_SCALAR_OR_SCALAR, 0, first);
 }
 
 static void test_tables(void) {
