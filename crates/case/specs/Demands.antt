@@ -1,5 +1,6 @@
 -- What must hold of the definitions, in a reader's words. `proofs/DemandsHold.antt`, `CallsHold.antt` and `EndsHold.antt` have the proofs.
--- That of the casts only Int64 to Int32, Float64 to Int32 and Float64 to Int64 can fail to fit is `CastFailsExactly` of scalar's `specs/Cast.antt`.
+-- That of the casts only Int64 to Int32, Float64 to Int32 and Float64 to Int64 can fail to fit is `CastFailsExactly` of scalar's `specs/Cast.antt`; that
+-- each of them can, `CanFailExactly`.
 -- Each speaks of lists of bytes, as a slice of bytes always is one.
 use mathlib.Core.Bool.{Bool, true, false, cond, _||_}
 use mathlib.Core.Path.{_≡_}

@@ -1,5 +1,5 @@
 -- Of the casts only three pairs can fail to fit: Int64 to Int32, at a value outside Int32's range (01, One row), and Float64 to Int32 and Int64,
--- at a NaN, an infinity or a whole part out of range (02, Change 2). Assumes nothing.
+-- at a NaN, an infinity or a whole part out of range (02, Change 2); each of them does at some value. Assumes nothing.
 use mathlib.Core.Path.{_≡_, refl, sym, subst}
 use mathlib.Core.Bool.{Bool, true, false, cond, false≢true}
 use mathlib.Core.Logic.{inl, inr}

@@ -31,7 +31,7 @@ pub fn type_numbered(number: u8) -> TypeAnswer
 }
 
 // Whether a type is an integer's.
-pub fn is_integer(t: DataType) -> bool
+pub(crate) fn is_integer(t: DataType) -> bool
     ensures { λ r. ⌜ r ≡ isInteger t ⌝ }
 {
     match t {
