@@ -1,5 +1,7 @@
 // The rows of a result and the value that each holds: one index a row. Rows come in rising lists, the branches' parts; a list of all rows
 // is the whole result.
+#![tactic(auto)]
+
 ghost use Rattle.std.specs.Prelude.{◌≡◌, true, not, ◌&&◌, ◌||◌, ◌≤◌, min, length};
 ghost use Rattle.builder.specs.Builder.{rising_below, or_else};
 ghost use Rattle.builder.specs.BuilderStruct.{marked, some_marked, count_of, holding, empty_builder, new_answer, add_answer, finish_answer};

@@ -1,4 +1,6 @@
 // Evaluation of a rule over a table.
+#![tactic(auto)]
+
 pub(crate) mod binary;
 pub(crate) mod boolean_lookup_table;
 pub(crate) mod bytes_like_lookup_table;

@@ -1,5 +1,7 @@
 // Evaluates the rule in rule.bin over the table in batch.bin, or in the two files that the first arguments name, and prints the listing of the
 // run. A single argument, or each from the third on, names a file of records: the listings of their runs are printed one behind the other.
+#![tactic(auto)]
+
 mod file;
 mod list;
 mod record;

@@ -1,4 +1,6 @@
 // Byte layouts: tagged fields, little-endian numbers, bit positions, parts of slices. Every function takes every argument.
+#![tactic(auto)]
+
 pub mod bits;
 pub mod field;
 pub mod number;

@@ -1,4 +1,6 @@
 // A listing, put at a place of a lent buffer. Every public function takes every argument.
+#![tactic(auto)]
+
 pub mod digits;
 pub mod entry;
 pub mod line;

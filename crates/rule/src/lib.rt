@@ -1,4 +1,6 @@
 // Reading a rule, and its public answers: strategy, projection, nullability.
+#![tactic(auto)]
+
 pub mod answer;
 pub(crate) mod constant;
 pub(crate) mod fails;

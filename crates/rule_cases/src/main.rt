@@ -1,5 +1,7 @@
 // Compares what is read off rules with stored answers: the refusal number or the type, the strategy, the nullability answer and the
 // projection. Prints of each file that the arguments name how many rules agree, or the first that differs.
+#![tactic(auto)]
+
 mod answers;
 mod record;
 

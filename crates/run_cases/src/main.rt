@@ -1,5 +1,7 @@
 // Replays the stored runs, the refused listings as runs, the cases at both ends of limits, and runs with the Rust's answers, and prints of
 // each kind how many agree, with the first that doesn't.
+#![tactic(auto)]
+
 mod bytes;
 mod record;
 mod run;

@@ -1,5 +1,7 @@
 // Worked examples of the operations on values. Each line has the example, the kind of the result and its payload in hex:
 // kinds are 0 null, 1 Boolean, 2 Int32, 3 Int64, 4 Float64, 5 text in the rule, 6 text in the table, 7 failed.
+#![tactic(auto)]
+
 use libc::STDOUT_FILENO;
 use scalar::cast::cast;
 use scalar::compare::{equal, less};

@@ -1,4 +1,6 @@
 // Reading a table: where each column's parts stand, and the entry of a column at a row. Every public function takes every argument.
+#![tactic(auto)]
+
 pub mod alone;
 pub mod answer;
 pub mod column;

@@ -1,5 +1,7 @@
 // Reads the stored tables of the files that its arguments name and prints of each its number in the file, and its refusal, or its rows and
 // every column's nulls and entries.
+#![tactic(auto)]
+
 use layout::number::read_u32;
 use libc::STDOUT_FILENO;
 use scalar::text::place_text;

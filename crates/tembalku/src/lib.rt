@@ -1,4 +1,6 @@
 // The library for display makers: every function can be called from C and takes every argument.
+#![tactic(auto)]
+
 ghost use Rattle.std.specs.Prelude.{◌≡◌, length};
 ghost use Rattle.rule.specs.Reading.{read_rule};
 ghost use Rattle.scalar.specs.Types.{type_number};

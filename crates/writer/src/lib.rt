@@ -1,4 +1,6 @@
 // The answer's column, written from the rows' values.
+#![tactic(auto)]
+
 pub(crate) mod bitmap;
 pub mod classes;
 pub mod clear;
