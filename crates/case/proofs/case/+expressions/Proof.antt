@@ -12,58 +12,58 @@ use borrow.Fn.Kinds.{In}
 use borrow.Fn.PlainCycle.{Measures, is, falls, and}
 use Rattle.case.proofs.case.against.Reads as against
 use Rattle.case.proofs.case.against.Kinds as against-kinds
-use Rattle.case.proofs.case.+against_binary_branches_by_base_case_case_column_or_null_case_when_no_expr_case_when_with_expr_choose_expr_expr_or_expr_scalar_or_scalar_take_take_else_then_turn_unary_with_lookup_table.Lts-against as against-lts
+use Rattle.case.proofs.case.+expressions.Lts-against as against-lts
 use Rattle.case.proofs.case.binary.Reads as binary
 use Rattle.case.proofs.case.binary.Kinds as binary-kinds
-use Rattle.case.proofs.case.+against_binary_branches_by_base_case_case_column_or_null_case_when_no_expr_case_when_with_expr_choose_expr_expr_or_expr_scalar_or_scalar_take_take_else_then_turn_unary_with_lookup_table.Lts-binary as binary-lts
+use Rattle.case.proofs.case.+expressions.Lts-binary as binary-lts
 use Rattle.case.proofs.case.branches.Reads as branches
 use Rattle.case.proofs.case.branches.Kinds as branches-kinds
-use Rattle.case.proofs.case.+against_binary_branches_by_base_case_case_column_or_null_case_when_no_expr_case_when_with_expr_choose_expr_expr_or_expr_scalar_or_scalar_take_take_else_then_turn_unary_with_lookup_table.Lts-branches as branches-lts
+use Rattle.case.proofs.case.+expressions.Lts-branches as branches-lts
 use Rattle.case.proofs.case.by_base.Reads as by-base
 use Rattle.case.proofs.case.by_base.Kinds as by-base-kinds
-use Rattle.case.proofs.case.+against_binary_branches_by_base_case_case_column_or_null_case_when_no_expr_case_when_with_expr_choose_expr_expr_or_expr_scalar_or_scalar_take_take_else_then_turn_unary_with_lookup_table.Lts-by_base as by-base-lts
+use Rattle.case.proofs.case.+expressions.Lts-by_base as by-base-lts
 use Rattle.case.proofs.case.case.Reads as case
 use Rattle.case.proofs.case.case.Kinds as case-kinds
-use Rattle.case.proofs.case.+against_binary_branches_by_base_case_case_column_or_null_case_when_no_expr_case_when_with_expr_choose_expr_expr_or_expr_scalar_or_scalar_take_take_else_then_turn_unary_with_lookup_table.Lts-case as case-lts
+use Rattle.case.proofs.case.+expressions.Lts-case as case-lts
 use Rattle.case.proofs.case.case_column_or_null.Reads as case-column-or-null
 use Rattle.case.proofs.case.case_column_or_null.Kinds as case-column-or-null-kinds
-use Rattle.case.proofs.case.+against_binary_branches_by_base_case_case_column_or_null_case_when_no_expr_case_when_with_expr_choose_expr_expr_or_expr_scalar_or_scalar_take_take_else_then_turn_unary_with_lookup_table.Lts-case_column_or_null as case-column-or-null-lts
+use Rattle.case.proofs.case.+expressions.Lts-case_column_or_null as case-column-or-null-lts
 use Rattle.case.proofs.case.case_when_no_expr.Reads as case-when-no-expr
 use Rattle.case.proofs.case.case_when_no_expr.Kinds as case-when-no-expr-kinds
-use Rattle.case.proofs.case.+against_binary_branches_by_base_case_case_column_or_null_case_when_no_expr_case_when_with_expr_choose_expr_expr_or_expr_scalar_or_scalar_take_take_else_then_turn_unary_with_lookup_table.Lts-case_when_no_expr as case-when-no-expr-lts
+use Rattle.case.proofs.case.+expressions.Lts-case_when_no_expr as case-when-no-expr-lts
 use Rattle.case.proofs.case.case_when_with_expr.Reads as case-when-with-expr
 use Rattle.case.proofs.case.case_when_with_expr.Kinds as case-when-with-expr-kinds
-use Rattle.case.proofs.case.+against_binary_branches_by_base_case_case_column_or_null_case_when_no_expr_case_when_with_expr_choose_expr_expr_or_expr_scalar_or_scalar_take_take_else_then_turn_unary_with_lookup_table.Lts-case_when_with_expr as case-when-with-expr-lts
+use Rattle.case.proofs.case.+expressions.Lts-case_when_with_expr as case-when-with-expr-lts
 use Rattle.case.proofs.case.choose.Reads as choose
 use Rattle.case.proofs.case.choose.Kinds as choose-kinds
-use Rattle.case.proofs.case.+against_binary_branches_by_base_case_case_column_or_null_case_when_no_expr_case_when_with_expr_choose_expr_expr_or_expr_scalar_or_scalar_take_take_else_then_turn_unary_with_lookup_table.Lts-choose as choose-lts
+use Rattle.case.proofs.case.+expressions.Lts-choose as choose-lts
 use Rattle.case.proofs.case.expr.Reads as expr
 use Rattle.case.proofs.case.expr.Kinds as expr-kinds
-use Rattle.case.proofs.case.+against_binary_branches_by_base_case_case_column_or_null_case_when_no_expr_case_when_with_expr_choose_expr_expr_or_expr_scalar_or_scalar_take_take_else_then_turn_unary_with_lookup_table.Lts-expr as expr-lts
+use Rattle.case.proofs.case.+expressions.Lts-expr as expr-lts
 use Rattle.case.proofs.case.expr_or_expr.Reads as expr-or-expr
 use Rattle.case.proofs.case.expr_or_expr.Kinds as expr-or-expr-kinds
-use Rattle.case.proofs.case.+against_binary_branches_by_base_case_case_column_or_null_case_when_no_expr_case_when_with_expr_choose_expr_expr_or_expr_scalar_or_scalar_take_take_else_then_turn_unary_with_lookup_table.Lts-expr_or_expr as expr-or-expr-lts
+use Rattle.case.proofs.case.+expressions.Lts-expr_or_expr as expr-or-expr-lts
 use Rattle.case.proofs.case.scalar_or_scalar.Reads as scalar-or-scalar
 use Rattle.case.proofs.case.scalar_or_scalar.Kinds as scalar-or-scalar-kinds
-use Rattle.case.proofs.case.+against_binary_branches_by_base_case_case_column_or_null_case_when_no_expr_case_when_with_expr_choose_expr_expr_or_expr_scalar_or_scalar_take_take_else_then_turn_unary_with_lookup_table.Lts-scalar_or_scalar as scalar-or-scalar-lts
+use Rattle.case.proofs.case.+expressions.Lts-scalar_or_scalar as scalar-or-scalar-lts
 use Rattle.case.proofs.case.take.Reads as take
 use Rattle.case.proofs.case.take.Kinds as take-kinds
-use Rattle.case.proofs.case.+against_binary_branches_by_base_case_case_column_or_null_case_when_no_expr_case_when_with_expr_choose_expr_expr_or_expr_scalar_or_scalar_take_take_else_then_turn_unary_with_lookup_table.Lts-take as take-lts
+use Rattle.case.proofs.case.+expressions.Lts-take as take-lts
 use Rattle.case.proofs.case.take_else.Reads as take-else
 use Rattle.case.proofs.case.take_else.Kinds as take-else-kinds
-use Rattle.case.proofs.case.+against_binary_branches_by_base_case_case_column_or_null_case_when_no_expr_case_when_with_expr_choose_expr_expr_or_expr_scalar_or_scalar_take_take_else_then_turn_unary_with_lookup_table.Lts-take_else as take-else-lts
+use Rattle.case.proofs.case.+expressions.Lts-take_else as take-else-lts
 use Rattle.case.proofs.case.then.Reads as then
 use Rattle.case.proofs.case.then.Kinds as then-kinds
-use Rattle.case.proofs.case.+against_binary_branches_by_base_case_case_column_or_null_case_when_no_expr_case_when_with_expr_choose_expr_expr_or_expr_scalar_or_scalar_take_take_else_then_turn_unary_with_lookup_table.Lts-then as then-lts
+use Rattle.case.proofs.case.+expressions.Lts-then as then-lts
 use Rattle.case.proofs.case.turn.Reads as turn
 use Rattle.case.proofs.case.turn.Kinds as turn-kinds
-use Rattle.case.proofs.case.+against_binary_branches_by_base_case_case_column_or_null_case_when_no_expr_case_when_with_expr_choose_expr_expr_or_expr_scalar_or_scalar_take_take_else_then_turn_unary_with_lookup_table.Lts-turn as turn-lts
+use Rattle.case.proofs.case.+expressions.Lts-turn as turn-lts
 use Rattle.case.proofs.case.unary.Reads as unary
 use Rattle.case.proofs.case.unary.Kinds as unary-kinds
-use Rattle.case.proofs.case.+against_binary_branches_by_base_case_case_column_or_null_case_when_no_expr_case_when_with_expr_choose_expr_expr_or_expr_scalar_or_scalar_take_take_else_then_turn_unary_with_lookup_table.Lts-unary as unary-lts
+use Rattle.case.proofs.case.+expressions.Lts-unary as unary-lts
 use Rattle.case.proofs.case.with_lookup_table.Reads as with-lookup-table
 use Rattle.case.proofs.case.with_lookup_table.Kinds as with-lookup-table-kinds
-use Rattle.case.proofs.case.+against_binary_branches_by_base_case_case_column_or_null_case_when_no_expr_case_when_with_expr_choose_expr_expr_or_expr_scalar_or_scalar_take_take_else_then_turn_unary_with_lookup_table.Lts-with_lookup_table as with-lookup-table-lts
+use Rattle.case.proofs.case.+expressions.Lts-with_lookup_table as with-lookup-table-lts
 use Rattle.case.proofs.binary.compare_rows.Reads as compare-rows-reads
 use Rattle.case.proofs.binary.compare_value.Reads as compare-value-reads
 use Rattle.case.proofs.cells.cells_or_null.Reads as cells-or-null-reads
@@ -91,14 +91,14 @@ use Rattle.rule.proofs.strategy.strategy_at.Reads as strategy-at-reads
 use Rattle.rule.proofs.type_of.type_of.Reads as type-of-reads
 use Rattle.rule.proofs.walk.children_at.Reads as children-at-reads
 use Rattle.rule.proofs.walk.field_end.Reads as field-end-reads
-use Rattle.case.proofs.case.+against_binary_branches_by_base_case_case_column_or_null_case_when_no_expr_case_when_with_expr_choose_expr_expr_or_expr_scalar_or_scalar_take_take_else_then_turn_unary_with_lookup_table.{
+use Rattle.case.proofs.case.+expressions.{
   statement,
 }
 use Rattle.rule.proofs.StrategyLaws.{strategy_gives}
 use Rattle.rule.proofs.LiteralLaws.{literal_gives}
 use Rattle.rule.proofs.WalkLaws.{children_gives, end_gives}
 use Rattle.rule.proofs.TypeOfLaws.{type_gives}
-use Rattle.case.proofs.case.+against_binary_branches_by_base_case_case_column_or_null_case_when_no_expr_case_when_with_expr_choose_expr_expr_or_expr_scalar_or_scalar_take_take_else_then_turn_unary_with_lookup_table.Tie.{
+use Rattle.case.proofs.case.+expressions.Tie.{
   close,
 }
 
