@@ -1,5 +1,5 @@
 -- A cast by the value's kind.
-use Rattle.std.proofs.Common.{◌∙◌, rules}
+use Rattle.std.proofs.Common.{◌∙◌}
 use Rattle.scalar.proofs.CastLaws.{float_cast, nan_cast, text_cast, none_cast}
 use Rattle.scalar.proofs.cast.cast.Goals as goal
 

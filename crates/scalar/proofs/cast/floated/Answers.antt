@@ -1,7 +1,7 @@
 -- An Int64 as a float: a negative one is its magnitude's float, negated.
-use Rattle.std.proofs.Common.{ap, ◌∙◌, arith, rules}
+use Rattle.std.proofs.Common.{ap, ◌∙◌, arith}
 use lib.Ieee.{neg}
-use Rattle.scalar.proofs.FloatLaws.{floated_low, floated_high}
+use Rattle.scalar.proofs.FloatLaws.{floated_high}
 use Rattle.scalar.proofs.cast.floated.Goals as goal
 
 pub returns-else-n-lt9223372036854775808 : goal.returns-else-n-lt9223372036854775808

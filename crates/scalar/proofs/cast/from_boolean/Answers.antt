@@ -1,5 +1,5 @@
 -- A Boolean as each type.
-use Rattle.std.proofs.Common.{refl, ap, rules}
+use Rattle.std.proofs.Common.{refl, ap}
 use Rattle.scalar.specs.declared.value.Value.TheVariants.{Boolean, Int32, Int64}
 use Rattle.scalar.specs.Cast.{cast_entry}
 use Rattle.scalar.specs.Casts.{cast_value}

@@ -1,5 +1,4 @@
 -- A float as each type.
-use Rattle.std.proofs.Common.{refl, rules}
 use Rattle.scalar.proofs.CastLaws.{float_lost}
 use Rattle.scalar.proofs.cast.from_float.Goals as goal
 

@@ -1,5 +1,5 @@
 -- An Int32 as each type.
-use Rattle.std.proofs.Common.{refl, ap, rules}
+use Rattle.std.proofs.Common.{refl, ap}
 use Rattle.scalar.specs.declared.value.Value.TheVariants.{Int32, Int64}
 use Rattle.scalar.specs.Cast.{cast_entry}
 use Rattle.scalar.specs.Casts.{cast_value}

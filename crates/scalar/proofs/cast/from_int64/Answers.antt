@@ -1,5 +1,5 @@
 -- An Int64 as each type.
-use Rattle.std.proofs.Common.{refl, rules}
+use Rattle.std.proofs.Common.{refl}
 use Rattle.scalar.specs.declared.value.Value.TheVariants.{Int64}
 use Rattle.scalar.specs.Cast.{cast_entry}
 use Rattle.scalar.specs.Casts.{cast_value}

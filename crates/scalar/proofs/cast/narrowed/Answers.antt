@@ -1,5 +1,5 @@
 -- An Int64 below, outside of and above the gap between Int32's halves.
-use Rattle.std.proofs.Common.{sym, ap, rules}
+use Rattle.std.proofs.Common.{sym, ap}
 use Rattle.scalar.specs.declared.value.Value.TheVariants.{Int64}
 use Rattle.scalar.specs.Value.{value_saying}
 use Rattle.scalar.proofs.CastLaws.{narrowed_cast}

@@ -1,5 +1,5 @@
 -- The wider bits, without the sign and with it.
-use Rattle.std.proofs.Common.{sym, rules}
+use Rattle.std.proofs.Common.{sym}
 use Rattle.scalar.proofs.IntegerLaws.{widened_low, widened_high}
 use Rattle.scalar.proofs.cast.widened.Goals as goal
 

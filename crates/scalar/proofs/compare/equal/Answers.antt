@@ -1,5 +1,5 @@
 -- `equal` says what the order of its values says. Assumes nothing.
-use Rattle.std.proofs.Common.{sym, ◌∙◌, rules}
+use Rattle.std.proofs.Common.{sym, ◌∙◌}
 use Rattle.scalar.specs.declared.order.Order.TheVariants.{Less, Equal, Greater, SomeNull, SomeFailed, Unlike}
 use Rattle.scalar.proofs.CompareLaws.{equal_said}
 use Rattle.scalar.proofs.compare.equal.Goals as goal

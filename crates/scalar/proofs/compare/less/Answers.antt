@@ -1,5 +1,5 @@
 -- `less` says what the order of its values says. Assumes nothing.
-use Rattle.std.proofs.Common.{sym, ◌∙◌, rules}
+use Rattle.std.proofs.Common.{sym, ◌∙◌}
 use Rattle.scalar.specs.declared.order.Order.TheVariants.{Less, Equal, Greater, SomeNull, SomeFailed, Unlike}
 use Rattle.scalar.proofs.CompareLaws.{less_said}
 use Rattle.scalar.proofs.compare.less.Goals as goal

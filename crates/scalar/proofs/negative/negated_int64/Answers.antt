@@ -1,5 +1,4 @@
 -- Wrapping subtraction from zero negates.
-use Rattle.std.proofs.Common.{rules}
 use Rattle.scalar.proofs.IntegerLaws.{negated_is}
 use Rattle.scalar.proofs.negative.negated_int64.Goals as goal
 

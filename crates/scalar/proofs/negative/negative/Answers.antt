@@ -1,8 +1,7 @@
 -- Negative, arm by arm.
-use Rattle.std.proofs.Common.{ℕ, [], refl, ap, ◌∙◌, rules}
-use Rattle.scalar.specs.declared.value.Value.TheVariants.{Int32, Int64}
+use Rattle.std.proofs.Common.{ℕ, [], ap, ◌∙◌}
 use Rattle.scalar.specs.declared.value.Value.{Value}
-use Rattle.scalar.specs.Entry.{int32, int64, float64, Outcome, entry, on_entry}
+use Rattle.scalar.specs.Entry.{float64, Outcome, entry, on_entry}
 use Rattle.scalar.specs.Float.{sign_turned}
 use Rattle.scalar.specs.Negative.{negative_entry}
 use Rattle.scalar.specs.Value.{meaning, float_value, on_value}

@@ -1,5 +1,5 @@
 -- `order_of` gives the order of two values, by their keys and their texts. Assumes nothing.
-use Rattle.std.proofs.Common.{refl, rules}
+use Rattle.std.proofs.Common.{refl}
 use Rattle.scalar.proofs.OrderLaws.{not_text, text_first, no_text_first}
 use Rattle.scalar.proofs.order.order_of.Goals as goal
 

@@ -1,6 +1,5 @@
-use Rattle.std.proofs.Common.{◌≡◌, ◌-◌, ◌≤◌, true, length, drop, sym, arith}
-use Rattle.scalar.specs.Text.{same_bytes}
-use Rattle.scalar.proofs.TextLaws.{same_length, same_differ, same_none, same_more, same_ends}
+use Rattle.std.proofs.Common.{◌-◌, length, sym, arith}
+use Rattle.scalar.proofs.TextLaws.{same_length, same_differ, same_none, same_more}
 use Rattle.scalar.proofs.text.same_bytes.Goals as goal
 
 pub returns-then-a-b : goal.returns-then-a-b

@@ -1,7 +1,6 @@
 -- `same_bytes_lem` says whether two texts are the same. The loop's invariant: from `left` on they are. Assumes nothing.
-use Rattle.std.proofs.Common.{◌≡◌, ◌-◌, ◌≤◌, true, length, drop, sym, arith}
+use Rattle.std.proofs.Common.{◌≡◌, ◌≤◌, true, length, drop}
 use Rattle.scalar.specs.Text.{same_bytes}
-use Rattle.scalar.proofs.TextLaws.{same_length, same_differ, same_none, same_more, same_ends}
 use Rattle.scalar.proofs.text.same_bytes.Given as goal
 
 abbrev pub invariant-loop-left : goal.invariant-loop-left

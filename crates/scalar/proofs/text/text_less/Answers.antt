@@ -1,5 +1,4 @@
-use Rattle.std.proofs.Common.{◌≡◌, ◌-◌, ◌≤◌, length, drop, sym, refl, ◌∙◌, arith, le-ltb, lt-ltb}
-use Rattle.scalar.specs.Text.{text_less}
+use Rattle.std.proofs.Common.{sym, ◌∙◌, arith, le-ltb, lt-ltb}
 use Rattle.scalar.proofs.TextLaws.{less_short, less_over, less_step, less_differ}
 use Rattle.scalar.proofs.text.text_less.Goals as goal
 

@@ -1,7 +1,6 @@
 -- `text_less` says whether a text is less. The loop's invariant: what is left of both from `i` on decides. Assumes nothing.
-use Rattle.std.proofs.Common.{◌≡◌, ◌-◌, ◌≤◌, length, drop, sym, refl, ◌∙◌, arith, le-ltb, lt-ltb}
+use Rattle.std.proofs.Common.{◌≡◌, ◌-◌, ◌≤◌, length, drop}
 use Rattle.scalar.specs.Text.{text_less}
-use Rattle.scalar.proofs.TextLaws.{less_short, less_over, less_step, less_differ}
 use Rattle.scalar.proofs.text.text_less.Given as goal
 
 abbrev pub invariant-loop-i : goal.invariant-loop-i

@@ -1,5 +1,5 @@
 -- `magnitude` by the exponent: below 1, shifted down, shifted up, too large.
-use Rattle.std.proofs.Common.{◌∙◌, rules}
+use Rattle.std.proofs.Common.{◌∙◌}
 use Rattle.scalar.proofs.WholeLaws.{small, down, up, large}
 use Rattle.scalar.proofs.truncate.magnitude.Goals as goal
 

@@ -1,5 +1,5 @@
 -- `truncated_int64` by the sign and the magnitude.
-use Rattle.std.proofs.Common.{ap, arith, rules}
+use Rattle.std.proofs.Common.{ap, arith}
 use Rattle.scalar.specs.declared.value.Value.TheVariants.{Null}
 use Rattle.scalar.specs.Entry.{int64}
 use Rattle.scalar.specs.Cast.{cast_entry}

@@ -1,5 +1,4 @@
 -- A try-cast is the cast where it fits.
-use Rattle.std.proofs.Common.{rules}
 use Rattle.scalar.proofs.OperationLaws.{is_not_failed, try_failed, try_null, try_entry}
 use Rattle.scalar.proofs.try_cast.try_cast.Goals as goal
 

@@ -1,5 +1,4 @@
 -- The bits of a float: one that differs from itself is the NaN.
-use Rattle.std.proofs.Common.{rules}
 use Rattle.scalar.proofs.FloatLaws.{nan_bits_lem, no_nan}
 use Rattle.scalar.proofs.value.float_bits.Goals as goal
 

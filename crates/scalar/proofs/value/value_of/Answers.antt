@@ -1,5 +1,5 @@
 -- The value of a kind and a payload, arm by arm.
-use Rattle.std.proofs.Common.{sym, rules}
+use Rattle.std.proofs.Common.{sym}
 use Rattle.scalar.specs.Value.{value_of}
 use Rattle.scalar.proofs.ValueLaws.{other_kind}
 use Rattle.scalar.proofs.value.value_of.Goals as goal
