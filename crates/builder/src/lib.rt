@@ -185,8 +185,9 @@ impl ResultBuilder {
                 builder: self,
             };
         }
+        let part = self.part;
         let mut out = hold(self, rows, values, count);
-        out.part = part_after(self.part, all);
+        out.part = part_after(part, all);
         out.whole = all;
         BuilderAnswer {
             refused: 0,
