@@ -1,9 +1,5 @@
-use borrow.Author.Rules.{rules}
-use mathlib.Core.Path.{◌≡◌, refl}
-use Prim.Native.Nat.{◌-◌}
 use native.Mathlib.Omega.{arith}
-use lib.ListN.{length}
-use Rattle.builder.proofs.BuilderLaws.{rises_below, count_few, HoldsSoFar, holds_none, holds_more, holds_all, holding_is}
+use Rattle.builder.proofs.BuilderLaws.{rises_below, count_few, holds_more, holds_all, holding_is}
 use Rattle.builder.proofs.hold.Goals as goal
 
 pub bounds-out-row : goal.bounds-out-row

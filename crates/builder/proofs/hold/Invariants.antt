@@ -1,10 +1,8 @@
 -- `hold` stores each row's value. The loop's invariant: what is left of the lists, stored into what is held now, gives the result.
-use borrow.Author.Rules.{rules}
-use mathlib.Core.Path.{◌≡◌, refl}
+use mathlib.Core.Path.{◌≡◌}
 use Prim.Native.Nat.{◌-◌}
-use native.Mathlib.Omega.{arith}
 use lib.ListN.{length}
-use Rattle.builder.proofs.BuilderLaws.{rises_below, count_few, HoldsSoFar, holds_none, holds_more, holds_all, holding_is}
+use Rattle.builder.proofs.BuilderLaws.{HoldsSoFar}
 use Rattle.builder.proofs.hold.Given as goal
 
 abbrev pub invariant-loop-i : goal.invariant-loop-i

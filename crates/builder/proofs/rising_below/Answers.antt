@@ -1,8 +1,5 @@
-use borrow.Author.Rules.{rules}
-use Prim.Native.Nat.{◌-◌}
 use native.Mathlib.Omega.{arith}
-use lib.ListN.{length}
-use Rattle.builder.proofs.BuilderLaws.{RisesSoFar, rises_none, rises_more, rises_falls, rises_above, rises_all}
+use Rattle.builder.proofs.BuilderLaws.{rises_more, rises_falls, rises_above, rises_all}
 use Rattle.builder.proofs.rising_below.Goals as goal
 
 pub returns-then-row-from : goal.returns-then-row-from

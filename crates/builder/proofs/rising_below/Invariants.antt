@@ -1,9 +1,7 @@
 -- `rising_below` tells rising rows. The loop's invariant: what is left decides.
-use borrow.Author.Rules.{rules}
 use Prim.Native.Nat.{◌-◌}
-use native.Mathlib.Omega.{arith}
 use lib.ListN.{length}
-use Rattle.builder.proofs.BuilderLaws.{RisesSoFar, rises_none, rises_more, rises_falls, rises_above, rises_all}
+use Rattle.builder.proofs.BuilderLaws.{RisesSoFar}
 use Rattle.builder.proofs.rising_below.Given as goal
 
 abbrev pub invariant-loop-i : goal.invariant-loop-i

@@ -1,8 +1,5 @@
-use borrow.Author.Rules.{rules}
-use Prim.Native.Nat.{◌-◌}
 use native.Mathlib.Omega.{arith}
-use lib.ListN.{length}
-use Rattle.builder.proofs.BuilderLaws.{rises_below, NoneSoFar, none_yet, mark_found, mark_more, mark_none}
+use Rattle.builder.proofs.BuilderLaws.{rises_below, mark_found, mark_more, mark_none}
 use Rattle.builder.proofs.some_marked.Goals as goal
 
 pub bounds-held-row : goal.bounds-held-row

@@ -1,9 +1,7 @@
 -- `some_marked` finds a row that is marked. The loop's invariant: what is left decides.
-use borrow.Author.Rules.{rules}
 use Prim.Native.Nat.{◌-◌}
-use native.Mathlib.Omega.{arith}
 use lib.ListN.{length}
-use Rattle.builder.proofs.BuilderLaws.{rises_below, NoneSoFar, none_yet, mark_found, mark_more, mark_none}
+use Rattle.builder.proofs.BuilderLaws.{NoneSoFar}
 use Rattle.builder.proofs.some_marked.Given as goal
 
 abbrev pub invariant-loop-i : goal.invariant-loop-i

@@ -1,12 +1,11 @@
 -- `add_branch_result` is the definition's tests in their order, and the stored values.
-use borrow.Author.Tests.{not-true, not-false}
 use mathlib.Core.Path.{sym, ap, ◌∙◌}
 use lib.ListN.{length}
 use Prim.Native.Nat.{ℕ}
 use Rattle.builder.specs.Builder.{rising_below}
 use mathlib.Core.Bool.{not, ◌&&◌}
 use lib.Dec.{eqb}
-use Rattle.builder.proofs.BuilderLaws.{add_19, add_18, add_21, add_20, add_given, count_few}
+use Rattle.builder.proofs.BuilderLaws.{add_19, add_18, add_21, add_20, add_given}
 use borrow.Author.Rules.{rules}
 use Rattle.builder.proofs.ResultBuilder.add_branch_result.Goals as goal
 

@@ -1,9 +1,6 @@
-use Rattle.builder.proofs.BuilderLaws.{finish_is, FinishedSoFar, finished_none, finished_more}
+use Rattle.builder.proofs.BuilderLaws.{finish_is, finished_none}
 use borrow.Author.Rules.{rules}
-use mathlib.Core.Path.{◌≡◌}
-use Prim.Native.Nat.{◌-◌, ◌≤◌}
 use native.Mathlib.Omega.{arith}
-use lib.ListN.{length}
 use Rattle.builder.proofs.ResultBuilder.finish.Goals as goal
 
 pub loop-i-init : goal.loop-i-init

@@ -1,9 +1,7 @@
 -- `finish` gives each row's value, 0 where none is held. The loop's invariant: the rows before i have theirs, and zeros stand behind.
-use Rattle.builder.proofs.BuilderLaws.{finish_is, FinishedSoFar, finished_none, finished_more}
-use borrow.Author.Rules.{rules}
+use Rattle.builder.proofs.BuilderLaws.{FinishedSoFar}
 use mathlib.Core.Path.{◌≡◌}
 use Prim.Native.Nat.{◌-◌, ◌≤◌}
-use native.Mathlib.Omega.{arith}
 use lib.ListN.{length}
 use Rattle.builder.proofs.ResultBuilder.finish.Given as goal
 
