@@ -2,7 +2,7 @@
 ghost use Rattle.std.specs.Prelude.{◌≡◌};
 ghost use Rattle.scalar.specs.Types.{is_integer, type_numbered, type_answer, mark_number};
 
-#[derive(Drop)]
+#[derive(Clone, Copy, Drop)]
 pub enum DataType {
     Boolean,
     Int32,
