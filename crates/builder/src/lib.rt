@@ -10,7 +10,7 @@ ghost use Rattle.builder.specs.BuilderStruct.{marked, some_marked, count_of, hol
 const ROWS_MOST: usize = 512;
 
 // `held` is 1 where a row holds its value of `values`, and 0 where it holds none.
-#[derive(Drop)]
+#[derive(Clone, Copy)]
 pub struct ResultBuilder {
     pub rows: usize,
     pub part: bool,
@@ -185,9 +185,8 @@ impl ResultBuilder {
                 builder: self,
             };
         }
-        let part = self.part;
         let mut out = hold(self, rows, values, count);
-        out.part = part_after(part, all);
+        out.part = part_after(self.part, all);
         out.whole = all;
         BuilderAnswer {
             refused: 0,
