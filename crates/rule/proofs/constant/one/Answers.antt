@@ -1,8 +1,7 @@
 -- `one` has an arm for each operation on one value.
-use Rattle.rule.proofs.ConstantNode.{one_not, one_negative, one_is_not_null, one_cast, one_try_cast}
+use Rattle.rule.proofs.ConstantNode.{one_negative, one_cast, one_try_cast}
 use Rattle.scalar.proofs.CastLaws.{cast_gives}
-use Rattle.scalar.proofs.OperationLaws.{not_gives, is_not_null_gives, negative_gives, try_cast_gives}
-use borrow.Author.Rules.{rules}
+use Rattle.scalar.proofs.OperationLaws.{negative_gives, try_cast_gives}
 use Rattle.rule.proofs.LiteralLaws.{numbered_gives}
 use Rattle.rule.proofs.constant.one.Goals as goal
 

@@ -2,7 +2,6 @@
 use native.Mathlib.Omega.{arith}
 use Rattle.scalar.specs.declared.types.DataType.TheVariants.{Boolean, Int32, Int64, Float64}
 use Rattle.rule.proofs.LiteralLaws.{literal_behind, literal_null, literal_told, literal_text, literal_cut}
-use borrow.Author.Rules.{rules}
 use Rattle.rule.proofs.literal.literal_value.Goals as goal
 
 pub returns-then-rule-start : goal.returns-then-rule-start

@@ -1,6 +1,4 @@
-use Rattle.rule.proofs.NullableLaws.{StrippedLeft, stripped_start, stripped_next, not_strips, negative_strips, cast_strips, stripped_end, stripped_behind}
-use Prim.Native.Nat.{◌-◌}
-use lib.ListN.{length}
+use Rattle.rule.proofs.NullableLaws.{stripped_next, not_strips, negative_strips, cast_strips, stripped_end, stripped_behind}
 use native.Mathlib.Omega.{arith}
 use Rattle.rule.proofs.nullable.stripped_at.Goals as goal
 

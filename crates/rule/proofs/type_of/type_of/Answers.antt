@@ -1,9 +1,6 @@
-use mathlib.Core.Path.{◌≡◌, refl}
-use Rattle.rule.specs.Walked.{type_at}
+use mathlib.Core.Path.{refl}
 use Rattle.rule.proofs.TypeOfLaws.{then_onward, type_byte, type_behind, type_another, type_boolean}
 use native.Mathlib.Omega.{arith}
-use lib.ListN.{length}
-use Prim.Native.Nat.{◌-◌}
 use Rattle.rule.proofs.type_of.type_of.Goals as goal
 
 pub returns-in-16 : goal.returns-in-16

@@ -2,7 +2,6 @@
 use native.Mathlib.Omega.{arith}
 use mathlib.Core.Path.{refl}
 use Rattle.rule.proofs.WalkLaws.{children_behind, children_told, children_plain}
-use borrow.Author.Rules.{rules}
 use Rattle.rule.proofs.walk.children_at.Goals as goal
 
 pub returns-then-rule-at : goal.returns-then-rule-at
