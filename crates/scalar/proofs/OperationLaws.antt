@@ -1,5 +1,5 @@
 -- Operations on values: what each gives is what it makes of the entry. Assumes nothing.
-use Rattle.std.proofs.Common.{◌≡◌, ℕ, ◌^◌, ◌<◌, Bool, true, false, cond, List, [], ◌∷◌, neg_ℤ, inl, inr, sym, refl, ap, ◌∙◌, subst}
+use Rattle.std.proofs.Common.{◌≡◌, ℕ, ◌^◌, ◌<◌, Bool, true, false, cond, List, [], ◌∷◌, neg_ℤ, sym, refl, ap, ◌∙◌, subst}
 use mathlib.Core.Bool.{false≢true}
 use lib.Ieee.{binary64, nan_bits, of_bits, to_bits}
 use lib.Ieee.Bits.{to_bits-lt}
@@ -110,18 +110,6 @@ negative_gives v e q = subst (Gives (λ e. entry (negative_entry e)) v) (sym e) 
 -- what the last arm of a `match` on a failed value leaves
 abbrev pub NotFailed : Value → Type 0
 NotFailed v = OneOf (0 ∷ 1 ∷ 2 ∷ 3 ∷ 4 ∷ 5 ∷ 6 ∷ 7 ∷ []) (tag_of the_type v)
-
--- a value that is not failed
-pub is_not_failed : (v : Value) → (v ≡ Failed → ⊥) → NotFailed v
-is_not_failed Null h = inl refl
-is_not_failed (Boolean b) h = inr (inl refl)
-is_not_failed (Int32 n) h = inr (inr (inl refl))
-is_not_failed (Int64 n) h = inr (inr (inr (inl refl)))
-is_not_failed (Float64 f) h = inr (inr (inr (inr (inl refl))))
-is_not_failed (Nan n) h = inr (inr (inr (inr (inr (inl refl)))))
-is_not_failed (RuleText start size) h = inr (inr (inr (inr (inr (inr (inl refl))))))
-is_not_failed (TableText start size) h = inr (inr (inr (inr (inr (inr (inr refl))))))
-is_not_failed Failed h = absurd (h refl)
 
 pub not_failed : (v : Value) → NotFailed v → failed v ≡ false
 not_failed Null h = refl

@@ -233,18 +233,6 @@ values_order rule table a b oa ob =
 abbrev pub NoText : Value → Type 0
 NoText v = OneOf (0 ∷ 1 ∷ 2 ∷ 3 ∷ 4 ∷ 5 ∷ 8 ∷ []) (tag_of the_type v)
 
--- a value that is neither text
-pub not_text : (v : Value) → ((start size : ℕ) → v ≡ RuleText start size → ⊥) → ((start size : ℕ) → v ≡ TableText start size → ⊥) → NoText v
-not_text Null h k = inl refl
-not_text (Boolean b) h k = inr (inl refl)
-not_text (Int32 n) h k = inr (inr (inl refl))
-not_text (Int64 n) h k = inr (inr (inr (inl refl)))
-not_text (Float64 f) h k = inr (inr (inr (inr (inl refl))))
-not_text (Nan n) h k = inr (inr (inr (inr (inr (inl refl)))))
-not_text (RuleText start size) h k = absurd (h start size refl)
-not_text (TableText start size) h k = absurd (k start size refl)
-not_text Failed h k = inr (inr (inr (inr (inr (inr refl)))))
-
 pub no_text : (v : Value) → NoText v → is_text (key_of v) ≡ false
 no_text Null h = refl
 no_text (Boolean b) h = refl

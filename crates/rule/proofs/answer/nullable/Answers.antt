@@ -1,7 +1,6 @@
 -- The answer is the reading's number, or its nullability answer.
 use native.Mathlib.Omega.{arith}
-use Rattle.rule.proofs.AnswerLaws.{nullable_refused, nullable_accepted}
-use borrow.Author.Rules.{rules}
+use Rattle.rule.proofs.AnswerLaws.{nullable_accepted}
 use Rattle.rule.proofs.answer.nullable.Goals as goal
 
 pub returns : goal.returns

@@ -1,8 +1,5 @@
 -- The answer is the reading's number, or the indexes of the columns met.
-use mathlib.Core.Path.{ap, sym}
-use Rattle.rule.specs.Answers.{projection_answer}
-use Rattle.rule.proofs.AnswerLaws.{refused_is, projection_answer_lem}
-use borrow.Author.Rules.{rules}
+use Rattle.rule.proofs.AnswerLaws.{projection_answer_lem}
 use Rattle.rule.proofs.answer.projection.Goals as goal
 
 pub returns : goal.returns

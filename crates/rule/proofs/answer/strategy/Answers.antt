@@ -3,7 +3,6 @@ use mathlib.Core.Path.{ap, sym}
 use native.Mathlib.Omega.{arith}
 use Rattle.rule.specs.Answers.{strategy_answer}
 use Rattle.rule.proofs.AnswerLaws.{refused_is, strategy_answer_lem}
-use borrow.Author.Rules.{rules}
 use Rattle.rule.proofs.StrategyLaws.{strategy_gives}
 use Rattle.rule.proofs.answer.strategy.Goals as goal
 

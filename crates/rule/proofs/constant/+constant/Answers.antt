@@ -5,8 +5,7 @@ use native.Mathlib.Omega.{arith}
 use Rattle.scalar.proofs.CompareLaws.{equal_both}
 use Rattle.scalar.proofs.OperationLaws.{try_cast_gives}
 use Rattle.rule.proofs.ConstantNode.{within_column, within_literal, within_case, within_one, within_two, constant_same, constant_other, constant_none, within_behind}
-use Rattle.rule.proofs.ConstantCase.{base_none, base_some, else_none, else_some, with_failed, with_null, with_value, BranchesLeft, branches_start, branches_next, branches_failed, branches_then, branches_end, case_gives, case_behind}
-use Prim.Native.Nat.{ℕ, ◌+◌, ◌*◌, ◌<◌}
+use Rattle.rule.proofs.ConstantCase.{base_none, base_some, else_none, else_some, with_failed, with_null, with_value, branches_next, branches_failed, branches_then, branches_end, case_gives, case_behind}
 use Rattle.rule.proofs.LiteralLaws.{literal_gives}
 use Rattle.rule.proofs.WalkLaws.{behind_gives, children_gives, end_gives}
 use Rattle.rule.proofs.TypeOfLaws.{type_gives}

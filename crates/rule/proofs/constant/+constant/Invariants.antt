@@ -1,15 +1,7 @@
 -- The cycle of calls that works out a node without reading a column. The measure is eight times the depth that is left, and how far a call is
 -- from the next node. The loop's invariant: the branches that are left stand at the place and give what all give.
-use mathlib.Core.Path.{refl, sym, ◌∙◌}
-use native.Mathlib.Omega.{arith}
-use Rattle.scalar.proofs.CompareLaws.{equal_both}
-use Rattle.scalar.proofs.OperationLaws.{try_cast_gives}
-use Rattle.rule.proofs.ConstantNode.{within_column, within_literal, within_case, within_one, within_two, constant_same, constant_other, constant_none, within_behind}
-use Rattle.rule.proofs.ConstantCase.{base_none, base_some, else_none, else_some, with_failed, with_null, with_value, BranchesLeft, branches_start, branches_next, branches_failed, branches_then, branches_end, case_gives, case_behind}
-use Prim.Native.Nat.{ℕ, ◌+◌, ◌*◌, ◌<◌}
-use Rattle.rule.proofs.LiteralLaws.{literal_gives}
-use Rattle.rule.proofs.WalkLaws.{behind_gives, children_gives, end_gives}
-use Rattle.rule.proofs.TypeOfLaws.{type_gives}
+use Rattle.rule.proofs.ConstantCase.{BranchesLeft}
+use Prim.Native.Nat.{◌+◌, ◌*◌}
 use Rattle.rule.proofs.constant.+constant.Given as goal
 
 abbrev pub decreases-constant : goal.decreases-constant

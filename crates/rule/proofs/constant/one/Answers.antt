@@ -1,8 +1,8 @@
 -- `one` has an arm for each operation on one value.
-use Rattle.rule.proofs.ConstantNode.{one_not, one_negative, one_is_not_null, one_cast, one_try_cast}
-use Rattle.scalar.proofs.CastLaws.{cast_gives}
-use Rattle.scalar.proofs.OperationLaws.{not_gives, is_not_null_gives, negative_gives, try_cast_gives}
 use borrow.Author.Rules.{rules}
+use Rattle.rule.proofs.ConstantNode.{one_negative, one_cast, one_try_cast}
+use Rattle.scalar.proofs.CastLaws.{cast_gives}
+use Rattle.scalar.proofs.OperationLaws.{negative_gives, try_cast_gives}
 use Rattle.rule.proofs.LiteralLaws.{numbered_gives}
 use Rattle.rule.proofs.constant.one.Goals as goal
 
@@ -13,4 +13,4 @@ pub returns-in-21 : goal.returns-in-21
 returns-in-21 c = one_cast c.in-21.is (numbered_gives c.type_numbered.ensures) (cast_gives _ _ c.cast.ensures)
 
 pub returns-in_default : goal.returns-in_default
-returns-in_default c = one_try_cast c.in_default.in_default-own.rest (numbered_gives c.type_numbered-in_default.ensures) (try_cast_gives _ _ c.try_cast.ensures)
+returns-in_default c = one_try_cast (search rules) (numbered_gives c.type_numbered-in_default.ensures) (try_cast_gives _ _ c.try_cast.ensures)

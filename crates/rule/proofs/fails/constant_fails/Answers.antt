@@ -1,6 +1,4 @@
-use Rattle.rule.proofs.FailsLaws.{FailsLeft, fails_start, fails_found, fails_next, fails_end}
-use Prim.Native.Nat.{◌-◌}
-use lib.ListN.{length}
+use Rattle.rule.proofs.FailsLaws.{fails_start, fails_found, fails_next, fails_end}
 use native.Mathlib.Omega.{arith}
 use Rattle.rule.proofs.WalkLaws.{children_gives}
 use Rattle.rule.proofs.fails.constant_fails.Goals as goal

@@ -1,9 +1,7 @@
 -- `constant_fails` goes from field to field. The loop's invariant: trees that hold a constant cast that fails, if the rule does, stand at the place; the
-use Rattle.rule.proofs.FailsLaws.{FailsLeft, fails_start, fails_found, fails_next, fails_end}
+use Rattle.rule.proofs.FailsLaws.{FailsLeft}
 use Prim.Native.Nat.{◌-◌}
 use lib.ListN.{length}
-use native.Mathlib.Omega.{arith}
-use Rattle.rule.proofs.WalkLaws.{children_gives}
 use Rattle.rule.proofs.fails.constant_fails.Given as goal
 
 abbrev pub invariant-loop-at : goal.invariant-loop-at

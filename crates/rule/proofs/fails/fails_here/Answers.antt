@@ -1,7 +1,6 @@
 -- `fails_here` works out a cast that has no column under it.
 use Rattle.rule.proofs.FailsLaws.{here_other, here_named, here_alone}
 use Rattle.rule.proofs.WalkLaws.{nothing_behind, end_gives}
-use borrow.Author.Rules.{rules}
 use native.Mathlib.Omega.{arith}
 use Rattle.rule.proofs.fails.fails_here.Goals as goal
 

@@ -1,6 +1,5 @@
 use native.Mathlib.Omega.{arith}
-use Prim.Native.Nat.{◌-◌}
-use Rattle.rule.proofs.FailsLaws.{ColumnsLeft, columns_start, columns_found, columns_next, columns_end_lem}
+use Rattle.rule.proofs.FailsLaws.{columns_start, columns_found, columns_next, columns_end_lem}
 use Rattle.rule.proofs.WalkLaws.{children_gives}
 use Rattle.rule.proofs.fails.names_column.Goals as goal
 

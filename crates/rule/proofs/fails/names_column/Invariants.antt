@@ -1,8 +1,6 @@
 -- `names_column` goes from field to field. The loop's invariant: trees that name the same columns stand at the place; the measure is what is left of the node.
-use native.Mathlib.Omega.{arith}
 use Prim.Native.Nat.{◌-◌}
-use Rattle.rule.proofs.FailsLaws.{ColumnsLeft, columns_start, columns_found, columns_next, columns_end_lem}
-use Rattle.rule.proofs.WalkLaws.{children_gives}
+use Rattle.rule.proofs.FailsLaws.{ColumnsLeft}
 use Rattle.rule.proofs.fails.names_column.Given as goal
 
 abbrev pub invariant-loop-at : goal.invariant-loop-at

@@ -1,8 +1,6 @@
 -- A mark at the column's index that is not its own is refused; else the column's is set.
 use mathlib.Core.Path.{ap, refl}
-use native.Mathlib.Omega.{arith}
 use Rattle.rule.specs.declared.node.FieldFound.{FieldFound}
-use Rattle.rule.proofs.SeenLaws.{type_bounds}
 use Rattle.rule.proofs.LeafLaws.{meet_unmarked, meet_unlike, meet_like}
 use borrow.Author.Rules.{rules}
 use Rattle.rule.proofs.leaf.meet_column.Goals as goal

@@ -4,7 +4,6 @@ use Rattle.rule.specs.declared.node.FieldFound.{FieldFound}
 use Rattle.scalar.specs.Types.{type_means}
 use Rattle.scalar.proofs.TypeLaws.{type_means_lem}
 use Rattle.rule.proofs.LeafLaws.{column_sized, column_typed, column_met}
-use borrow.Author.Rules.{rules}
 use Rattle.rule.proofs.leaf.read_column.Goals as goal
 
 pub returns-then-content-ne3 : goal.returns-then-content-ne3

@@ -4,7 +4,6 @@ use Rattle.rule.specs.declared.node.FieldFound.{FieldFound}
 use Rattle.scalar.specs.Types.{type_means}
 use Rattle.scalar.proofs.TypeLaws.{type_means_lem}
 use Rattle.rule.proofs.LeafLaws.{literal_sized, literal_typed, literal_unfit, literal_read}
-use borrow.Author.Rules.{rules}
 use Rattle.rule.proofs.leaf.read_literal.Goals as goal
 
 pub returns-then-content-lt2 : goal.returns-then-content-lt2

@@ -4,7 +4,6 @@ use native.Mathlib.Omega.{arith}
 use Rattle.scalar.specs.Entry.{int32, int64, float64}
 use Rattle.rule.specs.Reading.{literal_value}
 use Rattle.rule.proofs.LeafLaws.{value_unmarked, value_null, value_plain, boolean_sized, boolean_fits, number_fits, text_fits}
-use borrow.Author.Rules.{rules}
 use Rattle.rule.proofs.leaf.value_fits.Goals as goal
 
 pub returns-then-mark-gt1 : goal.returns-then-mark-gt1

@@ -1,6 +1,5 @@
 -- NOT takes Boolean, negative a number, and IS NOT NULL any type.
 use Rattle.rule.proofs.LeafLaws.{unary_not, unary_negative, unary_any}
-use borrow.Author.Rules.{rules}
 use Rattle.rule.proofs.node.unary_fits.Goals as goal
 
 pub returns-then-tag-eq18 : goal.returns-then-tag-eq18

@@ -1,9 +1,8 @@
 -- The cycle of calls that tells whether a node is nullable. The measure is eight times the depth that is left, and how far a call is from the
 -- next node. The loops' invariants: the trees, or the branches, that are left stand at the place, and one of them is nullable if one of all is.
+use borrow.Author.Rules.{rules}
 use native.Mathlib.Omega.{arith}
-use borrow.Author.Tests.{not-true, not-false}
 use Rattle.rule.proofs.NullableLaws.{any_outside, AnyLeft, any_start, any_found, any_next, any_end, branch_never, branch_base, branch_when, NullableLeft, thens_start, thens_found, thens_next, thens_absent, thens_fails, thens_else, case_nullable, case_outside, nullable_none, nullable_behind, nullable_column, nullable_literal, nullable_is_not_null, nullable_try_cast, nullable_children}
-use Prim.Native.Nat.{ℕ, ◌+◌, ◌-◌, ◌*◌, ◌<◌}
 use Rattle.rule.proofs.WalkLaws.{behind_gives, children_gives, end_gives}
 use Rattle.rule.proofs.NullableLaws as laws
 use Rattle.rule.proofs.nullable.+nullable.Goals as goal
@@ -63,4 +62,4 @@ pub nullable_node-returns-in-25 : goal.nullable_node-returns-in-25
 nullable_node-returns-in-25 t c = laws.nullable_case_lem (omega arith) c.in-25.is c.nullable_case.ensures
 
 pub nullable_node-returns-in_default : goal.nullable_node-returns-in_default
-nullable_node-returns-in_default t c = nullable_children c.in_default.in_default-own.rest (children_gives c.children_at.ensures) c.nullable_any.ensures
+nullable_node-returns-in_default t c = nullable_children (search rules) (children_gives c.children_at.ensures) c.nullable_any.ensures

@@ -1,11 +1,7 @@
 -- The cycle of calls that tells whether a node is nullable. The measure is eight times the depth that is left, and how far a call is from the
 -- next node. The loops' invariants: the trees, or the branches, that are left stand at the place, and one of them is nullable if one of all is.
-use native.Mathlib.Omega.{arith}
-use borrow.Author.Tests.{not-true, not-false}
-use Rattle.rule.proofs.NullableLaws.{any_outside, AnyLeft, any_start, any_found, any_next, any_end, branch_never, branch_base, branch_when, NullableLeft, thens_start, thens_found, thens_next, thens_absent, thens_fails, thens_else, case_nullable, case_outside, nullable_none, nullable_behind, nullable_column, nullable_literal, nullable_is_not_null, nullable_try_cast, nullable_children}
-use Prim.Native.Nat.{ℕ, ◌+◌, ◌-◌, ◌*◌, ◌<◌}
-use Rattle.rule.proofs.WalkLaws.{behind_gives, children_gives, end_gives}
-use Rattle.rule.proofs.NullableLaws as laws
+use Rattle.rule.proofs.NullableLaws.{AnyLeft, NullableLeft}
+use Prim.Native.Nat.{◌+◌, ◌-◌, ◌*◌}
 use Rattle.rule.proofs.nullable.+nullable.Given as goal
 
 abbrev pub decreases-nullable_any : goal.decreases-nullable_any

@@ -1,6 +1,5 @@
-use Rattle.rule.proofs.NullableLaws.{StrippedLeft, stripped_start, stripped_next, not_strips, negative_strips, cast_strips, stripped_end, stripped_behind}
-use Prim.Native.Nat.{◌-◌}
-use lib.ListN.{length}
+use borrow.Author.Rules.{rules}
+use Rattle.rule.proofs.NullableLaws.{stripped_next, not_strips, negative_strips, cast_strips, stripped_end, stripped_behind}
 use native.Mathlib.Omega.{arith}
 use Rattle.rule.proofs.nullable.stripped_at.Goals as goal
 
@@ -14,7 +13,7 @@ pub loop-at-preserved : goal.loop-at-preserved
 loop-at-preserved c = stripped_next c.loop-at.invariant 21 1 cast_strips c.in-21.is (omega arith)
 
 pub returns-in_default : goal.returns-in_default
-returns-in_default c = stripped_end c.loop-at.invariant c.in_default.in_default-own.rest
+returns-in_default c = stripped_end c.loop-at.invariant (search rules)
 
 pub returns : goal.returns
 returns c = stripped_behind c.loop-at.invariant c.loop-at-test.false

@@ -1,8 +1,7 @@
 -- `stripped_at` goes from child to child. The loop's invariant: a tree that is stripped to the same stands at the place; the measure is what is left of the rule.
-use Rattle.rule.proofs.NullableLaws.{StrippedLeft, stripped_start, stripped_next, not_strips, negative_strips, cast_strips, stripped_end, stripped_behind}
+use Rattle.rule.proofs.NullableLaws.{StrippedLeft}
 use Prim.Native.Nat.{◌-◌}
 use lib.ListN.{length}
-use native.Mathlib.Omega.{arith}
 use Rattle.rule.proofs.nullable.stripped_at.Given as goal
 
 abbrev pub invariant-loop-at : goal.invariant-loop-at

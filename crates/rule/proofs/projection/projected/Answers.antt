@@ -1,9 +1,7 @@
-use Prim.Native.Nat.{◌-◌}
 use mathlib.Core.Path.{refl}
 use mathlib.Core.Logic.{inl, inr}
 use native.Mathlib.Omega.{arith}
-use Rattle.rule.proofs.ProjectionLaws.{Projecting, projecting_none, projecting_room, projecting_goes, projecting_ends}
-use borrow.Author.Rules.{rules}
+use Rattle.rule.proofs.ProjectionLaws.{projecting_none, projecting_room, projecting_goes, projecting_ends}
 use Rattle.rule.proofs.projection.projected.Goals as goal
 use Rattle.rule.proofs.projection.projected.Goals.{then-seen-i-ne0, else-seen-i-ne0}
 

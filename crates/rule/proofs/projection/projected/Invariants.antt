@@ -1,10 +1,6 @@
 -- The loop's invariant: the columns below `i` stand at the front. The measure is what is left of 256.
 use Prim.Native.Nat.{◌-◌}
-use mathlib.Core.Path.{refl}
-use mathlib.Core.Logic.{inl, inr, ⊎_elim}
-use native.Mathlib.Omega.{arith}
-use Rattle.rule.proofs.ProjectionLaws.{Projecting, projecting_none, projecting_room, projecting_goes, projecting_ends}
-use borrow.Author.Rules.{rules}
+use Rattle.rule.proofs.ProjectionLaws.{Projecting}
 use Rattle.rule.proofs.projection.projected.Given as goal
 
 abbrev pub invariant-loop-i : goal.invariant-loop-i

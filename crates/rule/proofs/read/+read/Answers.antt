@@ -1,8 +1,5 @@
 -- Each step of the reading gives what its definition does; the depth left falls, or the step's place in the field, or the branches left.
-use Prim.Native.Nat.{ℕ, ◌+◌, ◌*◌, ◌<◌}
 use mathlib.Core.Path.{ap, sym, ◌∙◌}
-use native.Mathlib.Omega.{arith}
-use borrow.Author.Rules.{rules}
 use Rattle.rule.specs.declared.node.FieldFound.{FieldFound}
 use Rattle.rule.specs.Reading.{read_field}
 use Rattle.scalar.specs.Types.{type_means}

@@ -1,13 +1,5 @@
 -- Each step of the reading gives what its definition does; the depth left falls, or the step's place in the field, or the branches left.
-use Prim.Native.Nat.{ℕ, ◌+◌, ◌*◌, ◌<◌}
-use mathlib.Core.Path.{ap, sym, ◌∙◌}
-use native.Mathlib.Omega.{arith}
-use borrow.Author.Rules.{rules}
-use Rattle.rule.specs.declared.node.FieldFound.{FieldFound}
-use Rattle.rule.specs.Reading.{read_field}
-use Rattle.scalar.specs.Types.{type_means}
-use Rattle.scalar.proofs.TypeLaws.{type_means_lem}
-use Rattle.rule.proofs.CycleLaws.{unary_gives, binary_refused, binary_gives, cast_short, cast_untyped, cast_gives, optional_there, optional_absent, branches_none, branches_refused, branches_give, then_refused, then_gives, parts_unbased, parts_unbranched, parts_give, case_none, case_short, case_flags, case_unbranched, case_many, case_gives, kind_column, kind_literal, kind_unary, kind_cast, kind_binary, kind_case, field_cut, field_unknown, field_deep, field_gives, tag_low, tag_high}
+use Prim.Native.Nat.{◌+◌, ◌*◌}
 use Rattle.rule.proofs.read.+read.Given as goal
 
 abbrev pub decreases-read_binary : goal.decreases-read_binary

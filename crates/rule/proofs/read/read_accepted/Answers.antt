@@ -1,7 +1,6 @@
 -- A rule is its tree, and none of its constant casts fails.
 use native.Mathlib.Omega.{arith}
 use Rattle.rule.proofs.AnswerLaws.{rule_unread, rule_fails, rule_read}
-use borrow.Author.Rules.{rules}
 use Rattle.rule.proofs.read.read_accepted.Goals as goal
 
 pub returns-then-r-ne0 : goal.returns-then-r-ne0

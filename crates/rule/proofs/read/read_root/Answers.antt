@@ -3,7 +3,6 @@ use mathlib.Core.Path.{ap, sym, ◌∙◌}
 use mathlib.Core.List.{[]}
 use Rattle.rule.specs.declared.node.FieldFound.{FieldFound}
 use Rattle.rule.proofs.CycleLaws.{root_cut, root_other, root_gives}
-use borrow.Author.Rules.{rules}
 use Rattle.rule.proofs.read.read_root.Goals as goal
 
 pub returns-then-f-ne25 : goal.returns-then-f-ne25

@@ -1,7 +1,6 @@
 -- What an evaluation takes from a rule is what reading it found, and its nullability answer.
 use native.Mathlib.Omega.{arith}
-use Rattle.rule.proofs.AnswerLaws.{reading_refused, reading_accepted}
-use borrow.Author.Rules.{rules}
+use Rattle.rule.proofs.AnswerLaws.{reading_accepted}
 use Rattle.rule.proofs.read.read_rule.Goals as goal
 
 pub returns : goal.returns

@@ -2,7 +2,6 @@
 use native.Mathlib.Omega.{arith}
 use Rattle.rule.proofs.SeenLaws.{seen_none}
 use Rattle.rule.proofs.CycleLaws.{tree_empty, tree_long, tree_refused, tree_left, tree_gives}
-use borrow.Author.Rules.{rules}
 use Rattle.rule.proofs.read.read_tree.Goals as goal
 
 pub returns-then-rule-eq0 : goal.returns-then-rule-eq0

@@ -1,7 +1,4 @@
-use mathlib.Core.Path.{◌≡◌, refl}
-use Rattle.rule.specs.WalkedStrategy.{literals_there}
 use Rattle.rule.proofs.StrategyLaws.{literals_found, literals_next, literals_end}
-use native.Mathlib.Omega.{arith}
 use Rattle.rule.proofs.strategy.all_literals.Goals as goal
 
 pub returns-then-byte_at-ne17 : goal.returns-then-byte_at-ne17

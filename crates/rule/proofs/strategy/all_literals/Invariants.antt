@@ -1,8 +1,6 @@
 -- `all_literals` goes from field to field. The loop's invariant: the fields that are left are all literals if all are; the measure is how many are left.
-use mathlib.Core.Path.{◌≡◌, refl}
+use mathlib.Core.Path.{◌≡◌}
 use Rattle.rule.specs.WalkedStrategy.{literals_there}
-use Rattle.rule.proofs.StrategyLaws.{literals_found, literals_next, literals_end}
-use native.Mathlib.Omega.{arith}
 use Rattle.rule.proofs.strategy.all_literals.Given as goal
 
 abbrev pub invariant-loop-left : goal.invariant-loop-left

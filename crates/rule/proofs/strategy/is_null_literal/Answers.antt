@@ -1,6 +1,4 @@
 -- `is_null_literal` tells a literal by its tag, and null by its mark.
-use native.Mathlib.Omega.{arith}
-use Rattle.rule.proofs.WalkLaws.{tag_inside}
 use Rattle.rule.proofs.StrategyLaws.{null_other, null_mark}
 use Rattle.rule.proofs.strategy.is_null_literal.Goals as goal
 

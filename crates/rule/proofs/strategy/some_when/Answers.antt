@@ -1,7 +1,4 @@
-use mathlib.Core.Path.{◌≡◌, refl}
-use Rattle.rule.specs.WalkedStrategy.{when_there}
 use Rattle.rule.proofs.StrategyLaws.{whens_found, whens_next, whens_end}
-use native.Mathlib.Omega.{arith}
 use Rattle.rule.proofs.strategy.some_when.Goals as goal
 
 pub returns-then-not-null : goal.returns-then-not-null

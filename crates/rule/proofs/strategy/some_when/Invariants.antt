@@ -1,9 +1,6 @@
 -- `some_when` goes from branch to branch. The loop's invariant: some WHEN of the branches that are left isn't null if one of all isn't; the measure is how many
-use borrow.Author.Tests.{not-true, not-false}
-use mathlib.Core.Path.{◌≡◌, refl}
+use mathlib.Core.Path.{◌≡◌}
 use Rattle.rule.specs.WalkedStrategy.{when_there}
-use Rattle.rule.proofs.StrategyLaws.{whens_found, whens_next, whens_end}
-use native.Mathlib.Omega.{arith}
 use Rattle.rule.proofs.strategy.some_when.Given as goal
 
 abbrev pub invariant-loop-left : goal.invariant-loop-left

@@ -1,8 +1,5 @@
 -- `strategy_at` goes by the base and the number of branches of the CASE.
-use native.Mathlib.Omega.{arith}
-use Rattle.rule.proofs.WalkLaws.{tag_inside}
 use Rattle.rule.proofs.StrategyLaws.{strategy_other, strategy_table, strategy_base, strategy_single, strategy_several}
-use borrow.Author.Rules.{rules}
 use Rattle.rule.proofs.strategy.strategy_at.Goals as goal
 
 pub returns-then-byte_at-ne25 : goal.returns-then-byte_at-ne25

@@ -2,7 +2,6 @@
 use mathlib.Core.Path.{refl}
 use native.Mathlib.Omega.{arith}
 use Rattle.rule.proofs.StrategyLaws.{table_few, table_other, table_nulls, table_gives}
-use borrow.Author.Rules.{rules}
 use Rattle.rule.proofs.strategy.table_serves.Goals as goal
 
 pub returns-then-count-lt2 : goal.returns-then-count-lt2

@@ -1,7 +1,6 @@
 -- `first_then` steps over the base, if the flags say one, and a WHEN.
 use native.Mathlib.Omega.{arith}
 use Rattle.rule.proofs.TypeOfLaws.{then_behind, then_told}
-use borrow.Author.Rules.{rules}
 use Rattle.rule.proofs.type_of.first_then.Goals as goal
 
 pub returns-then-rule-at : goal.returns-then-rule-at

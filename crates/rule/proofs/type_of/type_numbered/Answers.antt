@@ -1,4 +1,5 @@
 -- `type_numbered` has an arm for each type.
+use borrow.Author.Rules.{rules}
 use Rattle.scalar.specs.declared.types.DataType.TheVariants.{Boolean, Int32, Int64, Float64}
 use Rattle.rule.proofs.LiteralLaws.{type_numbered_lem, type_last}
 use Rattle.rule.proofs.type_of.type_numbered.Goals as goal
@@ -16,4 +17,4 @@ pub returns-in-4 : goal.returns-in-4
 returns-in-4 c = type_numbered_lem Float64 c.in-4.is
 
 pub returns-in_default : goal.returns-in_default
-returns-in_default c = type_last _ c.in_default.in_default-own.rest
+returns-in_default c = type_last _ (search rules)

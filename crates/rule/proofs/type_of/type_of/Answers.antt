@@ -1,9 +1,7 @@
-use mathlib.Core.Path.{◌≡◌, refl}
-use Rattle.rule.specs.Walked.{type_at}
+use borrow.Author.Rules.{rules}
+use mathlib.Core.Path.{refl}
 use Rattle.rule.proofs.TypeOfLaws.{then_onward, type_byte, type_behind, type_another, type_boolean}
 use native.Mathlib.Omega.{arith}
-use lib.ListN.{length}
-use Prim.Native.Nat.{◌-◌}
 use Rattle.rule.proofs.type_of.type_of.Goals as goal
 
 pub returns-in-16 : goal.returns-in-16
@@ -28,7 +26,7 @@ pub loop-at-preserved : goal.loop-at-preserved
 loop-at-preserved c = type_another _ _ 25 c.loop-at.invariant c.in-25.is refl c.first_then-at.ensures
 
 pub returns-in_default : goal.returns-in_default
-returns-in_default c = type_boolean _ _ c.loop-at.invariant refl c.in_default.in_default-own.rest
+returns-in_default c = type_boolean _ _ c.loop-at.invariant refl (search rules)
 
 pub returns : goal.returns
 returns c = type_behind _ c.loop-at.invariant c.loop-at-test.false

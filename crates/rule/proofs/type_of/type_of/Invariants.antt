@@ -1,8 +1,6 @@
 -- `type_of` goes on to the node that a node has its type from. The loop's invariant: the node at the place has the result's type; the measure is what is left of
-use mathlib.Core.Path.{◌≡◌, refl}
+use mathlib.Core.Path.{◌≡◌}
 use Rattle.rule.specs.Walked.{type_at}
-use Rattle.rule.proofs.TypeOfLaws.{then_onward, type_byte, type_behind, type_another, type_boolean}
-use native.Mathlib.Omega.{arith}
 use lib.ListN.{length}
 use Prim.Native.Nat.{◌-◌}
 use Rattle.rule.proofs.type_of.type_of.Given as goal

@@ -1,6 +1,4 @@
-use mathlib.Core.Path.{◌≡◌, refl, ◌∙◌}
-use native.Mathlib.Omega.{arith}
-use Rattle.rule.specs.Walked.{behind_fields}
+use mathlib.Core.Path.{◌∙◌}
 use Rattle.rule.proofs.WalkLaws.{behind_next, behind_none}
 use Rattle.rule.proofs.walk.behind_fields.Goals as goal
 

@@ -1,8 +1,6 @@
 -- `behind_fields` goes on field by field. The loop's invariant: what stands behind the fields that are left is the result; the measure is how many are left.
-use mathlib.Core.Path.{◌≡◌, refl, ◌∙◌}
-use native.Mathlib.Omega.{arith}
+use mathlib.Core.Path.{◌≡◌}
 use Rattle.rule.specs.Walked.{behind_fields}
-use Rattle.rule.proofs.WalkLaws.{behind_next, behind_none}
 use Rattle.rule.proofs.walk.behind_fields.Given as goal
 
 abbrev pub invariant-loop-left : goal.invariant-loop-left

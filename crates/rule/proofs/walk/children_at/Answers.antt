@@ -1,8 +1,8 @@
 -- `children_at` tells by the tag how many bytes a node has before its children.
+use borrow.Author.Rules.{rules}
 use native.Mathlib.Omega.{arith}
 use mathlib.Core.Path.{refl}
 use Rattle.rule.proofs.WalkLaws.{children_behind, children_told, children_plain}
-use borrow.Author.Rules.{rules}
 use Rattle.rule.proofs.walk.children_at.Goals as goal
 
 pub returns-then-rule-at : goal.returns-then-rule-at
@@ -24,4 +24,4 @@ pub returns-in-25 : goal.returns-in-25
 returns-in-25 c = children_told _ 25 (omega arith) c.in-25.is (omega arith)
 
 pub returns-in_default : goal.returns-in_default
-returns-in_default c = children_plain _ (omega arith) refl c.in_default.in_default-own.rest
+returns-in_default c = children_plain _ (omega arith) refl (search rules)

@@ -2,7 +2,6 @@
 use native.Mathlib.Omega.{arith}
 use mathlib.Core.Path.{sym, ◌∙◌}
 use Rattle.rule.proofs.WalkLaws.{end_behind, end_told}
-use borrow.Author.Rules.{rules}
 use Rattle.rule.proofs.walk.field_end.Goals as goal
 
 pub returns-then-rule-at : goal.returns-then-rule-at

@@ -1,4 +1,5 @@
 -- A cast by the value's kind.
+use borrow.Author.Rules.{rules}
 use Rattle.std.proofs.Common.{◌∙◌}
 use Rattle.scalar.proofs.CastLaws.{float_cast, nan_cast, text_cast, none_cast}
 use Rattle.scalar.proofs.cast.cast.Goals as goal
@@ -10,7 +11,7 @@ pub returns-in-Nan : goal.returns-in-Nan
 returns-in-Nan c = rw c.in-Nan.is (c.from_float-in-Nan.ensures ∙ nan_cast _ _)
 
 pub returns-in-RuleText : goal.returns-in-RuleText
-returns-in-RuleText c = c.kept_text.ensures ∙ text_cast c.args.to c.args.v c.in-RuleText.in-RuleText-own.keys6
+returns-in-RuleText c = c.kept_text.ensures ∙ text_cast c.args.to c.args.v (search rules)
 
 pub returns-in_default : goal.returns-in_default
-returns-in_default c = none_cast c.args.to c.args.v c.in_default.in_default-own.keys7
+returns-in_default c = none_cast c.args.to c.args.v (search rules)

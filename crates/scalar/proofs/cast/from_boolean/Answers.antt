@@ -1,4 +1,5 @@
 -- A Boolean as each type.
+use borrow.Author.Rules.{rules}
 use Rattle.std.proofs.Common.{refl, ap}
 use Rattle.scalar.specs.declared.value.Value.TheVariants.{Boolean, Int32, Int64}
 use Rattle.scalar.specs.Cast.{cast_entry}
@@ -19,4 +20,4 @@ unfolding cast_value cast_entry
 returns-in-Int64 c = cast_to_lem (Boolean c.args.b) c.in-Int64.is (ap Int64 c.mark_number-in-Int64.ensures)
 
 pub returns-in_default : goal.returns-in_default
-returns-in_default c = boolean_lost c.args.to c.args.b c.in_default.in_default-own.keys4
+returns-in_default c = boolean_lost c.args.to c.args.b (search rules)

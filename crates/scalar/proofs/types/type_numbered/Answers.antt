@@ -1,4 +1,5 @@
 -- `type_numbered` gives the type of a number, or that it has none, arm by arm.
+use borrow.Author.Rules.{rules}
 use Rattle.scalar.specs.declared.types.DataType.TheVariants.{Boolean, Int32, Int64, Float64, Utf8}
 use Rattle.scalar.proofs.TypeLaws.{has_type, no_type}
 use Rattle.scalar.proofs.types.type_numbered.Goals as goal
@@ -19,4 +20,4 @@ pub returns-in-5 : goal.returns-in-5
 returns-in-5 c = has_type c.args.number Utf8 c.in-5.is
 
 pub returns-in_default : goal.returns-in_default
-returns-in_default c = no_type c.args.number c.in_default.in_default-own.rest
+returns-in_default c = no_type c.args.number (search rules)

@@ -1,4 +1,5 @@
 -- The value of a kind and a payload, arm by arm.
+use borrow.Author.Rules.{rules}
 use Rattle.std.proofs.Common.{sym}
 use Rattle.scalar.specs.Value.{value_of}
 use Rattle.scalar.proofs.ValueLaws.{other_kind}
@@ -33,4 +34,4 @@ unfolding value_of
 returns-in-6 c = rw c.in-6.is
 
 pub returns-in_default : goal.returns-in_default
-returns-in_default c = sym (other_kind c.args.kind c.args.payload c.in_default.in_default-own.rest)
+returns-in_default c = sym (other_kind c.args.kind c.args.payload (search rules))
