@@ -10,7 +10,7 @@ ghost use Rattle.builder.specs.BuilderStruct.{marked, some_marked, count_of, hol
 const ROWS_MOST: usize = 512;
 
 // `held` is 1 where a row holds its value of `values`, and 0 where it holds none.
-#[derive(Drop)]
+#[derive(Clone, Copy)]
 pub struct ResultBuilder {
     pub rows: usize,
     pub part: bool,

@@ -52,8 +52,10 @@ texts_are e a b c d = e ∙ ap₂ text_order (a ∙ c) (b ∙ d)
 
 -- the value of an order's number is what the comparison says
 code_is : (less : Bool) (o : Order) → compared less (not less) false o ≡ code_value (order_code less o)
-code_is less Less = elim less [ true ↦ refl | false ↦ refl ]
-code_is less Equal = elim less [ true ↦ refl | false ↦ refl ]
+code_is true Less = refl
+code_is false Less = refl
+code_is true Equal = refl
+code_is false Equal = refl
 code_is less Greater = refl
 code_is less SomeNull = refl
 code_is less SomeFailed = refl

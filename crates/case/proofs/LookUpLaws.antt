@@ -221,19 +221,22 @@ flags_same true false = refl
 flags_same false true = refl
 flags_same false false = refl
 
+abbrev NumberSame : List ℕ → List ℕ → Value → Value → Type 0
+NumberSame rule table v k = same_key (meaning rule table v) (meaning rule table k) ≡ (eqb (kind_of v) (kind_of k) && eqb (payload_of v) (payload_of k))
+
 -- a number equals a key just where kind and payload are the same
 number_same : (rule table : List ℕ) (v : Value) → Number v → (k : Value) → same_key (meaning rule table v) (meaning rule table k) ≡ (eqb (kind_of v) (kind_of k) && eqb (payload_of v) (payload_of k))
 unfolding pair_of
 number_same rule table (Boolean b) h k =
-    elim k [ Null ↦ refl | Boolean y ↦ flags_same b y | Int32 y ↦ refl | Int64 y ↦ refl | Float64 y ↦ refl | Nan y ↦ refl | RuleText s n ↦ refl | TableText s n ↦ refl | Failed ↦ refl ]
+    elim k as (NumberSame rule table (Boolean b)) [ Null ↦ refl | Boolean y ↦ flags_same b y | Int32 y ↦ refl | Int64 y ↦ refl | Float64 y ↦ refl | Nan y ↦ refl | RuleText s n ↦ refl | TableText s n ↦ refl | Failed ↦ refl ]
 number_same rule table (Int32 x) h k =
-    elim k [ Null ↦ refl | Boolean y ↦ refl | Int32 y ↦ refl | Int64 y ↦ refl | Float64 y ↦ refl | Nan y ↦ refl | RuleText s n ↦ refl | TableText s n ↦ refl | Failed ↦ refl ]
+    elim k as (NumberSame rule table (Int32 x)) [ Null ↦ refl | Boolean y ↦ refl | Int32 y ↦ refl | Int64 y ↦ refl | Float64 y ↦ refl | Nan y ↦ refl | RuleText s n ↦ refl | TableText s n ↦ refl | Failed ↦ refl ]
 number_same rule table (Int64 x) h k =
-    elim k [ Null ↦ refl | Boolean y ↦ refl | Int32 y ↦ refl | Int64 y ↦ refl | Float64 y ↦ refl | Nan y ↦ refl | RuleText s n ↦ refl | TableText s n ↦ refl | Failed ↦ refl ]
+    elim k as (NumberSame rule table (Int64 x)) [ Null ↦ refl | Boolean y ↦ refl | Int32 y ↦ refl | Int64 y ↦ refl | Float64 y ↦ refl | Nan y ↦ refl | RuleText s n ↦ refl | TableText s n ↦ refl | Failed ↦ refl ]
 number_same rule table (Float64 x) h k =
-    elim k [ Null ↦ refl | Boolean y ↦ refl | Int32 y ↦ refl | Int64 y ↦ refl | Float64 y ↦ refl | Nan y ↦ refl | RuleText s n ↦ refl | TableText s n ↦ refl | Failed ↦ refl ]
+    elim k as (NumberSame rule table (Float64 x)) [ Null ↦ refl | Boolean y ↦ refl | Int32 y ↦ refl | Int64 y ↦ refl | Float64 y ↦ refl | Nan y ↦ refl | RuleText s n ↦ refl | TableText s n ↦ refl | Failed ↦ refl ]
 number_same rule table (Nan x) h k =
-    elim k [ Null ↦ refl | Boolean y ↦ refl | Int32 y ↦ refl | Int64 y ↦ refl | Float64 y ↦ refl | Nan y ↦ refl | RuleText s n ↦ refl | TableText s n ↦ refl | Failed ↦ refl ]
+    elim k as (NumberSame rule table (Nan x)) [ Null ↦ refl | Boolean y ↦ refl | Int32 y ↦ refl | Int64 y ↦ refl | Float64 y ↦ refl | Nan y ↦ refl | RuleText s n ↦ refl | TableText s n ↦ refl | Failed ↦ refl ]
 number_same rule table Null h k = absurd (miss (1 ∷ 2 ∷ 3 ∷ 4 ∷ 5 ∷ []) 0 tt h)
 number_same rule table (RuleText s n) h k = absurd (miss (1 ∷ 2 ∷ 3 ∷ 4 ∷ 5 ∷ []) 6 tt h)
 number_same rule table (TableText s n) h k = absurd (miss (1 ∷ 2 ∷ 3 ∷ 4 ∷ 5 ∷ []) 7 tt h)

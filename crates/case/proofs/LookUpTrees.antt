@@ -203,11 +203,11 @@ try_cast_null Of.Utf8 = refl
 try_cast_same : (to : DataType) (v : Entry) → of_type to v ≡ true → try_cast_entry to v ≡ v
 unfolding cast_entry of_type
 try_cast_same to null = λ p. try_cast_null to
-try_cast_same to (boolean b) = elim to [ Of.Boolean ↦ λ p. refl | Of.Int32 ↦ never | Of.Int64 ↦ never | Of.Float64 ↦ never | Of.Utf8 ↦ never ]
-try_cast_same to (int32 n) = elim to [ Of.Boolean ↦ never | Of.Int32 ↦ λ p. refl | Of.Int64 ↦ never | Of.Float64 ↦ never | Of.Utf8 ↦ never ]
-try_cast_same to (int64 n) = elim to [ Of.Boolean ↦ never | Of.Int32 ↦ never | Of.Int64 ↦ λ p. refl | Of.Float64 ↦ never | Of.Utf8 ↦ never ]
-try_cast_same to (float64 n) = elim to [ Of.Boolean ↦ never | Of.Int32 ↦ never | Of.Int64 ↦ never | Of.Float64 ↦ λ p. refl | Of.Utf8 ↦ never ]
-try_cast_same to (utf8 t) = elim to [ Of.Boolean ↦ never | Of.Int32 ↦ never | Of.Int64 ↦ never | Of.Float64 ↦ never | Of.Utf8 ↦ λ p. refl ]
+try_cast_same to (boolean b) = elim to as (λ (k : DataType). of_type k (boolean b) ≡ true → try_cast_entry k (boolean b) ≡ boolean b) [ Of.Boolean ↦ λ p. refl | Of.Int32 ↦ never | Of.Int64 ↦ never | Of.Float64 ↦ never | Of.Utf8 ↦ never ]
+try_cast_same to (int32 n) = elim to as (λ (k : DataType). of_type k (int32 n) ≡ true → try_cast_entry k (int32 n) ≡ int32 n) [ Of.Boolean ↦ never | Of.Int32 ↦ λ p. refl | Of.Int64 ↦ never | Of.Float64 ↦ never | Of.Utf8 ↦ never ]
+try_cast_same to (int64 n) = elim to as (λ (k : DataType). of_type k (int64 n) ≡ true → try_cast_entry k (int64 n) ≡ int64 n) [ Of.Boolean ↦ never | Of.Int32 ↦ never | Of.Int64 ↦ λ p. refl | Of.Float64 ↦ never | Of.Utf8 ↦ never ]
+try_cast_same to (float64 n) = elim to as (λ (k : DataType). of_type k (float64 n) ≡ true → try_cast_entry k (float64 n) ≡ float64 n) [ Of.Boolean ↦ never | Of.Int32 ↦ never | Of.Int64 ↦ never | Of.Float64 ↦ λ p. refl | Of.Utf8 ↦ never ]
+try_cast_same to (utf8 t) = elim to as (λ (k : DataType). of_type k (utf8 t) ≡ true → try_cast_entry k (utf8 t) ≡ utf8 t) [ Of.Boolean ↦ never | Of.Int32 ↦ never | Of.Int64 ↦ never | Of.Float64 ↦ never | Of.Utf8 ↦ λ p. refl ]
 
 -- ELSE is a literal where a table serves
 else_literal : (to : DataType) (e : Expr) → else_serves to (drop_null (present e)) ≡ true → is_literal e ≡ true

@@ -1,5 +1,5 @@
 -- The rows of a table that fits a rule have the types that the rule says, so the rule has its type at each of them. Assumes nothing.
-use Rattle.std.proofs.Common.{◌≡◌, ℕ, true, not, ◌||◌, List, ◌∷◌, sym, refl, subst}
+use Rattle.std.proofs.Common.{◌≡◌, ℕ, true, not, ◌||◌, List, [], ◌∷◌, sym, refl, subst}
 use mathlib.Core.Bool.{false≢true}
 use mathlib.Core.List.{Memᴰ}
 use mathlib.Core.Option.{Option, some, none}
@@ -26,6 +26,7 @@ use Rattle.case.specs.Fits.{column_fits, columns_fit, fits, entry_in, row_of}
 named_fits : (c : Column) (cs : List Column) (columns : List TableColumn) → Memᴰ c cs → columns_fit cs columns ≡ true
     → column_fits c (get_elem? columns c.index) ≡ true
 unfolding columns_fit
+named_fits c [] columns m p = elim m [ ]
 named_fits c (d ∷ cs) columns (Memᴰ.head e) p =
     subst (λ (x : Column). column_fits x (get_elem? columns x.index) ≡ true) (sym e) (both_hold (column_fits d (get_elem? columns d.index)) (columns_fit cs columns) p).0
 named_fits c (d ∷ cs) columns (Memᴰ.tail m) p = named_fits c cs columns m (both_hold (column_fits d (get_elem? columns d.index)) (columns_fit cs columns) p).1

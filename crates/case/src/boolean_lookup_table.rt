@@ -6,7 +6,7 @@ ghost use Rattle.case.specs.LookUpBooleans.{BooleansOf};
 use crate::primitive_lookup_table::find_number;
 
 // The index of each Boolean.
-#[derive(Drop)]
+#[derive(Clone, Copy)]
 pub(crate) struct BooleanIndexMap {
     pub(crate) true_index: usize,
     pub(crate) false_index: usize,

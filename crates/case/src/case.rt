@@ -26,7 +26,7 @@ use scalar::types::DataType;
 use table::places::Table;
 
 // An expression at each listed row, in the row's slot.
-#[cycle(against_binary_branches_by_base_case_case_column_or_null_case_when_no_expr_case_when_with_expr_choose_expr_expr_or_expr_scalar_or_scalar_take_take_else_then_turn_unary_with_lookup_table)]
+#[cycle(expressions)]
 pub(crate) fn expr(
     rule: &[u8],
     start: usize,
@@ -67,7 +67,7 @@ pub(crate) fn expr(
 }
 
 // NOT, negative, IS NOT NULL and the casts.
-#[cycle(against_binary_branches_by_base_case_case_column_or_null_case_when_no_expr_case_when_with_expr_choose_expr_expr_or_expr_scalar_or_scalar_take_take_else_then_turn_unary_with_lookup_table)]
+#[cycle(expressions)]
 fn unary(
     rule: &[u8],
     start: usize,
@@ -87,7 +87,7 @@ fn unary(
 }
 
 // Equal and less.
-#[cycle(against_binary_branches_by_base_case_case_column_or_null_case_when_no_expr_case_when_with_expr_choose_expr_expr_or_expr_scalar_or_scalar_take_take_else_then_turn_unary_with_lookup_table)]
+#[cycle(expressions)]
 fn binary(
     rule: &[u8],
     start: usize,
@@ -109,7 +109,7 @@ fn binary(
 }
 
 // The slots compared with an expression: with a literal's value, or with the expression's slots in the next frame.
-#[cycle(against_binary_branches_by_base_case_case_column_or_null_case_when_no_expr_case_when_with_expr_choose_expr_expr_or_expr_scalar_or_scalar_take_take_else_then_turn_unary_with_lookup_table)]
+#[cycle(expressions)]
 fn against(
     rule: &[u8],
     start: usize,
@@ -137,7 +137,7 @@ fn against(
 }
 
 // A CASE, by its strategy.
-#[cycle(against_binary_branches_by_base_case_case_column_or_null_case_when_no_expr_case_when_with_expr_choose_expr_expr_or_expr_scalar_or_scalar_take_take_else_then_turn_unary_with_lookup_table)]
+#[cycle(expressions)]
 fn case(
     rule: &[u8],
     start: usize,
@@ -171,7 +171,7 @@ fn case(
 }
 
 // CASE WHEN condition THEN result .. ELSE result END
-#[cycle(against_binary_branches_by_base_case_case_column_or_null_case_when_no_expr_case_when_with_expr_choose_expr_expr_or_expr_scalar_or_scalar_take_take_else_then_turn_unary_with_lookup_table)]
+#[cycle(expressions)]
 fn case_when_no_expr(
     rule: &[u8],
     start: usize,
@@ -217,7 +217,7 @@ fn case_when_no_expr(
 }
 
 // CASE expression WHEN value THEN result .. ELSE result END. A null base goes to ELSE, and no WHEN is read.
-#[cycle(against_binary_branches_by_base_case_case_column_or_null_case_when_no_expr_case_when_with_expr_choose_expr_expr_or_expr_scalar_or_scalar_take_take_else_then_turn_unary_with_lookup_table)]
+#[cycle(expressions)]
 fn case_when_with_expr(
     rule: &[u8],
     start: usize,
@@ -244,7 +244,7 @@ fn case_when_with_expr(
 }
 
 // The branches behind a base, which is in the slots: a null base leaves for ELSE, one that failed is failed.
-#[cycle(against_binary_branches_by_base_case_case_column_or_null_case_when_no_expr_case_when_with_expr_choose_expr_expr_or_expr_scalar_or_scalar_take_take_else_then_turn_unary_with_lookup_table)]
+#[cycle(expressions)]
 fn by_base(
     rule: &[u8],
     at: usize,
@@ -284,7 +284,7 @@ fn by_base(
 }
 
 // CASE WHEN condition THEN column [ELSE NULL] END
-#[cycle(against_binary_branches_by_base_case_case_column_or_null_case_when_no_expr_case_when_with_expr_choose_expr_expr_or_expr_scalar_or_scalar_take_take_else_then_turn_unary_with_lookup_table)]
+#[cycle(expressions)]
 fn case_column_or_null(
     rule: &[u8],
     start: usize,
@@ -305,7 +305,7 @@ fn case_column_or_null(
 }
 
 // CASE WHEN condition THEN literal ELSE literal END
-#[cycle(against_binary_branches_by_base_case_case_column_or_null_case_when_no_expr_case_when_with_expr_choose_expr_expr_or_expr_scalar_or_scalar_take_take_else_then_turn_unary_with_lookup_table)]
+#[cycle(expressions)]
 fn scalar_or_scalar(
     rule: &[u8],
     start: usize,
@@ -333,7 +333,7 @@ fn scalar_or_scalar(
 }
 
 // CASE WHEN condition THEN expression [ELSE expression] END
-#[cycle(against_binary_branches_by_base_case_case_column_or_null_case_when_no_expr_case_when_with_expr_choose_expr_expr_or_expr_scalar_or_scalar_take_take_else_then_turn_unary_with_lookup_table)]
+#[cycle(expressions)]
 fn expr_or_expr(
     rule: &[u8],
     start: usize,
@@ -375,7 +375,7 @@ fn expr_or_expr(
 }
 
 // CASE expression WHEN literal THEN literal .. [ELSE literal] END
-#[cycle(against_binary_branches_by_base_case_case_column_or_null_case_when_no_expr_case_when_with_expr_choose_expr_expr_or_expr_scalar_or_scalar_take_take_else_then_turn_unary_with_lookup_table)]
+#[cycle(expressions)]
 fn with_lookup_table(
     rule: &[u8],
     start: usize,
@@ -406,7 +406,7 @@ fn with_lookup_table(
 }
 
 // The branches over the open list and the builder: each row's index is chosen, and then what it stands for is taken.
-#[cycle(against_binary_branches_by_base_case_case_column_or_null_case_when_no_expr_case_when_with_expr_choose_expr_expr_or_expr_scalar_or_scalar_take_take_else_then_turn_unary_with_lookup_table)]
+#[cycle(expressions)]
 fn branches(
     rule: &[u8],
     at: usize,
@@ -433,7 +433,7 @@ fn branches(
 }
 
 // The open list through the branches in turn: a row leaves at the first WHEN that takes it.
-#[cycle(against_binary_branches_by_base_case_case_column_or_null_case_when_no_expr_case_when_with_expr_choose_expr_expr_or_expr_scalar_or_scalar_take_take_else_then_turn_unary_with_lookup_table)]
+#[cycle(expressions)]
 fn choose(
     rule: &[u8],
     at: usize,
@@ -473,7 +473,7 @@ fn choose(
 }
 
 // One branch: its WHEN over the open list, by a step or in the next frame, and the rows that leave by it.
-#[cycle(against_binary_branches_by_base_case_case_column_or_null_case_when_no_expr_case_when_with_expr_choose_expr_expr_or_expr_scalar_or_scalar_take_take_else_then_turn_unary_with_lookup_table)]
+#[cycle(expressions)]
 fn turn(
     rule: &[u8],
     start: usize,
@@ -513,7 +513,7 @@ fn turn(
 }
 
 // What each row's index stands for, in the row's slot: null, failed, a THEN or ELSE. Literals are put first.
-#[cycle(against_binary_branches_by_base_case_case_column_or_null_case_when_no_expr_case_when_with_expr_choose_expr_expr_or_expr_scalar_or_scalar_take_take_else_then_turn_unary_with_lookup_table)]
+#[cycle(expressions)]
 fn take(
     rule: &[u8],
     at: usize,
@@ -546,7 +546,7 @@ fn take(
 }
 
 // A THEN over the rows of its index; a literal is there already.
-#[cycle(against_binary_branches_by_base_case_case_column_or_null_case_when_no_expr_case_when_with_expr_choose_expr_expr_or_expr_scalar_or_scalar_take_take_else_then_turn_unary_with_lookup_table)]
+#[cycle(expressions)]
 fn then(
     rule: &[u8],
     start: usize,
@@ -572,7 +572,7 @@ fn then(
 }
 
 // ELSE over the rows of its index, try-cast to the result's type; a literal is there already.
-#[cycle(against_binary_branches_by_base_case_case_column_or_null_case_when_no_expr_case_when_with_expr_choose_expr_expr_or_expr_scalar_or_scalar_take_take_else_then_turn_unary_with_lookup_table)]
+#[cycle(expressions)]
 fn take_else(
     rule: &[u8],
     at: usize,

@@ -35,7 +35,7 @@ pub(crate) fn find_number(
 }
 
 // A number among those of its kind; kind 0 is none.
-#[derive(Drop)]
+#[derive(Clone, Copy)]
 pub(crate) struct NumberKey {
     pub(crate) kind: u8,
     pub(crate) number: u64,

@@ -19,7 +19,7 @@ use scalar::types::DataType;
 use scalar::value::Value;
 
 // The operations on one value.
-#[derive(Drop)]
+#[derive(Clone, Copy)]
 pub(crate) enum Op {
     Not,
     Negative,

@@ -15,7 +15,7 @@ use builder::ResultBuilder;
 use scalar::value::{Value, kind};
 
 // When a row leaves: its base is null, its WHEN is true, its WHEN equals its base, or always.
-#[derive(Drop)]
+#[derive(Clone, Copy)]
 pub(crate) enum Leave {
     NullBase,
     TrueWhen,
@@ -24,7 +24,7 @@ pub(crate) enum Leave {
 }
 
 // How many rows are left in the open list, and the builder.
-#[derive(Drop)]
+#[derive(Clone, Copy)]
 pub(crate) struct Settled {
     pub(crate) left: usize,
     pub(crate) builder: ResultBuilder,

@@ -22,7 +22,7 @@ const NUMBER_MOST: u64 = 0xffff_ffff_ffff_ffff;
 
 // A column compared with a literal: equal (23), less (24), or the literal less than the column (26, the tag of no node); the column, and the kind
 // and the key of the literal. Tag 0 is any other node.
-#[derive(Drop)]
+#[derive(Clone, Copy)]
 pub(crate) struct Step {
     pub(crate) tag: u8,
     pub(crate) column: u8,

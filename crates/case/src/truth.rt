@@ -7,7 +7,7 @@ ghost use Rattle.case.specs.Parting.{truth_of};
 use scalar::value::Value;
 
 // True; false, null or of another type; or failed.
-#[derive(Drop)]
+#[derive(Clone, Copy)]
 pub(crate) enum Truth {
     Yes,
     No,

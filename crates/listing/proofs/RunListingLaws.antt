@@ -6,7 +6,7 @@ use native.Mathlib.Omega.{arith}
 use lib.ListN.{length, take, drop}
 use lib.Seq.{take-append_seam}
 use Rattle.layout.specs.Bytes.{part}
-use Rattle.layout.specs.Result.{Result, refused, ok}
+use Rattle.layout.specs.Result.{Result, ok}
 use Rattle.layout.proofs.ResultLaws.{bind_ok, refused_not_ok}
 use Rattle.rule.specs.Reading.{read_rule}
 use Rattle.table.specs.declared.places.TableAnswer.{TableAnswer}

@@ -11,7 +11,6 @@ use lib.IntN.{ℤ, negsuc}
 use lib.ListN.{length, take}
 use lib.Seq.{take-nil, drop-nil}
 use Rattle.scalar.specs.declared.value.Value.{Value}
-use Rattle.scalar.specs.declared.value.Value.TheVariants as Value
 use Rattle.scalar.specs.Integer.{signed, bits_of}
 use Rattle.scalar.specs.Value.{place_text}
 use Rattle.scalar.proofs.IntegerLaws.{signed_low, signed_high}

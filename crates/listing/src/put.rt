@@ -3,7 +3,7 @@ ghost use Rattle.std.specs.Prelude.{[], ◌∷◌, ◌+◌, ◌≤◌, ◌≡◌
 ghost use Rattle.listing.specs.Putting.{Wrote};
 
 // Where the bytes that were put end, or that they don't fit.
-#[derive(Drop)]
+#[derive(Clone, Copy)]
 pub enum PutAnswer {
     Ends(usize),
     Full,

@@ -6,7 +6,7 @@ use scalar::cast::widened;
 use scalar::value::{Value, float_bits};
 
 // A word, a number with or without a minus sign, a float's bits, or a text by its place, start and size, in the table's bytes.
-#[derive(Drop)]
+#[derive(Clone, Copy)]
 pub(crate) enum Shown {
     Null,
     Truth(bool),

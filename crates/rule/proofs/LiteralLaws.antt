@@ -43,11 +43,31 @@ never p = let z : ◌≡◌ {A = ℕ} 0 1 = cc in absurd (omega arith)
 valued : (t : DataType) (v : Entry) → is_null v ≡ false → of_type t v ≡ true → Valued t v
 unfolding of_type
 valued t null p = never (sym p)
-valued t (boolean b) p = elim t [ Of.Boolean ↦ λ q. a_boolean b | Of.Int32 ↦ never | Of.Int64 ↦ never | Of.Float64 ↦ never | Of.Utf8 ↦ never ]
-valued t (int32 n) p = elim t [ Of.Boolean ↦ never | Of.Int32 ↦ λ q. an_int32 n (ltb-true _ _ q) | Of.Int64 ↦ never | Of.Float64 ↦ never | Of.Utf8 ↦ never ]
-valued t (int64 n) p = elim t [ Of.Boolean ↦ never | Of.Int32 ↦ never | Of.Int64 ↦ λ q. an_int64 n (ltb-true _ _ q) | Of.Float64 ↦ never | Of.Utf8 ↦ never ]
-valued t (float64 n) p = elim t [ Of.Boolean ↦ never | Of.Int32 ↦ never | Of.Int64 ↦ never | Of.Float64 ↦ λ q. a_float64 n (ltb-true _ _ q) | Of.Utf8 ↦ never ]
-valued t (utf8 s) p = elim t [ Of.Boolean ↦ never | Of.Int32 ↦ never | Of.Int64 ↦ never | Of.Float64 ↦ never | Of.Utf8 ↦ λ q. a_utf8 s ]
+valued Of.Boolean (boolean b) p = λ q. a_boolean b
+valued Of.Int32 (boolean b) p = never
+valued Of.Int64 (boolean b) p = never
+valued Of.Float64 (boolean b) p = never
+valued Of.Utf8 (boolean b) p = never
+valued Of.Boolean (int32 n) p = never
+valued Of.Int32 (int32 n) p = λ q. an_int32 n (ltb-true _ _ q)
+valued Of.Int64 (int32 n) p = never
+valued Of.Float64 (int32 n) p = never
+valued Of.Utf8 (int32 n) p = never
+valued Of.Boolean (int64 n) p = never
+valued Of.Int32 (int64 n) p = never
+valued Of.Int64 (int64 n) p = λ q. an_int64 n (ltb-true _ _ q)
+valued Of.Float64 (int64 n) p = never
+valued Of.Utf8 (int64 n) p = never
+valued Of.Boolean (float64 n) p = never
+valued Of.Int32 (float64 n) p = never
+valued Of.Int64 (float64 n) p = never
+valued Of.Float64 (float64 n) p = λ q. a_float64 n (ltb-true _ _ q)
+valued Of.Utf8 (float64 n) p = never
+valued Of.Boolean (utf8 s) p = never
+valued Of.Int32 (utf8 s) p = never
+valued Of.Int64 (utf8 s) p = never
+valued Of.Float64 (utf8 s) p = never
+valued Of.Utf8 (utf8 s) p = λ q. a_utf8 s
 
 -- a mark is told from its number
 pub mark_told : (m : Bool) → eqb (mark_number m) 1 ≡ m

@@ -1,13 +1,13 @@
 -- A tree that document 01 allows is read back from its bytes. Assumes nothing.
 use mathlib.Core.Path.{◌≡◌, refl, ap, sym, subst, ◌∙◌}
-use mathlib.Core.Bool.{Bool, true, false, not, ◌&&◌, false≢true}
+use mathlib.Core.Bool.{Bool, true, not, ◌&&◌, false≢true}
 use mathlib.Core.List.{List, [], ◌∷◌, ◌++◌, append-nil, append_assoc, reverse, reverse_aux, reverse_aux-append}
-use Prim.Native.Nat.{ℕ, zero, suc, ◌+◌, ◌^◌, ◌<◌, ◌≤◌, max, ◌-◌}
+use Prim.Native.Nat.{ℕ, zero, suc, ◌^◌, ◌<◌, ◌≤◌, max, ◌-◌}
 use native.Mathlib.Omega.{arith}
 use lib.Dec.{leb, ltb}
 use lib.ListN.{length, length-append}
 use borrow.Author.Tests.{ltb-true, lt-ltb, le-leb, eq-eqb}
-use Rattle.layout.specs.Result.{Result, ok, ◌>>=◌}
+use Rattle.layout.specs.Result.{Result, ok}
 use Rattle.layout.specs.Bytes.{byte, number_bytes}
 use Rattle.layout.specs.Field.{Field, header, field_bytes}
 use Rattle.layout.proofs.TestLaws.{both_hold}

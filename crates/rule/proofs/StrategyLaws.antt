@@ -129,7 +129,7 @@ literals_end rule place {left = suc n} same none = absurd (omega arith)
 literals_at : {rule : List ℕ} {at end depth : ℕ} (es rest : List Expr) → TreesAt rule at end (es ++ rest) depth → literals_there rule at (length es) ≡ trees_literal es
 unfolding literals_there
 literals_at [] rest t = refl
-literals_at (e ∷ es) rest t = let (first, later) = first_tree (end_gives refl) t in ap₂ ◌&&◌ (literal_at_lem first) (literals_at es rest later)
+literals_at {rule = rule} {at = at} (e ∷ es) rest t = let (first, later) = first_tree (end_gives refl) t in ap₂ ◌&&◌ (literal_at_lem first) (literals_at {at = field_end rule at} es rest later)
 
 -- a WHEN of the branches that are left isn't null
 pub whens_found : (rule : List ℕ) (place : ℕ) {left : ℕ} {null some : Bool} → when_there rule place left ≡ some → 0 < left → null ≡ null_there rule place → null ≡ false → true ≡ some
@@ -153,10 +153,10 @@ whens_end rule place {left = suc n} same none = absurd (omega arith)
 whens_at : {rule : List ℕ} {at end depth : ℕ} (bs : Branches) (rest : List Expr) → TreesAt rule at end (branch_trees bs ++ rest) depth → when_there rule at (branch_count bs) ≡ some_when_value bs
 unfolding when_there some_when_value branch_count
 whens_at no_more rest t = refl
-whens_at {end = end} {depth} (branch w u bs) rest t =
+whens_at {rule = rule} {at = at} {end = end} {depth = depth} (branch w u bs) rest t =
     let (m, first, later) = trees_split t in
     let behind = (behind_gives refl).stand end (w ∷ u ∷ []) (branch_trees bs ++ rest) depth refl t in
-    ap₂ (λ (a b : Bool). not a || b) (null_at w first) (whens_at bs rest behind)
+    ap₂ (λ (a b : Bool). not a || b) (null_at w first) (whens_at {at = behind_fields rule at (length {A = Expr} (w ∷ u ∷ []))} bs rest behind)
 
 -- whether an ELSE serves beside a THEN
 module _ (rule : List ℕ) (at end then : ℕ) {there : Bool} (is : there ≡ else_there rule at end) where

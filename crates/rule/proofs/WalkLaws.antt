@@ -171,7 +171,7 @@ behind_onward rule at (suc n) = omega (arith, behind_onward rule (field_end rule
 behind_stands : {rule : List ℕ} {at end depth : ℕ} (es rest : List Expr) → TreesAt rule at end (es ++ rest) depth → TreesAt rule (behind_fields rule at (length es)) end rest depth
 unfolding behind_fields
 behind_stands [] rest t = t
-behind_stands (e ∷ es) rest t = behind_stands es rest (first_tree (end_gives refl) t).1
+behind_stands {rule = rule} {at = at} (e ∷ es) rest t = behind_stands {at = field_end rule at} es rest (first_tree (end_gives refl) t).1
 
 -- the trees behind so many, whatever they are, and onward
 pub behind_gives : {rule : List ℕ} {at count r : ℕ} → r ≡ behind_fields rule at count → BehindGives rule at count r

@@ -11,7 +11,6 @@ use Rattle.rule.specs.Tree.{Expr, column, literal, negation, negative, is_not_nu
 use Rattle.rule.specs.TreeBytes.{value_bytes, flags_of, bytes_of}
 use Rattle.rule.specs.WellFormed.{well_formed}
 use Rattle.rule.specs.Typing.{type_of}
-use Rattle.rule.specs.Nullable.{nullable}
 use Rattle.rule.specs.Node.{NodeAt, depth_of}
 
 -- the trees of branches, WHEN and THEN in turn

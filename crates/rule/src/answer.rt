@@ -9,21 +9,21 @@ use crate::strategy::{Strategy, strategy_at};
 use scalar::types::DataType;
 
 // The reading of a rule: the result's type.
-#[derive(Drop)]
+#[derive(Clone, Copy)]
 pub enum RuleAnswer {
     Accepted(DataType),
     Refused(u8),
 }
 
 // The root CASE's strategy.
-#[derive(Drop)]
+#[derive(Clone, Copy)]
 pub enum StrategyAnswer {
     By(Strategy),
     Refused(u8),
 }
 
 // Whether the answer of a rule is marked nullable.
-#[derive(Drop)]
+#[derive(Clone, Copy)]
 pub enum NullableAnswer {
     Nullable(bool),
     Refused(u8),

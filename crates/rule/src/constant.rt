@@ -53,7 +53,7 @@ pub(crate) fn may_pass(v: Value) -> bool
 }
 
 // A node; null where it equals the target.
-#[cycle(constant_constant_base_constant_branches_constant_case_constant_else_constant_node_constant_with)]
+#[cycle(constant)]
 pub(crate) fn constant(rule: &[u8], start: usize, end: usize, target: &[u8], depth: usize) -> Value
     ensures { ConstantGives rule.now start end target.now depth result }
 {
@@ -68,7 +68,7 @@ pub(crate) fn constant(rule: &[u8], start: usize, end: usize, target: &[u8], dep
 }
 
 // A node that doesn't equal the target, by its tag.
-#[cycle(constant_constant_base_constant_branches_constant_case_constant_else_constant_node_constant_with)]
+#[cycle(constant)]
 fn constant_node(rule: &[u8], start: usize, end: usize, target: &[u8], depth: usize) -> Value
     ensures { WithinGives rule.now start end target.now depth result }
 {
@@ -98,7 +98,7 @@ fn constant_node(rule: &[u8], start: usize, end: usize, target: &[u8], depth: us
 }
 
 // A CASE: its base, true where there is none, and then the branches.
-#[cycle(constant_constant_base_constant_branches_constant_case_constant_else_constant_node_constant_with)]
+#[cycle(constant)]
 fn constant_case(rule: &[u8], start: usize, end: usize, target: &[u8], depth: usize) -> Value
     ensures { CaseGives rule.now start end target.now depth result }
 {
@@ -115,7 +115,7 @@ fn constant_case(rule: &[u8], start: usize, end: usize, target: &[u8], depth: us
 }
 
 // A base; true where the place is empty.
-#[cycle(constant_constant_base_constant_branches_constant_case_constant_else_constant_node_constant_with)]
+#[cycle(constant)]
 fn constant_base(rule: &[u8], at: usize, end: usize, target: &[u8], depth: usize) -> Value
     ensures { BaseGives rule.now at end target.now depth result }
 {
@@ -126,7 +126,7 @@ fn constant_base(rule: &[u8], at: usize, end: usize, target: &[u8], depth: usize
 }
 
 // The branches by a base: one that failed fails, one that is null goes to ELSE.
-#[cycle(constant_constant_base_constant_branches_constant_case_constant_else_constant_node_constant_with)]
+#[cycle(constant)]
 fn constant_with(
     rule: &[u8],
     at: usize,
@@ -151,7 +151,7 @@ fn constant_with(
 }
 
 // The THEN of the first branch whose WHEN equals the base, else ELSE.
-#[cycle(constant_constant_base_constant_branches_constant_case_constant_else_constant_node_constant_with)]
+#[cycle(constant)]
 fn constant_branches(
     rule: &[u8],
     at: usize,
@@ -185,7 +185,7 @@ fn constant_branches(
 }
 
 // ELSE, try-cast to the result's type; null where the place is empty.
-#[cycle(constant_constant_base_constant_branches_constant_case_constant_else_constant_node_constant_with)]
+#[cycle(constant)]
 fn constant_else(
     rule: &[u8],
     at: usize,

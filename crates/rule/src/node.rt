@@ -20,7 +20,7 @@ pub(crate) struct RuleFound {
 
 // What reading a field found, beside the marks, which are lent: the number with which it is refused (0: none), its type, whether it is a
 // null literal, and where it ends in the slice.
-#[derive(Drop)]
+#[derive(Clone, Copy)]
 pub(crate) struct FieldFound {
     pub(crate) refused: u8,
     pub(crate) result: DataType,
@@ -30,7 +30,7 @@ pub(crate) struct FieldFound {
 
 // What reading branches found: the number with which they are refused (0: none), the type of their THENs, whether all types fit, and
 // where they end.
-#[derive(Drop)]
+#[derive(Clone, Copy)]
 pub(crate) struct BranchesRead {
     pub(crate) refused: u8,
     pub(crate) result: DataType,

@@ -52,7 +52,7 @@ fn else_can_fail(rule: &[u8], start: usize, at: usize) -> bool
 }
 
 // Whether a node is nullable, by its tag: a column's and a literal's mark, never IS NOT NULL, always try-cast, else as its children.
-#[cycle(nullable_any_nullable_branch_nullable_branches_nullable_case_nullable_node)]
+#[cycle(nullable)]
 fn nullable_node(rule: &[u8], start: usize, end: usize, depth: usize) -> bool
     ensures { NullableGives rule.now start end depth result }
 {
@@ -73,7 +73,7 @@ fn nullable_node(rule: &[u8], start: usize, end: usize, depth: usize) -> bool
 }
 
 // Whether one of the nodes from one place to another is nullable.
-#[cycle(nullable_any_nullable_branch_nullable_branches_nullable_case_nullable_node)]
+#[cycle(nullable)]
 fn nullable_any(rule: &[u8], start: usize, end: usize, depth: usize) -> bool
     ensures { AnyGives rule.now start end depth result }
 {
@@ -93,7 +93,7 @@ fn nullable_any(rule: &[u8], start: usize, end: usize, depth: usize) -> bool
 }
 
 // Whether a CASE is nullable.
-#[cycle(nullable_any_nullable_branch_nullable_branches_nullable_case_nullable_node)]
+#[cycle(nullable)]
 fn nullable_case(rule: &[u8], start: usize, end: usize, depth: usize) -> bool
     ensures { CaseNullableGives rule.now start end depth result }
 {
@@ -107,7 +107,7 @@ fn nullable_case(rule: &[u8], start: usize, end: usize, depth: usize) -> bool
 }
 
 // Whether a branch or ELSE is nullable, or ELSE's try-cast can fail; without ELSE a CASE is.
-#[cycle(nullable_any_nullable_branch_nullable_branches_nullable_case_nullable_node)]
+#[cycle(nullable)]
 fn nullable_branches(
     rule: &[u8],
     start: usize,
@@ -142,7 +142,7 @@ fn nullable_branches(
 }
 
 // Whether a THEN is nullable and may be taken when it is null.
-#[cycle(nullable_any_nullable_branch_nullable_branches_nullable_case_nullable_node)]
+#[cycle(nullable)]
 fn nullable_branch(
     rule: &[u8],
     when: usize,

@@ -28,7 +28,7 @@ pub struct RuleReading {
 }
 
 // The field at a place of a slice; so much depth and so many CASEs are left on the path.
-#[cycle(read_binary_read_branches_read_case_read_cast_read_field_read_kind_read_optional_read_parts_read_then_read_unary)]
+#[cycle(read)]
 fn read_field(s: &[u8], at: usize, depth: usize, cases: usize, marks: &mut [u8; 256]) -> FieldFound
     ensures { FieldGives s.now marks.old (read_field depth cases (drop at s.now)) result marks.new }
 {
@@ -52,7 +52,7 @@ fn read_field(s: &[u8], at: usize, depth: usize, cases: usize, marks: &mut [u8; 
 }
 
 // A field of a tag from 16 to 25 by its content; it ends at a place of its parent.
-#[cycle(read_binary_read_branches_read_case_read_cast_read_field_read_kind_read_optional_read_parts_read_then_read_unary)]
+#[cycle(read)]
 fn read_kind(
     content: &[u8],
     tag: u8,
@@ -82,7 +82,7 @@ fn read_kind(
 }
 
 // NOT, negative or IS NOT NULL: one child.
-#[cycle(read_binary_read_branches_read_case_read_cast_read_field_read_kind_read_optional_read_parts_read_then_read_unary)]
+#[cycle(read)]
 fn read_unary(
     content: &[u8],
     tag: u8,
@@ -105,7 +105,7 @@ fn read_unary(
 }
 
 // Cast or try-cast: target type byte, one child.
-#[cycle(read_binary_read_branches_read_case_read_cast_read_field_read_kind_read_optional_read_parts_read_then_read_unary)]
+#[cycle(read)]
 fn read_cast(
     content: &[u8],
     tag: u8,
@@ -130,7 +130,7 @@ fn read_cast(
 }
 
 // Equal or less: two children.
-#[cycle(read_binary_read_branches_read_case_read_cast_read_field_read_kind_read_optional_read_parts_read_then_read_unary)]
+#[cycle(read)]
 fn read_binary(
     content: &[u8],
     tag: u8,
@@ -158,7 +158,7 @@ fn read_binary(
 }
 
 // CASE: flags and branch count, then its parts.
-#[cycle(read_binary_read_branches_read_case_read_cast_read_field_read_kind_read_optional_read_parts_read_then_read_unary)]
+#[cycle(read)]
 fn read_case(
     content: &[u8],
     end: usize,
@@ -189,7 +189,7 @@ fn read_case(
 }
 
 // The parts of a CASE: base, WHEN and THEN in turn, ELSE.
-#[cycle(read_binary_read_branches_read_case_read_cast_read_field_read_kind_read_optional_read_parts_read_then_read_unary)]
+#[cycle(read)]
 fn read_parts(
     content: &[u8],
     flags: u8,
@@ -232,7 +232,7 @@ fn read_parts(
 }
 
 // A part that may be absent: absent, it is as a null literal of type Boolean.
-#[cycle(read_binary_read_branches_read_case_read_cast_read_field_read_kind_read_optional_read_parts_read_then_read_unary)]
+#[cycle(read)]
 fn read_optional(
     s: &[u8],
     at: usize,
@@ -250,7 +250,7 @@ fn read_optional(
 }
 
 // So many branches; the type of a THEN may be known from earlier ones.
-#[cycle(read_binary_read_branches_read_case_read_cast_read_field_read_kind_read_optional_read_parts_read_then_read_unary)]
+#[cycle(read)]
 fn read_branches(
     s: &[u8],
     at: usize,
@@ -274,7 +274,7 @@ fn read_branches(
 }
 
 // A branch behind its WHEN, and so many later ones.
-#[cycle(read_binary_read_branches_read_case_read_cast_read_field_read_kind_read_optional_read_parts_read_then_read_unary)]
+#[cycle(read)]
 fn read_then(
     s: &[u8],
     w: FieldFound,

@@ -7,7 +7,7 @@ use crate::types::type_number;
 use crate::walk::{behind_fields, field_end};
 use layout::number::byte_at;
 
-#[derive(Drop)]
+#[derive(Clone, Copy)]
 pub enum Strategy {
     NoExpression,
     WithExpression,

@@ -105,8 +105,16 @@ bits_cast to n h = go (nan_bits binary64 n) refl
 -- a text is cast to its own type alone
 pub text_cast : (to : DataType) (v : Value) → IsText v → kept_as type.Utf8 to v ≡ cast_value to v
 unfolding cast_entry cast_value
-text_cast to (RuleText s n) h = elim to [ type.Boolean ↦ refl | type.Int32 ↦ refl | type.Int64 ↦ refl | type.Float64 ↦ refl | type.Utf8 ↦ refl ]
-text_cast to (TableText s n) h = elim to [ type.Boolean ↦ refl | type.Int32 ↦ refl | type.Int64 ↦ refl | type.Float64 ↦ refl | type.Utf8 ↦ refl ]
+text_cast type.Boolean (RuleText s n) h = refl
+text_cast type.Int32 (RuleText s n) h = refl
+text_cast type.Int64 (RuleText s n) h = refl
+text_cast type.Float64 (RuleText s n) h = refl
+text_cast type.Utf8 (RuleText s n) h = refl
+text_cast type.Boolean (TableText s n) h = refl
+text_cast type.Int32 (TableText s n) h = refl
+text_cast type.Int64 (TableText s n) h = refl
+text_cast type.Float64 (TableText s n) h = refl
+text_cast type.Utf8 (TableText s n) h = refl
 text_cast to Null h = absurd (miss (6 ∷ 7 ∷ []) 0 tt h)
 text_cast to (Boolean b) h = absurd (miss (6 ∷ 7 ∷ []) 1 tt h)
 text_cast to (Int32 n) h = absurd (miss (6 ∷ 7 ∷ []) 2 tt h)
@@ -118,7 +126,11 @@ text_cast to Failed h = absurd (miss (6 ∷ 7 ∷ []) 8 tt h)
 -- null is cast to null, and what has failed stays so
 pub none_cast : (to : DataType) (v : Value) → IsNone v → v ≡ cast_value to v
 unfolding cast_entry cast_value
-none_cast to Null h = elim to [ type.Boolean ↦ refl | type.Int32 ↦ refl | type.Int64 ↦ refl | type.Float64 ↦ refl | type.Utf8 ↦ refl ]
+none_cast type.Boolean Null h = refl
+none_cast type.Int32 Null h = refl
+none_cast type.Int64 Null h = refl
+none_cast type.Float64 Null h = refl
+none_cast type.Utf8 Null h = refl
 none_cast to Failed h = refl
 none_cast to (Boolean b) h = absurd (miss (0 ∷ 8 ∷ []) 1 tt h)
 none_cast to (Int32 n) h = absurd (miss (0 ∷ 8 ∷ []) 2 tt h)
@@ -145,70 +157,90 @@ fitted_stores v e false p = tt
 
 cast_means : (to : DataType) (v : Value) (rule table : List ℕ) → meaning rule table (cast_value to v) ≡ on_entry (cast_entry to) (meaning rule table v)
 unfolding cast_entry cast_value
-cast_means to Null rule table = elim to [ type.Boolean ↦ refl | type.Int32 ↦ refl | type.Int64 ↦ refl | type.Float64 ↦ refl | type.Utf8 ↦ refl ]
-cast_means to (Boolean b) rule table = elim to [ type.Boolean ↦ refl | type.Int32 ↦ refl | type.Int64 ↦ refl | type.Float64 ↦ refl | type.Utf8 ↦ refl ]
-cast_means to (Int32 n) rule table =
-    elim to [ type.Boolean ↦ refl | type.Int32 ↦ refl | type.Int64 ↦ refl | type.Float64 ↦ float_means (float_bits (signed 31 n)) (float_bits_below (signed 31 n)) rule table | type.Utf8 ↦ refl ]
-cast_means to (Int64 n) rule table =
-    elim to [
-      | type.Boolean ↦ refl
-      | type.Int32 ↦ fitted_means (Int64 n) (int32 _) (in_range 31 (signed 63 n)) rule table refl
-      | type.Int64 ↦ refl
-      | type.Float64 ↦ float_means (float_bits (signed 63 n)) (float_bits_below (signed 63 n)) rule table
-      | type.Utf8 ↦ refl
-    ]
-cast_means to (Float64 f) rule table =
-    elim to [
-      | type.Boolean ↦ refl
-      | type.Int32 ↦ fitted_means (Float64 f) (int32 _) (whole_fits 31 (to_bits binary64 f)) rule table refl
-      | type.Int64 ↦ fitted_means (Float64 f) (int64 _) (whole_fits 63 (to_bits binary64 f)) rule table refl
-      | type.Float64 ↦ refl
-      | type.Utf8 ↦ refl
-    ]
-cast_means to (Nan n) rule table =
-    elim to [
-      | type.Boolean ↦ refl
-      | type.Int32 ↦ fitted_means (Nan n) (int32 _) (whole_fits 31 n) rule table refl
-      | type.Int64 ↦ fitted_means (Nan n) (int64 _) (whole_fits 63 n) rule table refl
-      | type.Float64 ↦ refl
-      | type.Utf8 ↦ refl
-    ]
-cast_means to (RuleText s n) rule table = elim to [ type.Boolean ↦ refl | type.Int32 ↦ refl | type.Int64 ↦ refl | type.Float64 ↦ refl | type.Utf8 ↦ refl ]
-cast_means to (TableText s n) rule table = elim to [ type.Boolean ↦ refl | type.Int32 ↦ refl | type.Int64 ↦ refl | type.Float64 ↦ refl | type.Utf8 ↦ refl ]
+cast_means type.Boolean Null rule table = refl
+cast_means type.Int32 Null rule table = refl
+cast_means type.Int64 Null rule table = refl
+cast_means type.Float64 Null rule table = refl
+cast_means type.Utf8 Null rule table = refl
+cast_means type.Boolean (Boolean b) rule table = refl
+cast_means type.Int32 (Boolean b) rule table = refl
+cast_means type.Int64 (Boolean b) rule table = refl
+cast_means type.Float64 (Boolean b) rule table = refl
+cast_means type.Utf8 (Boolean b) rule table = refl
+cast_means type.Boolean (Int32 n) rule table = refl
+cast_means type.Int32 (Int32 n) rule table = refl
+cast_means type.Int64 (Int32 n) rule table = refl
+cast_means type.Float64 (Int32 n) rule table = float_means (float_bits (signed 31 n)) (float_bits_below (signed 31 n)) rule table
+cast_means type.Utf8 (Int32 n) rule table = refl
+cast_means type.Boolean (Int64 n) rule table = refl
+cast_means type.Int32 (Int64 n) rule table = fitted_means (Int64 n) (int32 _) (in_range 31 (signed 63 n)) rule table refl
+cast_means type.Int64 (Int64 n) rule table = refl
+cast_means type.Float64 (Int64 n) rule table = float_means (float_bits (signed 63 n)) (float_bits_below (signed 63 n)) rule table
+cast_means type.Utf8 (Int64 n) rule table = refl
+cast_means type.Boolean (Float64 f) rule table = refl
+cast_means type.Int32 (Float64 f) rule table = fitted_means (Float64 f) (int32 _) (whole_fits 31 (to_bits binary64 f)) rule table refl
+cast_means type.Int64 (Float64 f) rule table = fitted_means (Float64 f) (int64 _) (whole_fits 63 (to_bits binary64 f)) rule table refl
+cast_means type.Float64 (Float64 f) rule table = refl
+cast_means type.Utf8 (Float64 f) rule table = refl
+cast_means type.Boolean (Nan n) rule table = refl
+cast_means type.Int32 (Nan n) rule table = fitted_means (Nan n) (int32 _) (whole_fits 31 n) rule table refl
+cast_means type.Int64 (Nan n) rule table = fitted_means (Nan n) (int64 _) (whole_fits 63 n) rule table refl
+cast_means type.Float64 (Nan n) rule table = refl
+cast_means type.Utf8 (Nan n) rule table = refl
+cast_means type.Boolean (RuleText s n) rule table = refl
+cast_means type.Int32 (RuleText s n) rule table = refl
+cast_means type.Int64 (RuleText s n) rule table = refl
+cast_means type.Float64 (RuleText s n) rule table = refl
+cast_means type.Utf8 (RuleText s n) rule table = refl
+cast_means type.Boolean (TableText s n) rule table = refl
+cast_means type.Int32 (TableText s n) rule table = refl
+cast_means type.Int64 (TableText s n) rule table = refl
+cast_means type.Float64 (TableText s n) rule table = refl
+cast_means type.Utf8 (TableText s n) rule table = refl
 cast_means to Failed rule table = refl
 
 cast_stores : (to : DataType) (v : Value) → Storable v → Storable (cast_value to v)
 unfolding cast_entry cast_value
-cast_stores to Null h = elim to [ type.Boolean ↦ tt | type.Int32 ↦ tt | type.Int64 ↦ tt | type.Float64 ↦ tt | type.Utf8 ↦ tt ]
-cast_stores to (Boolean b) h = elim to [ type.Boolean ↦ tt | type.Int32 ↦ flag_small b (lit< tt) | type.Int64 ↦ flag_small b (lit< tt) | type.Float64 ↦ tt | type.Utf8 ↦ tt ]
-cast_stores to (Int32 n) h =
-    elim to [ type.Boolean ↦ tt | type.Int32 ↦ h | type.Int64 ↦ bits_of_below 63 (signed 31 n) | type.Float64 ↦ float_stores (float_bits (signed 31 n)) (float_bits_below (signed 31 n)) | type.Utf8 ↦ tt ]
-cast_stores to (Int64 n) h =
-    elim to [
-      | type.Boolean ↦ tt
-      | type.Int32 ↦ fitted_stores (Int64 n) (int32 _) (in_range 31 (signed 63 n)) (bits_of_below 31 _)
-      | type.Int64 ↦ h
-      | type.Float64 ↦ float_stores (float_bits (signed 63 n)) (float_bits_below (signed 63 n))
-      | type.Utf8 ↦ tt
-    ]
-cast_stores to (Float64 f) h =
-    elim to [
-      | type.Boolean ↦ tt
-      | type.Int32 ↦ fitted_stores (Float64 f) (int32 _) (whole_fits 31 (to_bits binary64 f)) (bits_of_below 31 _)
-      | type.Int64 ↦ fitted_stores (Float64 f) (int64 _) (whole_fits 63 (to_bits binary64 f)) (bits_of_below 63 _)
-      | type.Float64 ↦ h
-      | type.Utf8 ↦ tt
-    ]
-cast_stores to (Nan n) h =
-    elim to [
-      | type.Boolean ↦ tt
-      | type.Int32 ↦ fitted_stores (Nan n) (int32 _) (whole_fits 31 n) (bits_of_below 31 _)
-      | type.Int64 ↦ fitted_stores (Nan n) (int64 _) (whole_fits 63 n) (bits_of_below 63 _)
-      | type.Float64 ↦ h
-      | type.Utf8 ↦ tt
-    ]
-cast_stores to (RuleText s n) h = elim to [ type.Boolean ↦ tt | type.Int32 ↦ tt | type.Int64 ↦ tt | type.Float64 ↦ tt | type.Utf8 ↦ h ]
-cast_stores to (TableText s n) h = elim to [ type.Boolean ↦ tt | type.Int32 ↦ tt | type.Int64 ↦ tt | type.Float64 ↦ tt | type.Utf8 ↦ h ]
+cast_stores type.Boolean Null h = tt
+cast_stores type.Int32 Null h = tt
+cast_stores type.Int64 Null h = tt
+cast_stores type.Float64 Null h = tt
+cast_stores type.Utf8 Null h = tt
+cast_stores type.Boolean (Boolean b) h = tt
+cast_stores type.Int32 (Boolean b) h = flag_small b (lit< tt)
+cast_stores type.Int64 (Boolean b) h = flag_small b (lit< tt)
+cast_stores type.Float64 (Boolean b) h = tt
+cast_stores type.Utf8 (Boolean b) h = tt
+cast_stores type.Boolean (Int32 n) h = tt
+cast_stores type.Int32 (Int32 n) h = h
+cast_stores type.Int64 (Int32 n) h = bits_of_below 63 (signed 31 n)
+cast_stores type.Float64 (Int32 n) h = float_stores (float_bits (signed 31 n)) (float_bits_below (signed 31 n))
+cast_stores type.Utf8 (Int32 n) h = tt
+cast_stores type.Boolean (Int64 n) h = tt
+cast_stores type.Int32 (Int64 n) h = fitted_stores (Int64 n) (int32 _) (in_range 31 (signed 63 n)) (bits_of_below 31 _)
+cast_stores type.Int64 (Int64 n) h = h
+cast_stores type.Float64 (Int64 n) h = float_stores (float_bits (signed 63 n)) (float_bits_below (signed 63 n))
+cast_stores type.Utf8 (Int64 n) h = tt
+cast_stores type.Boolean (Float64 f) h = tt
+cast_stores type.Int32 (Float64 f) h = fitted_stores (Float64 f) (int32 _) (whole_fits 31 (to_bits binary64 f)) (bits_of_below 31 _)
+cast_stores type.Int64 (Float64 f) h = fitted_stores (Float64 f) (int64 _) (whole_fits 63 (to_bits binary64 f)) (bits_of_below 63 _)
+cast_stores type.Float64 (Float64 f) h = h
+cast_stores type.Utf8 (Float64 f) h = tt
+cast_stores type.Boolean (Nan n) h = tt
+cast_stores type.Int32 (Nan n) h = fitted_stores (Nan n) (int32 _) (whole_fits 31 n) (bits_of_below 31 _)
+cast_stores type.Int64 (Nan n) h = fitted_stores (Nan n) (int64 _) (whole_fits 63 n) (bits_of_below 63 _)
+cast_stores type.Float64 (Nan n) h = h
+cast_stores type.Utf8 (Nan n) h = tt
+cast_stores type.Boolean (RuleText s n) h = tt
+cast_stores type.Int32 (RuleText s n) h = tt
+cast_stores type.Int64 (RuleText s n) h = tt
+cast_stores type.Float64 (RuleText s n) h = tt
+cast_stores type.Utf8 (RuleText s n) h = h
+cast_stores type.Boolean (TableText s n) h = tt
+cast_stores type.Int32 (TableText s n) h = tt
+cast_stores type.Int64 (TableText s n) h = tt
+cast_stores type.Float64 (TableText s n) h = tt
+cast_stores type.Utf8 (TableText s n) h = h
 cast_stores to Failed h = tt
 
 -- a cast gives what the entry's cast is

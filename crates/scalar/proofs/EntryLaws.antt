@@ -28,12 +28,42 @@ same_flag false false p = refl
 -- two entries that agree are one
 agreeing : (a b : Entry) → T (agree a b) → a ≡ b
 unfolding pair_of
-agreeing null b = elim b [ null ↦ λ p. refl | boolean y ↦ absurd | int32 y ↦ absurd | int64 y ↦ absurd | float64 y ↦ absurd | utf8 y ↦ absurd ]
-agreeing (boolean x) b = elim b [ null ↦ absurd | boolean y ↦ λ p. ap boolean (same_flag x y p) | int32 y ↦ absurd | int64 y ↦ absurd | float64 y ↦ absurd | utf8 y ↦ absurd ]
-agreeing (int32 x) b = elim b [ null ↦ absurd | boolean y ↦ absurd | int32 y ↦ λ p. ap int32 (eqb→eq x y p) | int64 y ↦ absurd | float64 y ↦ absurd | utf8 y ↦ absurd ]
-agreeing (int64 x) b = elim b [ null ↦ absurd | boolean y ↦ absurd | int32 y ↦ absurd | int64 y ↦ λ p. ap int64 (eqb→eq x y p) | float64 y ↦ absurd | utf8 y ↦ absurd ]
-agreeing (float64 x) b = elim b [ null ↦ absurd | boolean y ↦ absurd | int32 y ↦ absurd | int64 y ↦ absurd | float64 y ↦ λ p. ap float64 (eqb→eq x y p) | utf8 y ↦ absurd ]
-agreeing (utf8 x) b = elim b [ null ↦ absurd | boolean y ↦ absurd | int32 y ↦ absurd | int64 y ↦ absurd | float64 y ↦ absurd | utf8 y ↦ λ p. ap utf8 (same_bytes_lem x y p) ]
+agreeing null null = λ p. refl
+agreeing null (boolean y) = absurd
+agreeing null (int32 y) = absurd
+agreeing null (int64 y) = absurd
+agreeing null (float64 y) = absurd
+agreeing null (utf8 y) = absurd
+agreeing (boolean x) null = absurd
+agreeing (boolean x) (boolean y) = λ p. ap boolean (same_flag x y p)
+agreeing (boolean x) (int32 y) = absurd
+agreeing (boolean x) (int64 y) = absurd
+agreeing (boolean x) (float64 y) = absurd
+agreeing (boolean x) (utf8 y) = absurd
+agreeing (int32 x) null = absurd
+agreeing (int32 x) (boolean y) = absurd
+agreeing (int32 x) (int32 y) = λ p. ap int32 (eqb→eq x y p)
+agreeing (int32 x) (int64 y) = absurd
+agreeing (int32 x) (float64 y) = absurd
+agreeing (int32 x) (utf8 y) = absurd
+agreeing (int64 x) null = absurd
+agreeing (int64 x) (boolean y) = absurd
+agreeing (int64 x) (int32 y) = absurd
+agreeing (int64 x) (int64 y) = λ p. ap int64 (eqb→eq x y p)
+agreeing (int64 x) (float64 y) = absurd
+agreeing (int64 x) (utf8 y) = absurd
+agreeing (float64 x) null = absurd
+agreeing (float64 x) (boolean y) = absurd
+agreeing (float64 x) (int32 y) = absurd
+agreeing (float64 x) (int64 y) = absurd
+agreeing (float64 x) (float64 y) = λ p. ap float64 (eqb→eq x y p)
+agreeing (float64 x) (utf8 y) = absurd
+agreeing (utf8 x) null = absurd
+agreeing (utf8 x) (boolean y) = absurd
+agreeing (utf8 x) (int32 y) = absurd
+agreeing (utf8 x) (int64 y) = absurd
+agreeing (utf8 x) (float64 y) = absurd
+agreeing (utf8 x) (utf8 y) = λ p. ap utf8 (same_bytes_lem x y p)
 
 pub agree_eq : (a b : Entry) → agree a b ≡ true → a ≡ b
 agree_eq a b p = agreeing a b (subst T (sym p) tt)

@@ -31,15 +31,27 @@ never p = absurd (false≢true p)
 -- and no other does: by the value, whose type is known, and the target
 null_fails : (from to : DataType) → cast_entry to null ≡ unfit → FailsToFit from to null
 unfolding cast_entry
-null_fails from to = elim to [ Boolean ↦ entry_fits null | Int32 ↦ entry_fits null | Int64 ↦ entry_fits null | Float64 ↦ entry_fits null | Utf8 ↦ entry_fits null ]
+null_fails from Boolean = entry_fits null
+null_fails from Int32 = entry_fits null
+null_fails from Int64 = entry_fits null
+null_fails from Float64 = entry_fits null
+null_fails from Utf8 = entry_fits null
 
 boolean_fails : (to : DataType) (b : Bool) → listed Boolean to ≡ true → cast_entry to (boolean b) ≡ unfit → FailsToFit Boolean to (boolean b)
 unfolding cast_entry
-boolean_fails to b = elim to [ Boolean ↦ λ l. entry_fits _ | Int32 ↦ λ l. entry_fits _ | Int64 ↦ λ l. entry_fits _ | Float64 ↦ never | Utf8 ↦ never ]
+boolean_fails Boolean b = λ l. entry_fits _
+boolean_fails Int32 b = λ l. entry_fits _
+boolean_fails Int64 b = λ l. entry_fits _
+boolean_fails Float64 b = never
+boolean_fails Utf8 b = never
 
 int32_fails : (to : DataType) (n : ℕ) → listed Int32 to ≡ true → cast_entry to (int32 n) ≡ unfit → FailsToFit Int32 to (int32 n)
 unfolding cast_entry
-int32_fails to n = elim to [ Boolean ↦ λ l. entry_fits _ | Int32 ↦ λ l. entry_fits _ | Int64 ↦ λ l. entry_fits _ | Float64 ↦ λ l. entry_fits _ | Utf8 ↦ never ]
+int32_fails Boolean n = λ l. entry_fits _
+int32_fails Int32 n = λ l. entry_fits _
+int32_fails Int64 n = λ l. entry_fits _
+int32_fails Float64 n = λ l. entry_fits _
+int32_fails Utf8 n = never
 
 int64_fails : (to : DataType) (n : ℕ) → listed Int64 to ≡ true → cast_entry to (int64 n) ≡ unfit → FailsToFit Int64 to (int64 n)
 unfolding cast_entry
@@ -59,7 +71,11 @@ float64_fails Utf8 n l p = never l
 
 utf8_fails : (to : DataType) (t : List ℕ) → listed Utf8 to ≡ true → cast_entry to (utf8 t) ≡ unfit → FailsToFit Utf8 to (utf8 t)
 unfolding cast_entry
-utf8_fails to t = elim to [ Boolean ↦ never | Int32 ↦ never | Int64 ↦ never | Float64 ↦ never | Utf8 ↦ λ l. entry_fits _ ]
+utf8_fails Boolean t = never
+utf8_fails Int32 t = never
+utf8_fails Int64 t = never
+utf8_fails Float64 t = never
+utf8_fails Utf8 t = λ l. entry_fits _
 
 -- an entry that is known from one type on
 at_type : {from own to : DataType} {v : Entry} → from ≡ own → (listed own to ≡ true → cast_entry to v ≡ unfit → FailsToFit own to v) → listed from to ≡ true → cast_entry to v ≡ unfit
@@ -80,8 +96,16 @@ cast_fails_exactly from to v l p = (go v p, fails_given from to v)
 -- each of the three pairs has a value that doesn't fit
 some_fails : (from to : DataType) → can_fail_to_fit from to ≡ true → (v : Entry) × (of_type from v ≡ true) × (cast_entry to v ≡ unfit)
 unfolding cast_entry of_type
-some_fails Int64 to = elim to [ Int32 ↦ λ p. (int64 0x8000_0000, refl, refl) | Boolean ↦ never | Int64 ↦ never | Float64 ↦ never | Utf8 ↦ never ]
-some_fails Float64 to = elim to [ Int32 ↦ λ p. (float64 0x7ff8_0000_0000_0000, refl, refl) | Int64 ↦ λ p. (float64 0x7ff8_0000_0000_0000, refl, refl) | Boolean ↦ never | Float64 ↦ never | Utf8 ↦ never ]
+some_fails Int64 Int32 = λ p. (int64 0x8000_0000, refl, refl)
+some_fails Int64 Boolean = never
+some_fails Int64 Int64 = never
+some_fails Int64 Float64 = never
+some_fails Int64 Utf8 = never
+some_fails Float64 Int32 = λ p. (float64 0x7ff8_0000_0000_0000, refl, refl)
+some_fails Float64 Int64 = λ p. (float64 0x7ff8_0000_0000_0000, refl, refl)
+some_fails Float64 Boolean = never
+some_fails Float64 Float64 = never
+some_fails Float64 Utf8 = never
 some_fails Boolean to = never
 some_fails Int32 to = never
 some_fails Utf8 to = never

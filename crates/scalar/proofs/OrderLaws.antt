@@ -112,18 +112,42 @@ flags_order false false = refl
 -- the order of two entries is that of their keys and their texts
 entries_order : (a b : Entry) → Within a → Within b → order_of_pair (pair_of a b) ≡ key_order (entry_key a) (entry_key b) (text_order (entry_text a) (entry_text b))
 unfolding pair_of
-entries_order null b wa =
-    elim b [ null ↦ λ wb. refl | boolean y ↦ λ wb. refl | int32 y ↦ λ wb. refl | int64 y ↦ λ wb. refl | float64 y ↦ λ wb. refl | utf8 y ↦ λ wb. refl ]
-entries_order (boolean x) b wa =
-    elim b [ null ↦ λ wb. refl | boolean y ↦ λ wb. flags_order x y | int32 y ↦ λ wb. refl | int64 y ↦ λ wb. refl | float64 y ↦ λ wb. refl | utf8 y ↦ λ wb. refl ]
-entries_order (int32 x) b wa =
-    elim b [ null ↦ λ wb. refl | boolean y ↦ λ wb. refl | int32 y ↦ λ wb. sym (signed_order 31 x y wa wb) | int64 y ↦ λ wb. refl | float64 y ↦ λ wb. refl | utf8 y ↦ λ wb. refl ]
-entries_order (int64 x) b wa =
-    elim b [ null ↦ λ wb. refl | boolean y ↦ λ wb. refl | int32 y ↦ λ wb. refl | int64 y ↦ λ wb. sym (signed_order 63 x y wa wb) | float64 y ↦ λ wb. refl | utf8 y ↦ λ wb. refl ]
-entries_order (float64 x) b wa =
-    elim b [ null ↦ λ wb. refl | boolean y ↦ λ wb. refl | int32 y ↦ λ wb. refl | int64 y ↦ λ wb. refl | float64 y ↦ λ wb. sym (total_order 63 x y wa wb) | utf8 y ↦ λ wb. refl ]
-entries_order (utf8 x) b wa =
-    elim b [ null ↦ λ wb. refl | boolean y ↦ λ wb. refl | int32 y ↦ λ wb. refl | int64 y ↦ λ wb. refl | float64 y ↦ λ wb. refl | utf8 y ↦ λ wb. refl ]
+entries_order null null wa = λ wb. refl
+entries_order null (boolean y) wa = λ wb. refl
+entries_order null (int32 y) wa = λ wb. refl
+entries_order null (int64 y) wa = λ wb. refl
+entries_order null (float64 y) wa = λ wb. refl
+entries_order null (utf8 y) wa = λ wb. refl
+entries_order (boolean x) null wa = λ wb. refl
+entries_order (boolean x) (boolean y) wa = λ wb. flags_order x y
+entries_order (boolean x) (int32 y) wa = λ wb. refl
+entries_order (boolean x) (int64 y) wa = λ wb. refl
+entries_order (boolean x) (float64 y) wa = λ wb. refl
+entries_order (boolean x) (utf8 y) wa = λ wb. refl
+entries_order (int32 x) null wa = λ wb. refl
+entries_order (int32 x) (boolean y) wa = λ wb. refl
+entries_order (int32 x) (int32 y) wa = λ wb. sym (signed_order 31 x y wa wb)
+entries_order (int32 x) (int64 y) wa = λ wb. refl
+entries_order (int32 x) (float64 y) wa = λ wb. refl
+entries_order (int32 x) (utf8 y) wa = λ wb. refl
+entries_order (int64 x) null wa = λ wb. refl
+entries_order (int64 x) (boolean y) wa = λ wb. refl
+entries_order (int64 x) (int32 y) wa = λ wb. refl
+entries_order (int64 x) (int64 y) wa = λ wb. sym (signed_order 63 x y wa wb)
+entries_order (int64 x) (float64 y) wa = λ wb. refl
+entries_order (int64 x) (utf8 y) wa = λ wb. refl
+entries_order (float64 x) null wa = λ wb. refl
+entries_order (float64 x) (boolean y) wa = λ wb. refl
+entries_order (float64 x) (int32 y) wa = λ wb. refl
+entries_order (float64 x) (int64 y) wa = λ wb. refl
+entries_order (float64 x) (float64 y) wa = λ wb. sym (total_order 63 x y wa wb)
+entries_order (float64 x) (utf8 y) wa = λ wb. refl
+entries_order (utf8 x) null wa = λ wb. refl
+entries_order (utf8 x) (boolean y) wa = λ wb. refl
+entries_order (utf8 x) (int32 y) wa = λ wb. refl
+entries_order (utf8 x) (int64 y) wa = λ wb. refl
+entries_order (utf8 x) (float64 y) wa = λ wb. refl
+entries_order (utf8 x) (utf8 y) wa = λ wb. refl
 
 -- two that go by numbers of one kind go as the numbers do
 pub numbers_order : (a b : Entry) {kind x y : ℕ} → Numbered kind x a → Numbered kind y b → order_of_pair (pair_of a b) ≡ number_order x y
@@ -149,7 +173,12 @@ WithinOut unfit = Unit {0}
 -- the order of two outcomes is that of their keys and their texts
 outcomes_order : (o p : Outcome) → WithinOut o → WithinOut p → order_of o p ≡ key_order (outcome_key o) (outcome_key p) (text_order (outcome_text o) (outcome_text p))
 outcomes_order (entry a) (entry b) wa wb = entries_order a b wa wb
-outcomes_order (entry a) unfit wa wb = elim a [ null ↦ refl | boolean x ↦ refl | int32 x ↦ refl | int64 x ↦ refl | float64 x ↦ refl | utf8 x ↦ refl ]
+outcomes_order (entry null) unfit wa wb = refl
+outcomes_order (entry (boolean x)) unfit wa wb = refl
+outcomes_order (entry (int32 x)) unfit wa wb = refl
+outcomes_order (entry (int64 x)) unfit wa wb = refl
+outcomes_order (entry (float64 x)) unfit wa wb = refl
+outcomes_order (entry (utf8 x)) unfit wa wb = refl
 outcomes_order unfit (entry b) wa wb = refl
 outcomes_order unfit unfit wa wb = refl
 
@@ -229,9 +258,15 @@ no_text_in Failed h rule table = refl
 
 -- the order of the texts is asked for only where both are texts
 apart : (k l : Key) (x y : Order) → (is_text k && is_text l) ≡ false → key_order k l x ≡ key_order k l y
-apart Keys.Null l x y e = elim l [ Keys.Null ↦ refl | Keys.Failed ↦ refl | Keys.Number a b ↦ refl | Keys.Text ↦ refl ]
+apart Keys.Null Keys.Null x y e = refl
+apart Keys.Null Keys.Failed x y e = refl
+apart Keys.Null (Keys.Number a b) x y e = refl
+apart Keys.Null Keys.Text x y e = refl
 apart Keys.Failed l x y e = refl
-apart (Keys.Number k n) l x y e = elim l [ Keys.Null ↦ refl | Keys.Failed ↦ refl | Keys.Number a b ↦ refl | Keys.Text ↦ refl ]
+apart (Keys.Number k n) Keys.Null x y e = refl
+apart (Keys.Number k n) Keys.Failed x y e = refl
+apart (Keys.Number k n) (Keys.Number a b) x y e = refl
+apart (Keys.Number k n) Keys.Text x y e = refl
 apart Keys.Text Keys.Null x y e = refl
 apart Keys.Text Keys.Failed x y e = refl
 apart Keys.Text (Keys.Number a b) x y e = refl

@@ -83,23 +83,43 @@ never p = absurd (false≢true p)
 -- a value is of one type alone
 pub boolean_type : (t : DataType) (b : Bool) → of_type t (boolean b) ≡ true → t ≡ Boolean
 unfolding of_type
-boolean_type t b = elim t [ Boolean ↦ λ p. refl | Int32 ↦ never | Int64 ↦ never | Float64 ↦ never | Utf8 ↦ never ]
+boolean_type Boolean b = λ p. refl
+boolean_type Int32 b = never
+boolean_type Int64 b = never
+boolean_type Float64 b = never
+boolean_type Utf8 b = never
 
 pub int32_type : (t : DataType) (n : ℕ) → of_type t (int32 n) ≡ true → t ≡ Int32
 unfolding of_type
-int32_type t n = elim t [ Boolean ↦ never | Int32 ↦ λ p. refl | Int64 ↦ never | Float64 ↦ never | Utf8 ↦ never ]
+int32_type Boolean n = never
+int32_type Int32 n = λ p. refl
+int32_type Int64 n = never
+int32_type Float64 n = never
+int32_type Utf8 n = never
 
 pub int64_type : (t : DataType) (n : ℕ) → of_type t (int64 n) ≡ true → t ≡ Int64
 unfolding of_type
-int64_type t n = elim t [ Boolean ↦ never | Int32 ↦ never | Int64 ↦ λ p. refl | Float64 ↦ never | Utf8 ↦ never ]
+int64_type Boolean n = never
+int64_type Int32 n = never
+int64_type Int64 n = λ p. refl
+int64_type Float64 n = never
+int64_type Utf8 n = never
 
 pub float64_type : (t : DataType) (n : ℕ) → of_type t (float64 n) ≡ true → t ≡ Float64
 unfolding of_type
-float64_type t n = elim t [ Boolean ↦ never | Int32 ↦ never | Int64 ↦ never | Float64 ↦ λ p. refl | Utf8 ↦ never ]
+float64_type Boolean n = never
+float64_type Int32 n = never
+float64_type Int64 n = never
+float64_type Float64 n = λ p. refl
+float64_type Utf8 n = never
 
 pub utf8_type : (t : DataType) (s : List ℕ) → of_type t (utf8 s) ≡ true → t ≡ Utf8
 unfolding of_type
-utf8_type t s = elim t [ Boolean ↦ never | Int32 ↦ never | Int64 ↦ never | Float64 ↦ never | Utf8 ↦ λ p. refl ]
+utf8_type Boolean s = never
+utf8_type Int32 s = never
+utf8_type Int64 s = never
+utf8_type Float64 s = never
+utf8_type Utf8 s = λ p. refl
 
 -- not gives a Boolean
 pub not_typed : (v : Entry) → of_type Boolean (not_entry v) ≡ true
@@ -183,7 +203,14 @@ unfolding of_type
 equal_typed a b = go (pair_of a b)
   where
     go : (p : Pair) → of_type Boolean (equal_pair p) ≡ true
-    go p = elim p [ both_null ↦ refl | one_null ↦ refl | unlike ↦ refl | booleans x y ↦ refl | int32s x y ↦ refl | int64s x y ↦ refl | float64s x y ↦ refl | texts x y ↦ refl ]
+    go both_null = refl
+    go one_null = refl
+    go unlike = refl
+    go (booleans x y) = refl
+    go (int32s x y) = refl
+    go (int64s x y) = refl
+    go (float64s x y) = refl
+    go (texts x y) = refl
 
 -- less gives a Boolean
 pub less_typed : (a b : Entry) → of_type Boolean (less_entry a b) ≡ true
@@ -191,7 +218,14 @@ unfolding of_type
 less_typed a b = go (pair_of a b)
   where
     go : (p : Pair) → of_type Boolean (less_pair p) ≡ true
-    go p = elim p [ both_null ↦ refl | one_null ↦ refl | unlike ↦ refl | booleans x y ↦ refl | int32s x y ↦ refl | int64s x y ↦ refl | float64s x y ↦ refl | texts x y ↦ refl ]
+    go both_null = refl
+    go one_null = refl
+    go unlike = refl
+    go (booleans x y) = refl
+    go (int32s x y) = refl
+    go (int64s x y) = refl
+    go (float64s x y) = refl
+    go (texts x y) = refl
 
 -- ---- the type of a number, in a `match`
 

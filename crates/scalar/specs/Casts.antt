@@ -3,7 +3,7 @@ use Rattle.std.specs.Prelude.{ℕ, Bool, cond, ◌&&◌, ◌==◌}
 use Rattle.scalar.specs.declared.types.DataType.{DataType}
 use Rattle.scalar.specs.declared.types.DataType.TheVariants as type
 use Rattle.scalar.specs.declared.value.Value.{Value}
-use Rattle.scalar.specs.declared.value.Value.TheVariants.{Null, Float64, Failed}
+use Rattle.scalar.specs.declared.value.Value.TheVariants.{Null, Failed}
 use Rattle.scalar.specs.Types.{same_type}
 use Rattle.scalar.specs.Entry.{float64}
 use Rattle.scalar.specs.Cast.{cast_entry}

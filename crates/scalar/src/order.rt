@@ -9,7 +9,7 @@ use crate::text::{place_text, same_bytes, text_less};
 use crate::value::{Value, float_bits};
 
 // How two values stand to each other.
-#[derive(Drop)]
+#[derive(Clone, Copy)]
 pub enum Order {
     Less,
     Equal,
@@ -20,7 +20,7 @@ pub enum Order {
 }
 
 // A value as it is compared: by a number of 64 bits among those of its type, or as text.
-#[derive(Drop)]
+#[derive(Clone, Copy)]
 pub enum Key {
     Null,
     Failed,

@@ -2,7 +2,7 @@
 ghost use Rattle.std.specs.Prelude.{◌≡◌};
 ghost use Rattle.scalar.specs.Types.{is_integer, type_numbered, type_answer, mark_number};
 
-#[derive(Drop)]
+#[derive(Clone, Copy)]
 pub enum DataType {
     Boolean,
     Int32,
@@ -12,7 +12,7 @@ pub enum DataType {
 }
 
 // The type of a number, if it has one.
-#[derive(Drop)]
+#[derive(Clone, Copy)]
 pub enum TypeAnswer {
     Known(DataType),
     Unknown,

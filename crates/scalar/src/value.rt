@@ -3,7 +3,7 @@ ghost use Rattle.std.specs.Prelude.{◌≡◌};
 ghost use Rattle.scalar.specs.Value.{float_value, kind_of, payload_of, value_of, place_payload};
 
 // Integers are two's-complement bits, a NaN is its bits, and text is a place, start and size, in the rule's or the table's bytes.
-#[derive(Drop)]
+#[derive(Clone, Copy)]
 pub enum Value {
     Null,
     Boolean(bool),

@@ -3,7 +3,7 @@ use scalar::types::DataType;
 
 // A column: its type, its nullable mark, whether its null count is written, how many of its rows are null, and where its validity, its offsets
 // and its values start and end.
-#[derive(Drop)]
+#[derive(Clone, Copy)]
 pub struct ColumnPlace {
     pub data_type: DataType,
     pub nullable: bool,
@@ -18,7 +18,7 @@ pub struct ColumnPlace {
 }
 
 // A table: its rows, and the first `count` of `columns`.
-#[derive(Drop)]
+#[derive(Clone, Copy)]
 pub struct Table {
     pub rows: usize,
     pub count: usize,

@@ -10,7 +10,6 @@ use Rattle.layout.specs.Bytes.{number_bytes, bitmap_length}
 use Rattle.layout.specs.Field.{field_bytes}
 use Rattle.layout.proofs.BytesLaws.{length_number_bytes}
 use Rattle.scalar.specs.declared.types.DataType.{DataType}
-use Rattle.scalar.specs.declared.types.DataType.TheVariants as DataType
 use Rattle.scalar.specs.declared.value.Value.{Value}
 use Rattle.scalar.specs.Types.{type_number, mark_number}
 use Rattle.scalar.specs.Value.{kind_of}

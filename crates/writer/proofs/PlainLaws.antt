@@ -15,7 +15,6 @@ use Rattle.layout.specs.Bytes.{Bytes, number, number_at, number_bytes}
 use Rattle.layout.specs.Field.{field_bytes}
 use Rattle.layout.proofs.BytesLaws.{length_number_bytes, number_below, bytes_take, bytes_drop}
 use Rattle.scalar.specs.declared.types.DataType.{DataType}
-use Rattle.scalar.specs.declared.types.DataType.TheVariants as DataType
 use Rattle.scalar.specs.declared.value.Value.{Value}
 use Rattle.scalar.specs.declared.value.Value.TheVariants.{Float64, Nan}
 use Rattle.scalar.specs.Types.{type_number, mark_number}

@@ -12,7 +12,6 @@ use Rattle.layout.specs.Result.{Result, refused, ok, ◌>>=◌}
 use Rattle.layout.specs.Bytes.{number_bytes, bitmap_length}
 use Rattle.layout.specs.Field.{field_bytes}
 use Rattle.scalar.specs.declared.types.DataType.{DataType}
-use Rattle.scalar.specs.declared.types.DataType.TheVariants as DataType
 use Rattle.scalar.specs.declared.value.Value.{Value}
 use Rattle.scalar.specs.declared.value.Value.TheVariants.{Null, Boolean, Int32, Int64, Float64, Nan, RuleText, TableText, Failed}
 use Rattle.scalar.specs.Entry.{Entry, Outcome, entry, unfit}

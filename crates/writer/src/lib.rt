@@ -12,14 +12,14 @@ pub(crate) mod texts;
 pub mod write;
 
 // What an evaluation says: the length of the answer at the front of the output, or a refusal number.
-#[derive(Drop)]
+#[derive(Clone, Copy)]
 pub enum RunAnswer {
     Answered(usize),
     Refused(u8),
 }
 
 // What writing rows says: what a run with them says, or that they are no column of the type.
-#[derive(Drop)]
+#[derive(Clone, Copy)]
 pub enum WriteAnswer {
     Run(RunAnswer),
     NoColumn,

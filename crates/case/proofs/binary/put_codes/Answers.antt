@@ -1,0 +1,27 @@
+use Rattle.std.proofs.Common.{◌≡◌, ℕ, ◌-◌, get_or, arith, rules}
+use Rattle.scalar.specs.declared.value.Value.{Value}
+use Rattle.case.specs.Taking.{code_value}
+use Rattle.case.proofs.RowsLaws.{FilledSoFar, none_yet, ends, row_in, row_fits, next}
+use Rattle.case.proofs.CodeLaws.{code_stores}
+use Rattle.case.proofs.binary.put_codes.Goals as goal
+
+pub loop-i-init : goal.loop-i-init
+loop-i-init c = none_yet
+
+pub row_at-r-requires : goal.row_at-r-requires
+row_at-r-requires c = row_in c.loop-i.invariant c.requires.0 c.loop-i-test.true
+
+pub bounds-codes-r : goal.bounds-codes-r
+bounds-codes-r c = omega (arith, (row_fits c.loop-i.invariant c.requires.0 c.loop-i-test.true c.row_at-r.ensures).0, c.requires.1)
+
+pub put_slot-requires : goal.put_slot-requires
+put_slot-requires c = record { row_bound = row_fits c.loop-i.invariant c.requires.0 c.loop-i-test.true c.row_at-r.ensures; storable = code_stores (get_or c.args.codes.now c.row_at-r.result 0) c.code_value.ensures }
+
+pub loop-i-preserved : goal.loop-i-preserved
+loop-i-preserved c = next c.loop-i.invariant c.requires.0 c.loop-i-test.true c.row_at-r.ensures c.put_slot.ensures c.code_value.ensures
+
+pub shape_of-work : goal.shape_of-work
+shape_of-work c = c.loop-i.invariant.done.long
+
+pub returns : goal.returns
+returns c = ends c.loop-i.invariant (omega arith)

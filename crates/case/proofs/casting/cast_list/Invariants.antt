@@ -1,0 +1,14 @@
+-- `cast_list` puts the casts in the slots of the rows of a list. The loop's invariant: so far it is there.
+use Rattle.std.proofs.Common.{ℕ, ◌-◌, ◌∙◌, subst, arith}
+use Rattle.scalar.specs.declared.value.Value.{Value}
+use Rattle.scalar.specs.Value.{Gives}
+use Rattle.case.specs.Frame.{slot_at, operation_of}
+use Rattle.case.specs.Casting.{cast_to}
+use Rattle.case.proofs.RowsLaws.{FilledFromSoFar, none_yet, ends, row_in_from, row_fits_from, slot_fresh_from, next_from}
+use Rattle.case.proofs.casting.cast_list.Given as goal
+
+abbrev pub invariant-loop-i : goal.invariant-loop-i
+invariant-loop-i l = FilledFromSoFar l.at (λ (r : ℕ) (x : Value). Gives (operation_of (cast_to l.tried l.to)) (slot_at l.initial.work r) x) l.initial.work l.n l.i l.work
+
+abbrev pub decreases-loop-i : goal.decreases-loop-i
+decreases-loop-i l = l.n - l.i

@@ -1,0 +1,14 @@
+-- ELSE's index of a null, or the index of the text.
+use Rattle.std.proofs.Common.{refl, arith, rules}
+use borrow.Author.Tests.{not-true, not-false}
+use Rattle.case.proofs.LookUpColumnLaws.{text_null, text_value, text_below}
+use Rattle.case.proofs.column_lookup.text_row.Goals as goal
+
+pub returns-then-not-valid_at : goal.returns-then-not-valid_at
+returns-then-not-valid_at c = text_null c.valid_at.ensures c.if-not-valid_at.true refl
+
+pub overflow_cast-result-2 : goal.overflow_cast-result-2
+overflow_cast-result-2 c = omega (arith, text_below c.args.rule.now c.args.table.now c.row_text-text.result.now c.requires.0.arrays, c.text_index-found.ensures, c.requires.0.small)
+
+pub returns : goal.returns
+returns c = text_value c.valid_at.ensures c.if-not-valid_at.false c.row_text-text.ensures c.text_index-found.ensures refl

@@ -1,0 +1,8 @@
+use Rattle.std.proofs.Common.{◌-◌, sym, refl, ◌∙◌, arith}
+use Rattle.scalar.specs.declared.types.DataType.TheVariants.{Int32}
+use Rattle.case.proofs.KeyLaws.{key_int32, turned_wraps, keys_none, keys_more, keys_all}
+use Rattle.case.specs.Steps.{KeysAt}
+use Rattle.case.proofs.keys.int32_keys.Goals as goal
+
+pub loop-i-preserved : goal.loop-i-preserved
+loop-i-preserved c = keys_more c.loop-i.invariant c.loop-i-test.true c.requires.1 (key_int32 refl c.word.ensures.0 c.word.ensures.1 (turned_wraps 31 c.word.result c.word.ensures.1))

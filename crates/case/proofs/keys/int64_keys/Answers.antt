@@ -1,0 +1,8 @@
+use Rattle.std.proofs.Common.{◌-◌, sym, refl, ◌∙◌, arith, rules}
+use Rattle.scalar.specs.declared.types.DataType.TheVariants.{Int64}
+use Rattle.case.proofs.KeyLaws.{key_int64, turned_wraps, keys_none, keys_more, keys_all}
+use Rattle.case.specs.Steps.{KeysAt}
+use Rattle.case.proofs.keys.int64_keys.Goals as goal
+
+pub loop-i-preserved : goal.loop-i-preserved
+loop-i-preserved c = keys_more c.loop-i.invariant c.loop-i-test.true c.requires.1 (key_int64 refl c.long.ensures c.long.type_inv (c.wrapping_add_u64.ensures.value ∙ turned_wraps 63 c.long.result c.long.type_inv))

@@ -1,0 +1,8 @@
+-- `nested_results` reads the literals behind the class, where there is room, and says whether all are of the kind.
+use Rattle.std.proofs.Common.{sym, ◌∙◌, arith, rules}
+use Rattle.case.proofs.NestedLaws.{grown_none, nested_none, nested_give}
+use Rattle.rule.proofs.TypeOfLaws.{type_gives}
+use Rattle.case.proofs.nested.nested_results.Goals as goal
+
+pub returns-then-all_of_kind : goal.returns-then-all_of_kind
+returns-then-all_of_kind c = nested_give (omega (arith, c.if-rule-start.false)) c.byte_at-count.ensures (omega (arith, c.if-from-count-gt-CLASSES_MOST.false)) (type_gives c.type_of.ensures) c.read_block.ensures.0 c.read_block.ensures.1 c.all_of_kind.ensures c.if-all_of_kind.true

@@ -1,0 +1,10 @@
+-- `all_rows` puts each row at its own place. The loop's invariant: so far they are there, and nothing behind the list is changed.
+use Rattle.std.proofs.Common.{◌-◌, arith}
+use Rattle.case.proofs.RowsLaws.{AllRowsSoFar, all_none, all_in, all_more, all_ends}
+use Rattle.case.proofs.rows.all_rows.Given as goal
+
+abbrev pub invariant-loop-i : goal.invariant-loop-i
+invariant-loop-i l = AllRowsSoFar l.n l.i l.initial.work l.work
+
+abbrev pub decreases-loop-i : goal.decreases-loop-i
+decreases-loop-i l = l.n - l.i

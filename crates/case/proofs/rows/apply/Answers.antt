@@ -1,0 +1,16 @@
+-- `apply` by the operation: a cast, a try-cast, or none.
+use Rattle.std.proofs.Common.{rules}
+use Rattle.case.proofs.CastingLaws.{no_cast, filled_by}
+use Rattle.case.proofs.rows.apply.Goals as goal
+
+pub apply_castless-requires : goal.apply_castless-requires
+apply_castless-requires c = (c.requires, no_cast c.args.op (search rules))
+
+pub returns-in-Cast : goal.returns-in-Cast
+returns-in-Cast c = filled_by c.in-Cast.is c.cast_rows.ensures
+
+pub returns-in-TryCast : goal.returns-in-TryCast
+returns-in-TryCast c = filled_by c.in-TryCast.is c.cast_rows-in-TryCast.ensures
+
+pub returns-in_default : goal.returns-in_default
+returns-in_default c = c.apply_castless.ensures

@@ -1,0 +1,10 @@
+-- `copy_list` copies a list byte by byte. The loop's invariant: so far the bytes are the same, and those before are unchanged.
+use Rattle.std.proofs.Common.{◌-◌, ◌*◌, arith}
+use Rattle.case.proofs.RowsLaws.{CopiedSoFar, copied_none, copied_more, copied_all}
+use Rattle.case.proofs.rows.copy_list.Given as goal
+
+abbrev pub invariant-loop-i : goal.invariant-loop-i
+invariant-loop-i l = CopiedSoFar l.initial.work l.n l.from l.to l.i l.work
+
+abbrev pub decreases-loop-i : goal.decreases-loop-i
+decreases-loop-i l = 2 * l.n - l.i

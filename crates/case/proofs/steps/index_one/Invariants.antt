@@ -1,0 +1,11 @@
+-- `index_one` gives each row its index. The loop's invariant: the first rows have theirs.
+use Rattle.std.proofs.Common.{◌≡◌, ℕ, ◌-◌, sym, ◌∙◌, arith}
+use Rattle.case.specs.Steps.{one_span, RowsIndexed}
+use Rattle.case.proofs.StepLaws.{indices_none, indices_room, indices_more, indices_all}
+use Rattle.case.proofs.steps.index_one.Given as goal
+
+abbrev pub invariant-loop-i : goal.invariant-loop-i
+invariant-loop-i l = RowsIndexed (λ (r c : ℕ). c ≡ one_span l.numbers l.validity l.low l.high r) l.work l.at l.i l.indices
+
+abbrev pub decreases-loop-i : goal.decreases-loop-i
+decreases-loop-i l = l.n - l.i

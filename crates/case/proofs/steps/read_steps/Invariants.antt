@@ -1,0 +1,11 @@
+-- `read_steps` reads WHEN by WHEN. The loop's invariant: whatever branches stand there, those read are steps, and the others stand at the place.
+use Rattle.std.proofs.Common.{◌-◌, sym, ◌∙◌, arith, rules}
+use Rattle.case.proofs.StepLaws.{StepsSoFar, steps_none, steps_more, steps_refused, steps_all}
+use Rattle.rule.proofs.WalkLaws.{end_gives}
+use Rattle.case.proofs.steps.read_steps.Given as goal
+
+abbrev pub invariant-loop-k : goal.invariant-loop-k
+invariant-loop-k l = StepsSoFar l.rule l.at l.count l.column l.kind l.place l.k l.tags l.keys
+
+abbrev pub decreases-loop-k : goal.decreases-loop-k
+decreases-loop-k l = l.count - l.k

@@ -1,0 +1,12 @@
+-- `copy_slots` puts the next frame's values in the slots of its listed rows. The loop's invariant: so far it is there.
+use Rattle.std.proofs.Common.{◌≡◌, ℕ, ◌-◌, arith}
+use Rattle.case.proofs.RowsLaws.{FilledFromSoFar, none_yet, ends, row_in_from, row_fits_from, next_fresh_from, next_from}
+use Rattle.case.specs.Frame.{next_slot}
+use Rattle.scalar.specs.declared.value.Value.{Value}
+use Rattle.case.proofs.taking.copy_slots.Given as goal
+
+abbrev pub invariant-loop-i : goal.invariant-loop-i
+invariant-loop-i l = FilledFromSoFar 6656 (λ (r : ℕ) (v : Value). v ≡ next_slot l.initial.work r) l.initial.work l.m l.i l.work
+
+abbrev pub decreases-loop-i : goal.decreases-loop-i
+decreases-loop-i l = l.m - l.i

@@ -1,0 +1,6 @@
+-- `write_hex` writes `t`, then the text.
+use Rattle.listing.proofs.WriteLaws.{wrote_then}
+use Rattle.listing.proofs.entry.write_hex.Goals as goal
+
+pub returns : goal.returns
+returns c = wrote_then c.write_byte-p.ensures c.write_text.ensures

@@ -1,0 +1,78 @@
+-- The cycle of calls that works out a node without reading a column. The measure is eight times the depth that is left, and how far a call is
+-- from the next node. The loop's invariant: the branches that are left stand at the place and give what all give.
+use mathlib.Core.Path.{refl, sym, ◌∙◌}
+use native.Mathlib.Omega.{arith}
+use Rattle.scalar.proofs.CompareLaws.{equal_both}
+use Rattle.scalar.proofs.OperationLaws.{try_cast_gives}
+use Rattle.rule.proofs.ConstantNode.{within_column, within_literal, within_case, within_one, within_two, constant_same, constant_other, constant_none, within_behind}
+use Rattle.rule.proofs.ConstantCase.{base_none, base_some, else_none, else_some, with_failed, with_null, with_value, branches_next, branches_failed, branches_then, branches_end, case_gives, case_behind}
+use Rattle.rule.proofs.LiteralLaws.{literal_gives}
+use Rattle.rule.proofs.WalkLaws.{behind_gives, children_gives, end_gives}
+use Rattle.rule.proofs.TypeOfLaws.{type_gives}
+use Rattle.rule.proofs.constant.+constant.Goals as goal
+
+pub constant-returns-then-depth-eq0 : goal.constant-returns-then-depth-eq0
+constant-returns-then-depth-eq0 t c = constant_none (omega arith)
+
+pub constant-returns-then-same : goal.constant-returns-then-same
+constant-returns-then-same t c = constant_same c.part_of.ensures c.same_bytes-same.ensures c.if-same.true
+
+pub constant-returns : goal.constant-returns
+constant-returns t c = constant_other c.part_of.ensures c.same_bytes-same.ensures c.if-same.false (omega arith) c.constant_node.ensures
+
+pub constant_base-returns-then-at-end : goal.constant_base-returns-then-at-end
+constant_base-returns-then-at-end t c = base_none c.if-at-end.true
+
+pub constant_base-returns : goal.constant_base-returns
+constant_base-returns t c = base_some c.if-at-end.false c.constant.ensures
+
+pub constant_branches-returns-then-kind-eq7 : goal.constant_branches-returns-then-kind-eq7
+constant_branches-returns-then-kind-eq7 t c = branches_failed c.loop-left.invariant c.loop-left-test.true (end_gives c.field_end-then.ensures) (end_gives c.field_end-next.ensures) c.constant-when.ensures (equal_both c.equal-test.ensures) (sym c.kind.ensures ∙ c.if-kind-eq7.true)
+
+pub constant_branches-returns-then-passed : goal.constant_branches-returns-then-passed
+constant_branches-returns-then-passed t c = branches_then c.loop-left.invariant c.loop-left-test.true (end_gives c.field_end-then.ensures) (end_gives c.field_end-next.ensures) c.constant-when.ensures (equal_both c.equal-test.ensures) c.may_pass-passed.ensures c.if-passed.true (λ p. c.if-kind-eq7.false (c.kind.ensures ∙ p)) c.constant.ensures
+
+pub constant_branches-loop-left-preserved : goal.constant_branches-loop-left-preserved
+constant_branches-loop-left-preserved t c = branches_next c.loop-left.invariant c.loop-left-test.true (end_gives c.field_end-then.ensures) (end_gives c.field_end-next.ensures) c.constant-when.ensures (equal_both c.equal-test.ensures) c.may_pass-passed.ensures c.if-passed.false
+
+pub constant_branches-returns : goal.constant_branches-returns
+constant_branches-returns t c = branches_end c.loop-left.invariant c.loop-left-test.false c.constant_else.ensures
+
+pub constant_case-returns-then-rule-start : goal.constant_case-returns-then-rule-start
+constant_case-returns-then-rule-start t c = case_behind c.if-rule-start.true
+
+pub constant_case-returns : goal.constant_case-returns
+constant_case-returns t c = case_gives c.byte_at-flags.ensures c.byte_at-count.ensures (children_gives c.children_at-at.ensures) (behind_gives c.behind_fields-first.ensures) c.constant_base-base.ensures (type_gives c.type_of-to.ensures) c.constant_with.ensures
+
+pub constant_else-returns-then-at-end : goal.constant_else-returns-then-at-end
+constant_else-returns-then-at-end t c = else_none c.if-at-end.true
+
+pub constant_else-returns : goal.constant_else-returns
+constant_else-returns t c = else_some c.if-at-end.false c.constant-v.ensures (try_cast_gives _ _ c.try_cast.ensures)
+
+pub constant_node-returns-then-rule-start : goal.constant_node-returns-then-rule-start
+constant_node-returns-then-rule-start t c = within_behind c.if-rule-start.true
+
+pub constant_node-returns-then-tag-eq16 : goal.constant_node-returns-then-tag-eq16
+constant_node-returns-then-tag-eq16 t c = within_column c.if-tag-eq16.true
+
+pub constant_node-returns-then-tag-eq17 : goal.constant_node-returns-then-tag-eq17
+constant_node-returns-then-tag-eq17 t c = within_literal c.if-tag-eq17.true (literal_gives c.literal_value.ensures)
+
+pub constant_node-returns-then-tag-eq25 : goal.constant_node-returns-then-tag-eq25
+constant_node-returns-then-tag-eq25 t c = within_case c.if-tag-eq25.true c.constant_case.ensures
+
+pub constant_node-returns-then-tag-lt23 : goal.constant_node-returns-then-tag-lt23
+constant_node-returns-then-tag-lt23 t c = within_one refl c.if-tag-eq16.false c.if-tag-eq17.false c.if-tag-lt23.true c.byte_at-number.ensures (children_gives c.children_at-at.ensures) c.constant-v.ensures c.one.ensures
+
+pub constant_node-returns : goal.constant_node-returns
+constant_node-returns t c = within_two refl c.if-tag-lt23.false c.if-tag-eq25.false (children_gives c.children_at-at.ensures) (end_gives c.field_end-middle.ensures) c.constant-a.ensures c.constant-b.ensures c.two.ensures
+
+pub constant_with-returns-then-k-eq7 : goal.constant_with-returns-then-k-eq7
+constant_with-returns-then-k-eq7 t c = with_failed (sym c.kind-k.ensures ∙ c.if-k-eq7.true)
+
+pub constant_with-returns-then-k-eq0 : goal.constant_with-returns-then-k-eq0
+constant_with-returns-then-k-eq0 t c = with_null (sym c.kind-k.ensures ∙ c.if-k-eq0.true) (behind_gives c.behind_fields-place.ensures) c.constant_else.ensures
+
+pub constant_with-returns : goal.constant_with-returns
+constant_with-returns t c = with_value (λ p. c.if-k-eq0.false (c.kind-k.ensures ∙ p)) (λ p. c.if-k-eq7.false (c.kind-k.ensures ∙ p)) c.constant_branches.ensures

@@ -1,0 +1,12 @@
+-- `put_classes` puts the numbers of the rows' classes. The loop's invariant: so far they are there.
+use Prim.Native.Nat.{◌-◌}
+use Rattle.writer.specs.Write.{class_payload}
+use Rattle.writer.specs.Writing.{plain_numbers}
+use Rattle.writer.proofs.WroteLaws.{SoFar}
+use Rattle.writer.proofs.classes.put_classes.Given as goal
+
+abbrev pub invariant-loop-i : goal.invariant-loop-i
+invariant-loop-i l = SoFar (plain_numbers l.wide (class_payload l.classes l.payloads)) l.initial.output l.at l.rows l.i l.p l.output
+
+abbrev pub decreases-loop-i : goal.decreases-loop-i
+decreases-loop-i l = l.rows - l.i

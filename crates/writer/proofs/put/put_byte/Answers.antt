@@ -1,0 +1,9 @@
+-- `put_byte` stores one byte.
+use native.Mathlib.Omega.{arith}
+use mathlib.Core.Path.{refl}
+use mathlib.Core.List.{[], ◌∷◌}
+use Rattle.writer.proofs.WroteLaws.{wrote_sets}
+use Rattle.writer.proofs.put.put_byte.Goals as goal
+
+pub returns : goal.returns
+returns c = wrote_sets (c.args.b ∷ []) (omega arith) refl refl
