@@ -9,9 +9,12 @@ mod record;
 ghost use Rattle.std.specs.Prelude.{◌≡◌, length};
 
 use file::{Loaded, load};
+use files::argument_count;
 use layout::part::part_of;
 use list::list;
 use record::list_records;
+use std::io;
+use std::rt::{Env, Files};
 
 // One byte more than a rule may have.
 fn rule_buffer() -> [u8; 4097]
@@ -35,47 +38,45 @@ fn record_buffer() -> [u8; 524288]
 }
 
 // Reads the table and goes on.
-fn with_rule(rule: &[u8]) {
+fn with_rule(rt: &(impl Env + Files + Print + Eprint), rule: &[u8]) -> io::Result<()> {
     let mut table = table_buffer();
-    match load(2, b"batch.bin", &mut table) {
-        Loaded::Size(size) => list(rule, part_of(&table, 0, size)),
-        Loaded::Failed => {},
+    match load(rt, 2, b"batch.bin", &mut table) {
+        Loaded::Size(size) => list(rt, rule, part_of(&table, 0, size)),
+        Loaded::Failed => Ok(()),
     }
 }
 
 // The listing of the rule and the table.
-fn list_files() {
+fn list_files(rt: &(impl Env + Files + Print + Eprint)) -> io::Result<()> {
     let mut rule = rule_buffer();
-    match load(1, b"rule.bin", &mut rule) {
-        Loaded::Size(size) => with_rule(part_of(&rule, 0, size)),
-        Loaded::Failed => {},
+    match load(rt, 1, b"rule.bin", &mut rule) {
+        Loaded::Size(size) => with_rule(rt, part_of(&rule, 0, size)),
+        Loaded::Failed => Ok(()),
     }
 }
 
 // The listings of the records of the file that an argument names.
-fn list_file(argument: usize) {
+fn list_file(rt: &(impl Env + Files + Print + Eprint), index: usize) -> io::Result<()> {
     let mut records = record_buffer();
-    match load(argument, b"listings.bin", &mut records) {
-        Loaded::Size(size) => list_records(part_of(&records, 0, size)),
-        Loaded::Failed => {},
+    match load(rt, index, b"listings.bin", &mut records) {
+        Loaded::Size(size) => list_records(rt, part_of(&records, 0, size)),
+        Loaded::Failed => Ok(()),
     }
 }
 
 // The same of each argument from the third on.
-fn list_others(words: usize) {
-    let mut argument = 3;
-    while argument < words {
-        list_file(argument);
-        argument += 1;
+fn list_others(rt: &(impl Env + Files + Print + Eprint), words: usize) -> io::Result<()> {
+    for index in 3..words {
+        list_file(rt, index)?;
     }
+    Ok(())
 }
 
-fn main() {
-    let words = os::arg_count();
+fn main(rt: HostRuntime) -> io::Result<()> {
+    let words = argument_count(&rt);
     if words == 2 {
-        list_file(1);
-        return;
+        return list_file(&rt, 1);
     }
-    list_files();
-    list_others(words);
+    list_files(&rt)?;
+    list_others(&rt, words)
 }

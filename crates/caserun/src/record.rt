@@ -5,6 +5,7 @@ ghost use Rattle.std.specs.Prelude.{◌<◌};
 use crate::list::list;
 use layout::number::read_u32;
 use layout::part::part_of;
+use std::io;
 
 // The bytes before the rule.
 const HEAD: usize = 20;
@@ -20,21 +21,26 @@ fn record_size(s: &[u8]) -> usize
 }
 
 // The listing of the record that is the start of a slice.
-fn list_record(s: &[u8]) {
+fn list_record(rt: &impl Print, s: &[u8]) -> io::Result<()> {
     let table_at = HEAD + (read_u32(s, 0) as usize);
     let want_at = table_at + (read_u32(s, 4) as usize);
-    list(part_of(s, HEAD, table_at), part_of(s, table_at, want_at));
+    list(
+        rt,
+        part_of(s, HEAD, table_at),
+        part_of(s, table_at, want_at),
+    )
 }
 
 // The listing of each record, one behind the other.
-pub(crate) fn list_records(s: &[u8]) {
+pub(crate) fn list_records(rt: &impl Print, s: &[u8]) -> io::Result<()> {
     let mut at = 0;
     while at < s.len() {
         let size = record_size(&s[at..]);
         if s.len() - at < size {
-            return;
+            return Ok(());
         }
-        list_record(&s[at..]);
+        list_record(rt, &s[at..])?;
         at += size;
     }
+    Ok(())
 }

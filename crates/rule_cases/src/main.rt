@@ -5,59 +5,44 @@
 mod answers;
 mod record;
 
-use libc::STDOUT_FILENO;
+use files::{argument, argument_count, fail, large_buffer, open, path_buffer, read_full};
 use record::{Compared, compare};
-
-fn print(s: &[u8]) {
-    io::write_all(STDOUT_FILENO, s);
-}
-
-fn print_number(n: u64) {
-    io::print_decimal(STDOUT_FILENO, n);
-}
+use std::io;
+use std::rt::{Env, Files};
 
 // How many rules of a file agree, or the number, from 1, of the first that doesn't.
-fn print_compared(path: &[u8], c: Compared) {
-    print(path);
-    print(b": ");
+fn print_compared(rt: &impl Print, path: &[u8], c: Compared) -> io::Result<()> {
+    rt.write_all(path)?;
     match c {
-        Compared::Agree(count) => {
-            print_number(count as u64);
-            print(b" rules agree\n");
-        },
-        Compared::Differs(number) => {
-            print(b"the first that differs is ");
-            print_number(number as u64);
-            print(b"\n");
-        },
+        Compared::Agree(count) => println!(rt; ": {count} rules agree"),
+        Compared::Differs(number) => println!(rt; ": the first that differs is {number}"),
     }
 }
 
 // Compares the rules of a file.
-fn compare_file(path: &[u8]) {
-    let file = os::open_read(path);
-    if file < 0 {
-        os::fail(path);
-        return;
-    }
-    let mut buffer = io::large_buffer();
-    let size = io::read_full(file, &mut buffer);
-    libc::close(file);
-    print_compared(path, compare(&buffer[..size]));
+fn compare_file(rt: &(impl Files + Print + Eprint), path: &[u8]) -> io::Result<()> {
+    let mut file = match open(rt, path) {
+        Ok(file) => file,
+        Err(error) => {
+            fail(rt, path, error);
+            return Ok(());
+        }
+    };
+    let mut buffer = large_buffer();
+    let size = read_full(&mut file, &mut buffer);
+    print_compared(rt, path, compare(&buffer[..size]))
 }
 
 // Compares the rules of the file that an argument names.
-fn compare_argument(argument: usize) {
-    let mut path = io::buffer();
-    let size = os::arg(argument, &mut path);
-    compare_file(&path[..size]);
+fn compare_argument(rt: &(impl Env + Files + Print + Eprint), index: usize) -> io::Result<()> {
+    let mut path = path_buffer();
+    let size = argument(rt, index, &mut path).unwrap_or(0);
+    compare_file(rt, &path[..size])
 }
 
-fn main() {
-    let words = os::arg_count();
-    let mut argument = 1;
-    while argument < words {
-        compare_argument(argument);
-        argument += 1;
+fn main(rt: HostRuntime) -> io::Result<()> {
+    for index in 1..argument_count(&rt) {
+        compare_argument(&rt, index)?;
     }
+    Ok(())
 }

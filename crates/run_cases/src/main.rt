@@ -10,10 +10,12 @@ mod text;
 ghost use Rattle.std.specs.Prelude.{◌≡◌, length};
 ghost use Rattle.listing.specs.Listing.{listing_most};
 
+use files::{fail, large_buffer, open, read_full};
 use layout::part::part_of;
-use libc::STDOUT_FILENO;
 use listing::whole::LISTING_MOST;
 use record::{Kind, Tally, replay};
+use std::io;
+use std::rt::Files;
 
 // More bytes than a file of cases has.
 fn file_buffer() -> [u8; 524288]
@@ -36,54 +38,49 @@ fn listing_buffer() -> [u8; LISTING_MOST]
     [0; LISTING_MOST]
 }
 
-fn print(s: &[u8]) {
-    io::write_all(STDOUT_FILENO, s);
-}
-
-fn print_number(n: u64) {
-    io::print_decimal(STDOUT_FILENO, n);
-}
-
 // How many of a kind agree; the first that doesn't by its number, from 1.
-fn print_tally(name: &[u8], t: Tally) {
-    print(name);
-    print(b": ");
-    print_number(t.agree as u64);
-    print(b" of ");
-    print_number(t.total as u64);
-    print(b" agree");
-    if t.first != 0 {
-        print(b", the first that differs is ");
-        print_number(t.first as u64);
+fn print_tally(rt: &impl Print, name: &str, t: Tally) -> io::Result<()> {
+    let agree = t.agree;
+    let total = t.total;
+    let first = t.first;
+    if first == 0 {
+        println!(rt; "{name}: {agree} of {total} agree")
+    } else {
+        println!(rt; "{name}: {agree} of {total} agree, the first that differs is {first}")
     }
-    print(b"\n");
 }
 
 // Replays the cases of some bytes in buffers as long as the longest that a case asks for.
-fn replay_all(name: &[u8], cases: &[u8], kind: Kind) {
+fn replay_all(rt: &impl Print, name: &str, cases: &[u8], kind: Kind) -> io::Result<()> {
     let mut work = work_buffer();
-    let mut output = io::large_buffer();
+    let mut output = large_buffer();
     let mut lines = listing_buffer();
     let t = replay(cases, kind, &mut work, &mut output, &mut lines);
-    print_tally(name, t);
+    print_tally(rt, name, t)
 }
 
 // Replays the cases of a file.
-fn replay_file(name: &[u8], path: &[u8], kind: Kind) {
-    let file = os::open_read(path);
-    if file < 0 {
-        os::fail(path);
-        return;
-    }
+fn replay_file(
+    rt: &(impl Files + Print + Eprint),
+    name: &str,
+    path: &[u8],
+    kind: Kind,
+) -> io::Result<()> {
+    let mut file = match open(rt, path) {
+        Ok(file) => file,
+        Err(error) => {
+            fail(rt, path, error);
+            return Ok(());
+        }
+    };
     let mut buffer = file_buffer();
-    let size = io::read_full(file, &mut buffer);
-    libc::close(file);
-    replay_all(name, part_of(&buffer, 0, size), kind);
+    let size = read_full(&mut file, &mut buffer);
+    replay_all(rt, name, part_of(&buffer, 0, size), kind)
 }
 
-fn main() {
-    replay_file(b"runs", b"runs.bin", Kind::Run);
-    replay_file(b"refusals", b"refusals.bin", Kind::Run);
-    replay_file(b"limits", b"limits.bin", Kind::Listing);
-    replay_file(b"rust", b"rust.bin", Kind::Run);
+fn main(rt: HostRuntime) -> io::Result<()> {
+    replay_file(&rt, "runs", b"runs.bin", Kind::Run)?;
+    replay_file(&rt, "refusals", b"refusals.bin", Kind::Run)?;
+    replay_file(&rt, "limits", b"limits.bin", Kind::Listing)?;
+    replay_file(&rt, "rust", b"rust.bin", Kind::Run)
 }

@@ -8,7 +8,7 @@ use layout::number::read_u32;
 use layout::part::part_of;
 
 // What the cases of a file are.
-#[derive(Drop)]
+#[derive(Clone, Copy)]
 pub(crate) enum Kind {
     Listing,
     Run,

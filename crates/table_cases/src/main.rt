@@ -2,83 +2,77 @@
 // every column's nulls and entries.
 #![tactic(auto)]
 
+use files::{argument, argument_count, fail, large_buffer, open, path_buffer, read_full};
 use layout::number::read_u32;
-use libc::STDOUT_FILENO;
 use scalar::text::place_text;
 use scalar::types::DataType;
 use scalar::value::{Value, float_bits};
+use std::io;
+use std::rt::{Env, Files};
 use table::answer::EntryAnswer;
 use table::entry::entry_at;
 use table::places::{ColumnPlace, Table};
 use table::read::read;
 
-fn print(s: &[u8]) {
-    io::write_all(STDOUT_FILENO, s);
-}
-
-fn print_number(n: u64) {
-    io::print_decimal(STDOUT_FILENO, n);
-}
-
 // A number of 32 bits with its sign.
-fn print_int32(n: u32) {
+fn print_int32(rt: &impl Print, n: u32) -> io::Result<()> {
     if n < 0x8000_0000 {
-        print_number(n as u64);
+        rt.print(n)
     } else {
-        print(b"-");
-        print_number(0x1_0000_0000 - (n as u64));
+        print!(rt; "-{}", 0x1_0000_0000 - (n as u64))
     }
 }
 
 // A number of 64 bits with its sign.
-fn print_int64(n: u64) {
+fn print_int64(rt: &impl Print, n: u64) -> io::Result<()> {
     if n < 0x8000_0000_0000_0000 {
-        print_number(n);
+        rt.print(n)
     } else {
-        print(b"-");
-        print_number(0xffff_ffff_ffff_ffff - n + 1);
+        print!(rt; "-{}", 0xffff_ffff_ffff_ffff - n + 1)
     }
 }
 
-fn print_hex(n: u64, digits: usize) {
-    io::print_hex(STDOUT_FILENO, n, digits);
-}
-
-fn wide(b: u8) -> u64 {
-    b as u64
+// The 16 hex digits of 64 bits.
+fn print_bits(rt: &impl Print, n: u64) -> io::Result<()> {
+    print!(rt; "{n:016x}")
 }
 
 // The bytes of a text in hex, behind a t.
-fn print_text(t: &[u8]) {
-    print(b"t");
-    let mut i = 0;
-    while i < t.len() {
-        print_hex(wide(t[i]), 2);
-        i += 1;
+fn print_text(rt: &impl Print, t: &[u8]) -> io::Result<()> {
+    rt.print("t")?;
+    for b in t {
+        print!(rt; "{b:02x}")?;
     }
+    Ok(())
 }
 
-fn print_value(bytes: &[u8], v: Value) {
+fn print_value(rt: &impl Print, bytes: &[u8], v: Value) -> io::Result<()> {
     match v {
-        Value::Null => print(b"null"),
-        Value::Boolean(b) => if b { print(b"true") } else { print(b"false") },
-        Value::Int32(n) => print_int32(n),
-        Value::Int64(n) => print_int64(n),
-        Value::Float64(f) => print_hex(float_bits(f), 16),
-        Value::Nan(n) => print_hex(n, 16),
-        Value::RuleText(_, _) => print(b"?"),
-        Value::TableText(start, size) => print_text(place_text(bytes, start, size)),
-        Value::Failed => print(b"?"),
+        Value::Null => rt.print("null"),
+        Value::Boolean(b) => rt.print(b),
+        Value::Int32(n) => print_int32(rt, n),
+        Value::Int64(n) => print_int64(rt, n),
+        Value::Float64(f) => print_bits(rt, float_bits(f)),
+        Value::Nan(n) => print_bits(rt, n),
+        Value::RuleText(_, _) => rt.print("?"),
+        Value::TableText(start, size) => print_text(rt, place_text(bytes, start, size)),
+        Value::Failed => rt.print("?"),
     }
 }
 
-fn print_entry(bytes: &[u8], t: Table, column: usize, row: usize) {
-    print(b" ");
+fn print_entry(
+    rt: &impl Print,
+    bytes: &[u8],
+    t: Table,
+    column: usize,
+    row: usize,
+) -> io::Result<()> {
+    rt.print(" ")?;
     match entry_at(bytes, t, column, row) {
-        EntryAnswer::Entry(v) => print_value(bytes, v),
-        EntryAnswer::NoColumn => print(b"no column"),
-        EntryAnswer::NoRow => print(b"no row"),
-        EntryAnswer::Refused(_) => print(b"refused"),
+        EntryAnswer::Entry(v) => print_value(rt, bytes, v),
+        EntryAnswer::NoColumn => rt.print("no column"),
+        EntryAnswer::NoRow => rt.print("no row"),
+        EntryAnswer::Refused(_) => rt.print("refused"),
     }
 }
 
@@ -92,117 +86,108 @@ fn type_number(t: DataType) -> u64 {
     }
 }
 
-fn print_head(column: usize, place: ColumnPlace) {
-    print(b"column ");
-    print_number(column as u64);
-    print(b" type ");
-    let kind = place.data_type;
-    print_number(type_number(kind));
+fn print_head(rt: &impl Print, column: usize, place: ColumnPlace) -> io::Result<()> {
+    let kind = type_number(place.data_type);
+    let nulls = place.null_count;
     if place.nullable {
-        print(b" nullable 1 nulls ")
+        print!(rt; "column {column} type {kind} nullable 1 nulls {nulls}:")
     } else {
-        print(b" nullable 0 nulls ")
+        print!(rt; "column {column} type {kind} nullable 0 nulls {nulls}:")
     }
-    print_number(place.null_count as u64);
-    print(b":");
 }
 
 // A column's line. A table has at most 512 rows.
-fn print_column(bytes: &[u8], t: Table, column: usize) {
+fn print_column(rt: &impl Print, bytes: &[u8], t: Table, column: usize) -> io::Result<()> {
     let rows = t.rows;
-    let mut row = 0;
-    while row < 512 {
+    for row in 0..512 {
         if row < rows {
-            print_entry(bytes, t, column, row);
+            print_entry(rt, bytes, t, column, row)?;
         }
-        row += 1;
     }
-    print(b"\n");
+    rt.print("\n")
 }
 
-fn print_columns(bytes: &[u8], t: Table) {
+fn print_columns(rt: &impl Print, bytes: &[u8], t: Table) -> io::Result<()> {
     let count = t.count;
-    let mut column = 0;
-    while column < 16 {
+    for column in 0..16 {
         if column < count {
             let place = t.columns[column];
-            print_head(column, place);
-            print_column(bytes, t, column);
+            print_head(rt, column, place)?;
+            print_column(rt, bytes, t, column)?;
         }
-        column += 1;
     }
+    Ok(())
 }
 
-fn show(index: u64, bytes: &[u8]) {
-    print(b"table ");
-    print_number(index);
+fn show(rt: &impl Print, index: u64, bytes: &[u8]) -> io::Result<()> {
+    println!(rt; "table {index}")?;
     let answer = read(bytes);
-    if answer.refused != 0 {
-        print(b"\nrefused ");
-        print_number(answer.refused as u64);
-        print(b"\n");
-        return;
+    let refused = answer.refused;
+    if refused != 0 {
+        return println!(rt; "refused {refused}");
     }
     let t = answer.table;
-    print(b"\nrows ");
-    print_number(t.rows as u64);
-    print(b"\n");
-    print_columns(bytes, t);
+    let rows = t.rows;
+    println!(rt; "rows {rows}")?;
+    print_columns(rt, bytes, t)
 }
 
 // Shows the table of the record at a place, and says where the next begins.
-fn next(s: &[u8], at: usize, index: u64) -> usize {
+fn next(rt: &impl Print, s: &[u8], at: usize, index: u64) -> io::Result<usize> {
     if s.len() < at {
-        return s.len();
+        return Ok(s.len());
     }
     let left = s.len() - at;
     let size = read_u32(s, at) as usize;
     if left < 4 {
-        return s.len();
+        return Ok(s.len());
     }
     if left - 4 < size {
-        return s.len();
+        return Ok(s.len());
     }
     let from = at + 4;
     let to = from + size;
-    show(index, &s[from..to]);
-    to
+    show(rt, index, &s[from..to])?;
+    Ok(to)
 }
 
-// Shows the tables of a file, at most 400.
-fn show_file(path: &[u8]) {
-    let file = os::open_read(path);
-    if file < 0 {
-        os::fail(path);
-        return;
-    }
-    print(path);
-    print(b"\n");
-    let mut buffer = io::large_buffer();
-    let n = io::read_full(file, &mut buffer);
-    libc::close(file);
+// Shows the tables of a file's bytes, at most 400.
+fn show_tables(rt: &impl Print, s: &[u8]) -> io::Result<()> {
     let mut at = 0;
-    let mut index: u64 = 0;
-    while index < 400 {
-        if at < n {
-            at = next(&buffer[..n], at, index);
+    for index in 0..400 {
+        if at < s.len() {
+            at = next(rt, s, at, index)?;
         }
-        index += 1;
     }
+    Ok(())
+}
+
+// Shows the tables of a file.
+fn show_file(rt: &(impl Files + Print + Eprint), path: &[u8]) -> io::Result<()> {
+    let mut file = match open(rt, path) {
+        Ok(file) => file,
+        Err(error) => {
+            fail(rt, path, error);
+            return Ok(());
+        }
+    };
+    rt.write_all(path)?;
+    rt.print("\n")?;
+    let mut buffer = large_buffer();
+    let size = read_full(&mut file, &mut buffer);
+    show_tables(rt, &buffer[..size])
 }
 
 // Shows the tables of the file that an argument names.
-fn show_argument(argument: usize) {
-    let mut path = io::buffer();
-    let size = os::arg(argument, &mut path);
-    show_file(&path[..size]);
+fn show_argument(rt: &(impl Env + Files + Print + Eprint), index: usize) -> io::Result<()> {
+    let mut path = path_buffer();
+    let size = argument(rt, index, &mut path).unwrap_or(0);
+    show_file(rt, &path[..size])
 }
 
-fn main() {
-    let words = os::arg_count();
-    let mut argument = 1;
-    while argument < words {
-        show_argument(argument);
-        argument += 1;
+fn main(rt: HostRuntime) -> io::Result<()> {
+    for index in 1..argument_count(&rt) {
+        show_argument(&rt, index)?;
     }
+    Ok(())
 }
