@@ -1,6 +1,6 @@
 /* Tembalku: evaluates a dealer's CASE rule over a table of targets.
  *
- * For makers of displays. Link with libtembalku.a (`rt staticlib tembalku`); `tools/install.sh` puts it, a shared object and this header in
+ * For makers of displays. Link with libtembalku.a (`rt lib` in crates/tembalku); `tools/install.sh` puts it, a shared object and this header in
  * place. docs/FORMAT.md has the bytes of rules, tables and answers, the meaning of a rule at a row, and the order in which refusals are
  * tested; docs/REFUSALS.md explains the refusals.
  *
@@ -8,6 +8,7 @@
  * - takes any bytes: there is no rule and no table that it must not be given;
  * - ends, reads and writes only what it was lent, and keeps nothing between calls;
  * - answers one number: below TEMBALKU_RULE_ACCEPTED (256) it is a refusal, a value of tembalku_refusal, never 0; else what the function says.
+ *   Only tembalku_text_validate refuses nothing: its number is a place.
  *
  * What the caller sees to: a pointer and its length name memory that is there; a pointer isn't NULL, even if its length is 0; a buffer that
  * is written overlaps no other argument. Pointers need no alignment. The stack that calls were seen to need is in docs/ARCHITECTURE.md
@@ -143,6 +144,10 @@ size_t tembalku_evaluate(const uint8_t *rule, size_t rule_len,
 /* How many entries of an answer of so many rows are null. Gives the refusal (9 to 11, 25) of bytes that are no column of so many rows, or
  * 65,536 and their number. A column without tag 6, or with a mark of 0 and a null, is taken too. */
 size_t tembalku_answer_null_count(const uint8_t *answer, size_t answer_len, size_t rows);
+
+/* Tests a text: gives text_len if it is well-formed UTF-8, else the place of the first byte at which no whole character stands. Refuses
+ * nothing. */
+size_t tembalku_text_validate(const uint8_t *text, size_t text_len);
 
 /* ---- Helpers: reading an answer, and the sentence of a refusal. Not proved. ---- */
 

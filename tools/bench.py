@@ -3,7 +3,7 @@
 
 Times the readings of rules and tables through the static library, or through several of them in turns in one run, outside of the gate.
 
-ARCHIVE  target/staticlib/libtembalku.a unless said, which `rt staticlib tembalku` makes; a second one is compared with the first, and so on
+ARCHIVE  crates/tembalku/out/libtembalku.a unless said, which tools/build_library.sh makes; a second one is compared with the first, and so on
 N        how often each reading is timed, the libraries in turn (default 5)
 --nulls  tables with null counts in their columns too, which libraries below 0.2 refuse
 --count  instructions of a reading too, by valgrind's callgrind
@@ -21,7 +21,7 @@ import tempfile
 from bench_rules import case, column, int32
 from stored_cases import HERE, field, number
 
-ARCHIVE = os.path.join(HERE, "target", "staticlib", "libtembalku.a")
+ARCHIVE = os.path.join(HERE, "crates", "tembalku", "out", "libtembalku.a")
 
 
 def flat():

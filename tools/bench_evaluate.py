@@ -4,7 +4,7 @@
 Times whole evaluations through the static library, and the Rust beside them, in turns, outside of the gate.
 
 BINARY   the Rust over the stand-in for Arrow's kernels (tools/rust_oracle, built); without it only the library is timed
-ARCHIVE  target/staticlib/libtembalku.a unless said, which `rt staticlib tembalku` makes
+ARCHIVE  crates/tembalku/out/libtembalku.a unless said, which tools/build_library.sh makes
 N        how often each rule is timed, the library and the Rust in turn (default 3; a turn takes about 4 seconds with the Rust)
 WORDS    only the rules whose names hold them
 
@@ -25,7 +25,7 @@ import tempfile
 from bench_rules import measured
 from stored_cases import HERE, answer
 
-ARCHIVE = os.path.join(HERE, "target", "staticlib", "libtembalku.a")
+ARCHIVE = os.path.join(HERE, "crates", "tembalku", "out", "libtembalku.a")
 
 
 def said(*words):

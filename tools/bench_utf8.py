@@ -2,7 +2,7 @@
 """bench_utf8.py [--library ARCHIVE]...: nanoseconds of the library's test of a text and of Rust's `std::str::from_utf8` on the same texts,
 outside of the gate.
 
-ARCHIVE  target/staticlib/libtembalku.a unless said; several are timed one after the other
+ARCHIVE  crates/tembalku/out/libtembalku.a unless said; several are timed one after the other
 The texts are names in letters, Norwegian, Greek, Cyrillic, Chinese and of characters of four bytes: one name, and names up to 64 and 4,096
 bytes. Printed are the least of 40 rounds, both in turns in one process, and the library's divided by Rust's. Needs rustc (utf8_rust.rs).
 """

@@ -1,13 +1,10 @@
 #!/bin/sh
 # build_examples.sh [LIBRARY]: builds the examples in C and Rust with the static library, runs them and compares what they print.
-# Without LIBRARY it is made by `rt staticlib tembalku`. Without rustc the example in Rust is left out, and a line says so.
+# Without LIBRARY it is made by tools/build_library.sh. Without rustc the example in Rust is left out, and a line says so.
 set -eu
 [ $# -eq 0 ] || library=$(realpath "$1")
 cd "$(dirname "$0")/.."
-if [ $# -eq 0 ]; then
-    rt staticlib tembalku > /dev/null
-    library=$(realpath target/staticlib/libtembalku.a)
-fi
+[ $# -gt 0 ] || library=$(tools/build_library.sh 2> /dev/null)
 PATH=$PATH:${HOME:-}/.cargo/bin    # where rustup puts rustc
 scratch=$(mktemp -d)
 trap 'rm -rf "$scratch"' EXIT

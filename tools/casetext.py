@@ -11,7 +11,7 @@ casetext.py explain FOLDER                 prints the bytes of FOLDER/rule.bin, 
 TEXT has a rule and a table; or TEXT has a rule and TABLE a table, whose columns the rule then names. check and run also take a
 FOLDER with rule.bin and batch.bin.
 
---library ARCHIVE     run, compare: the static library; else target/staticlib/libtembalku.a, which `rt staticlib tembalku` writes
+--library ARCHIVE     run, compare: the static library; else crates/tembalku/out/libtembalku.a, which tools/build_library.sh writes
 --svg FILE            run: draws the targets, north up; their bearing (degrees) and range are the columns named bearing and range
 --bearing NAME, --range NAME    other columns for that
 --names A,B,..        show: the names of the columns

@@ -13,6 +13,7 @@ import argparse
 import collections
 import os
 import re
+import shutil
 import subprocess
 import sys
 
@@ -38,7 +39,7 @@ def chosen(cases, strategies, n, most):
 
 
 def literal(data):
-    return f"(numberBytes {len(data)} 0x{data[::-1].hex() or '0'})"
+    return f"(number_bytes {len(data)} 0x{data[::-1].hex() or '0'})"
 
 
 def unfoldables():
@@ -51,24 +52,21 @@ def unfoldables():
             found = re.findall(r"(?m)^unfoldable pub (\S+) :", text)
             found += re.findall(r"(?m)^unfoldable mutual\n(?:  --.*\n)*  pub (\S+) :", text)
             assert len(found) == len(re.findall(r"(?m)^unfoldable ", text)), file
-            names += [f"Rattle·{crate}.specs.{file[:-5]}.{n}" for n in found]
-    names += ["lib.Ieee." + n for n in "span climb size odd units round ofInt toBits".split()]
+            names += [f"Rattle.{crate}.specs.{file[:-5]}.{n}" for n in found]
+    names += ["lib.Ieee." + n for n in "span climb size odd units round of_int to_bits".split()]
     return names
 
 
 HEAD = """-- Stored cases, computed by the checker.
-use mathlib.Core.Path.{_≡_, refl}
-use mathlib.Core.Bool.{Bool, true, false}
-use mathlib.Core.List.{List, [], _∷_}
-use Prim.Native.Nat.{ℕ}
-use Rattle·layout.specs.Result.{Result, refused, ok, _>>=_}
-use Rattle·layout.specs.Bytes.{numberBytes}
-use Rattle·rule.specs.Tree.{Expr}
-use Rattle·rule.specs.Reading.{readRule}
-use Rattle·rule.specs.Strategy.{strategy, strategyNumber}
-use Rattle·rule.specs.Nullable.{nullable}
-use Rattle·rule.specs.Projection.{projection}
-use Rattle·case.specs.Run.{run}
+use Rattle.std.proofs.Common.{Bool, true, false, List, [], ◌∷◌, ℕ, ◌≡◌, refl}
+use Rattle.layout.specs.Result.{Result, refused, ok, ◌>>=◌}
+use Rattle.layout.specs.Bytes.{number_bytes}
+use Rattle.rule.specs.Tree.{Expr}
+use Rattle.rule.specs.Reading.{read_rule}
+use Rattle.rule.specs.Strategy.{strategy, strategy_number}
+use Rattle.rule.specs.Nullable.{nullable}
+use Rattle.rule.specs.Projection.{projection}
+use Rattle.case.specs.Run.{run}
 %s
 pub record Answers : Type 0 where
   pub number : ℕ
@@ -76,7 +74,7 @@ pub record Answers : Type 0 where
   pub columns : List ℕ
 
 unfoldable answers : List ℕ → Result Answers
-answers rule = readRule rule >>= λ e. ok (record { number = strategyNumber (strategy e); null = nullable e; columns = projection e })
+answers rule = read_rule rule >>= λ e. ok (record { number = strategy_number (strategy e); null = nullable e; columns = projection e })
 
 """
 
@@ -84,7 +82,7 @@ answers rule = readRule rule >>= λ e. ok (record { number = strategyNumber (str
 def write(folder, parts):
     os.makedirs(os.path.join(folder, "crates"))
     for crate in CRATES:
-        os.symlink(os.path.join(HERE, "crates", crate), os.path.join(folder, "crates", crate))
+        shutil.copytree(os.path.join(HERE, "crates", crate), os.path.join(folder, "crates", crate), ignore=shutil.ignore_patterns("out"))
     lines = [l for l in open(os.path.join(HERE, "crates.txt"), encoding="utf-8") if l.split(":")[0].strip() in CRATES]
     names = unfoldables()
     uses = "".join(f"use {n.rsplit('.', 1)[0]}.{{{n.rsplit('.', 1)[1]} as u{i}}}\n" for i, n in enumerate(names))
@@ -93,13 +91,13 @@ def write(folder, parts):
         name = f"cases{k}"
         base = os.path.join(folder, "crates", name)
         os.makedirs(os.path.join(base, "src"))
-        os.makedirs(os.path.join(base, "specs"))
-        open(os.path.join(base, "src", "lib.rt"), "w", encoding="utf-8").write("// Stored cases.\n")
-        open(os.path.join(base, "specs", "Lib.antt"), "w", encoding="utf-8").write("pub mod Cases\n")
-        with open(os.path.join(base, "specs", "Cases.antt"), "w", encoding="utf-8") as out:
+        os.makedirs(os.path.join(base, "proofs"))
+        open(os.path.join(base, "src", "lib.rt"), "w", encoding="utf-8").write("// Stored cases.\n#![tactic(auto)]\n")
+        open(os.path.join(base, "proofs", "Lib.antt"), "w", encoding="utf-8").write("pub mod Cases\n")
+        with open(os.path.join(base, "proofs", "Cases.antt"), "w", encoding="utf-8") as out:
             out.write(HEAD % uses)
             for i, (label, left, right) in enumerate(part):
-                out.write(f"-- {label}\ncase-{i} : {left} ≡ {right}\n{unfold}\ncase-{i} = refl\n\n")
+                out.write(f"-- {label}\ncase_{i} : {left} ≡ {right}\n{unfold}\ncase_{i} = refl\n\n")
         lines.append(f"{name}: {' '.join(CRATES)}\n")
     open(os.path.join(folder, "crates.txt"), "w", encoding="utf-8").write("".join(lines))
 
@@ -129,11 +127,13 @@ def of_runs(args, strategies, count):
 
 def check(scratch, parts):
     """Whether the checker accepts the statements, its words, and the labels of those that it refuses."""
-    done = subprocess.run(["rt", "check"] + [f"cases{k}" for k in range(len(parts))], cwd=scratch, capture_output=True, text=True)
-    said, bad = done.stdout + done.stderr, []
-    for m in re.finditer(r"cases(\d+)/specs/Cases.antt:\d+:\d+: error: (?:in )?`case-(\d+)`", said):
-        bad.append(parts[int(m.group(1))][int(m.group(2))][0])
-    return done.returncode, said, list(dict.fromkeys(bad))
+    status, said, bad = 0, "", []
+    for k, part in enumerate(parts):
+        folder = os.path.join(scratch, "crates", f"cases{k}")
+        done = subprocess.run(["rt", "check"], cwd=folder, capture_output=True, text=True)
+        status, said = status or done.returncode, said + done.stdout + done.stderr
+        bad += [part[int(i)][0] for i in re.findall(r"/Cases.antt:\d+:\d+: error: `case_(\d+)`", done.stdout + done.stderr)]
+    return status, said, list(dict.fromkeys(bad))
 
 
 def arguments():

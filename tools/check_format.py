@@ -6,7 +6,8 @@ check_format.py LIBRARY --print    prints the three blocks instead
 The rule and the table are made from examples/targets/targets.txt as `casetext.py make` does; the answer is that of the static library.
 Every line of the three blocks is compared: the place of its first byte, the bytes, and what they say; the table's entries; and what the
 functions say of the example. The bytes of the page's short examples are compared with what is made of their text, and what its casts of
-constants give with what the library says. Prints each difference, and fails where there is one.
+constants give with what the library says. Its texts are compared with the library's test of a text and with Python's strict decoder. Prints
+each difference, and fails where there is one.
 """
 import ctypes
 import os
@@ -171,11 +172,32 @@ def constant_casts(page, library):
         yield text, given, "fails" if number == 8 else f"refused {number}" if number else value_text(answer[0], answer[1][0])
 
 
+def ill_formed(text):
+    """The place of the first byte at which no character stands, or the length, by Python's strict decoder."""
+    try:
+        text.decode()
+    except UnicodeDecodeError as e:
+        return e.start
+    return len(text)
+
+
+def texts(page, library):
+    """Texts of the page as bytes: the place that the test gives; yields the bytes, what the page says and what the library does."""
+    test = library.so.tembalku_text_validate
+    test.restype, test.argtypes = ctypes.c_size_t, [ctypes.c_char_p, ctypes.c_size_t]
+    for given, place, whole in re.findall(r"^\| `([0-9A-F ]+)` \| (\d+)(, the length)? \| [^|]*\|$", page, re.M):
+        text = bytes.fromhex(given)
+        own = test(text, len(text))
+        said = f"{own}{', the length' if own == len(text) else ''}"
+        yield given, place + whole, said if own == ill_formed(text) else f"{said}, and {ill_formed(text)} by the decoder"
+
+
 def differences(page, library, wanted):
     """What was compared, in words, and a line for each difference."""
     wrong = [f"{heading}: its lines aren't those of check_format.py --print" for heading, block in wanted.items() if block not in section(page, heading)]
     said = [f"{len(wanted)} blocks"]
-    for name, found in (("short examples", list(short_examples(page))), ("casts", list(constant_casts(page, library)))):
+    for name, found in (("short examples", list(short_examples(page))), ("casts", list(constant_casts(page, library))),
+                        ("texts", list(texts(page, library)))):
         wrong += [f"{text}: {given}, but {own}" for text, given, own in found if given != own]
         wrong += [] if found else [f"no {name} were found"]
         said.append(f"{len(found)} {name}")

@@ -60,6 +60,9 @@ def upper(name):
     return re.sub(r"(?<=[a-z])(?=[A-Z])", "_", name).upper()
 
 
+# the tests of numbers that specs write
+LESS, MOST = "(?:ltb|nat_lt)", "(?:leb|nat_le)"
+
 # ---- the header ----
 
 HEADER = "include/tembalku.h"
@@ -90,9 +93,14 @@ def header_functions():
 
 
 def header_refusals():
-    """The refusals `refusal (1 to 8)` that a function's comment names."""
+    """The refusals `refusal (1 to 8)` that a function's comment names; none of a function that refuses nothing."""
     commented = re.findall(r"/\*((?:(?!\*/)[\s\S])*)\*/\n(?:uint32_t|size_t) (tembalku_\w+)\(", text(HEADER))
     return {name: [spans(said) for said in re.findall(r"refusal \(([\d to,]+)\)", comment)] for comment, name in commented}
+
+
+def refusing_functions():
+    """All but the test of a text, which gives a place and refuses nothing."""
+    return [name for name in header_functions() if "text" not in name]
 
 
 # ---- the code ----
@@ -122,8 +130,8 @@ def refusals():
     rows = paper_rows()
     paper = {int(n): sentence for n, _, _, sentence in rows}
     path = "layout/specs/Refusals.antt"
-    of_rule, of_table, of_run = (spec_list(path, name + "Refusals") for name in ("rule", "table", "evaluation"))
-    of_builder = spec_list(path, "builderRefusals")
+    of_rule, of_table, of_run = (spec_list(path, name + "_refusals") for name in ("rule", "table", "evaluation"))
+    of_builder = spec_list(path, "builder_refusals")
     numbers = of_rule + of_table + of_run + [n for n in of_builder if n not in of_table]
     yield "the refusals' numbers", sorted(enum("refusal").values()), sorted(numbers)
     yield "the numbers of docs/REFUSALS.md", sorted(enum("refusal").values()), [int(n) for n, _, _, _ in rows]
@@ -135,20 +143,20 @@ def refusals():
     alone = [n for n in of_table if n != 12]
     for name in header_functions():
         which = of_table if "table" in name else of_rule if "rule" in name else alone if "answer" in name else of_rule + of_table + of_run
-        yield f"{name}: its refusals", header_refusals().get(name), [sorted(which)]
+        yield f"{name}: its refusals", header_refusals().get(name), [sorted(which)] if name in refusing_functions() else []
 
 
 def limits():
     """The limits by the specifications."""
-    rows, texts = spec_number("table/specs/Reading.antt", "rowsMost"), spec_number("writer/specs/Written.antt", "textMost")
+    rows, texts = spec_number("table/specs/Reading.antt", "rows_most"), spec_number("writer/specs/Written.antt", "text_most")
     longest = (3 + 2) + (3 + 2) + (3 + (rows + 7) // 8) + (3 + 4 * (rows + 1)) + (3 + texts)
     return {
-        "RULE_MOST": int(found(r"require \(ltb 0 \(length bytes\) && leb \(length bytes\) (\d+)\) 1$", "crates/rule/specs/Reading.antt")),
-        "TABLE_MOST": spec_number("table/specs/Reading.antt", "bytesMost"),
+        "RULE_MOST": int(found(rf"require \({LESS} 0 \(length bytes\) && {MOST} \(length bytes\) (\d+)\) 1$", "crates/rule/specs/Reading.antt")),
+        "TABLE_MOST": spec_number("table/specs/Reading.antt", "bytes_most"),
         "ROWS_MOST": rows,
-        "COLUMNS_MOST": spec_number("table/specs/Reading.antt", "columnsMost"),
-        "BRANCHES_MOST": int(found(r"require \(leb count (\d+)\) 6$", "crates/rule/specs/Reading.antt")),
-        "WORK_BYTES": spec_number("case/specs/Run.antt", "workLeast"),
+        "COLUMNS_MOST": spec_number("table/specs/Reading.antt", "columns_most"),
+        "BRANCHES_MOST": int(found(rf"require \({MOST} count (\d+)\) 6$", "crates/rule/specs/Reading.antt")),
+        "WORK_BYTES": spec_number("case/specs/Run.antt", "work_least"),
         "OUTPUT_MOST": longest,
         "PROJECTION_MOST": int(found(r"^Bytes l = .* < (\d+)$", "crates/layout/specs/Bytes.antt")),
     }
@@ -158,20 +166,20 @@ def beyond():
     """The refusals beyond the limits, by the specifications."""
     rule, table, run = "crates/rule/specs/Reading.antt", "crates/table/specs/Reading.antt", "crates/case/specs/Run.antt"
     return {name: int(found(pattern, path)) for name, path, pattern in [
-        ("RULE_MOST", rule, r"leb \(length bytes\) \d+\) (\d+)$"),
-        ("TABLE_MOST", table, r"bytesMost\) (\d+)$"),
-        ("ROWS_MOST", table, r"require \(leb \(number .* rowsMost\) (\d+)$"),
-        ("COLUMNS_MOST", table, r"^readColumns rows zero \(.*refused (\d+)$"),
-        ("BRANCHES_MOST", rule, r"require \(leb count \d+\) (\d+)$"),
-        ("WORK_BYTES", run, r"require \(leb workLeast work\) (\d+)$"),
-        ("OUTPUT_BYTES", "crates/writer/specs/Written.antt", r"require \(leb \(length bytes\) output\) (\d+)$")]}
+        ("RULE_MOST", rule, rf"{MOST} \(length bytes\) \d+\) (\d+)$"),
+        ("TABLE_MOST", table, r"bytes_most\) (\d+)$"),
+        ("ROWS_MOST", table, rf"require \({MOST} \(number .* rows_most\) (\d+)$"),
+        ("COLUMNS_MOST", table, r"^read_columns rows zero \(.*refused (\d+)$"),
+        ("BRANCHES_MOST", rule, rf"require \({MOST} count \d+\) (\d+)$"),
+        ("WORK_BYTES", run, rf"require \({MOST} work_least work\) (\d+)$"),
+        ("OUTPUT_BYTES", "crates/writer/specs/Written.antt", rf"require \({MOST} \(length bytes\) output\) (\d+)$")]}
 
 
 def in_words():
     """The limits that the words of a refusal name, by its number; the others name none."""
     most, reading = limits(), "rule/specs/Reading.antt"
-    return {1: [most["RULE_MOST"]], 4: [spec_number(reading, "depthMost"), spec_number(reading, "casesMost")], 6: [most["BRANCHES_MOST"]],
-            10: [most["ROWS_MOST"], most["COLUMNS_MOST"]], 14: [most["WORK_BYTES"]], 16: [spec_number("writer/specs/Written.antt", "textMost")]}
+    return {1: [most["RULE_MOST"]], 4: [spec_number(reading, "depth_most"), spec_number(reading, "cases_most")], 6: [most["BRANCHES_MOST"]],
+            10: [most["ROWS_MOST"], most["COLUMNS_MOST"]], 14: [most["WORK_BYTES"]], 16: [spec_number("writer/specs/Written.antt", "text_most")]}
 
 
 def words():
@@ -189,7 +197,7 @@ def words():
     yield "the longest answer's words", numbers_in(found(r"^/\* Bytes of the longest answer: (.*?)\. ", HEADER)), [most["ROWS_MOST"]] + named[16]
     yield "where refusals end, in words", int(found(r"below TEMBALKU_RULE_ACCEPTED \((\d+)\) it is a refusal", HEADER)), macro("RULE_ACCEPTED")
     yield "the most columns of a projection, in words", int(found(r"number, at most (\d+)\. They are", HEADER)), most["PROJECTION_MOST"]
-    counted = {name: macro(accepted(name)) for name in header_functions()}
+    counted = {name: macro(accepted(name)) for name in refusing_functions()}
     said = re.findall(r"refusal \([^)]*\)[^,;]*, or\s+(?:\* )?([\d,]+) and[\s\S]*?\n(?:uint32_t|size_t) (tembalku_\w+)\(", text(HEADER))
     yield "what answers count from, in words", {name: number(n) for n, name in said}, counted
     said = re.findall(r"^\| `(tembalku_\w+)` \| .* \| ([\d,]+) \+ ", text("docs/FORMAT.md"), re.M)
@@ -204,8 +212,8 @@ def accepted(function):
 def states():
     """At which refusals the work buffer is untouched and at which it is zero, wherever that is said."""
     path = "layout/specs/Refusals.antt"
-    run = sorted(n for name in ("rule", "table", "evaluation") for n in spec_list(path, name + "Refusals"))
-    name = found(r"^workAfter \(refused n\) work = cond \(among (\w+) n\) \(zeros work\) work$", "crates/case/specs/Run.antt")
+    run = sorted(n for name in ("rule", "table", "evaluation") for n in spec_list(path, name + "_refusals"))
+    name = found(r"^work_after \(refused n\) work = cond \(among (\w+) n\) \(zeros work\) work$", "crates/case/specs/Run.antt")
     zero = spec_list(path, name)
     untouched = [n for n in run if n not in zero]
     for file in (HEADER, "docs/FORMAT.md"):
@@ -214,21 +222,21 @@ def states():
     said = re.findall(r"^\| ([\d to,]+) \| (untouched|zero) \| untouched \|$", text("docs/REFUSALS.md"), re.M)
     yield "docs/REFUSALS.md: the work buffer's states", [(spans(s), state) for s, state in said], [(untouched, "untouched"), (zero, "zero")]
     said = found(r"^/\* Refusals\. The library's functions give (.*); (.*) are the result builder's\.", HEADER)
-    yield "the refusals of functions and builder, in words", [spans(s) for s in said], [run, spec_list(path, "builderRefusals")[1:]]
+    yield "the refusals of functions and builder, in words", [spans(s) for s in said], [run, spec_list(path, "builder_refusals")[1:]]
 
 
 def numbers():
     for name, limit in limits().items():
         yield f"TEMBALKU_{name}", macro(name), limit
     yield "TEMBALKU_OUTPUT_BYTES", macro("OUTPUT_BYTES"), int(found(r"^given c = run .* (\d+)$", "crates/case/specs/Cases.antt"))
-    for name, codes in (("RULE_ACCEPTED", ("rule", "strategy", "nullable", "projection")), ("TABLE_ACCEPTED", ("table", "nullCount")),
-                        ("ANSWERED", ("run", "answerCount"))):
+    for name, codes in (("RULE_ACCEPTED", ("rule", "strategy", "nullable", "projection")), ("TABLE_ACCEPTED", ("table", "null_count")),
+                        ("ANSWERED", ("run", "answer_count"))):
         for code in codes:
-            yield f"TEMBALKU_{name}, {code}Code", macro(name), int(found(rf"^{code}Code (?:rows )?\((?:ok|Nulls) \w+\) = (\d+) \+", CODES))
-    yield "TEMBALKU_NO_COLUMN", macro("NO_COLUMN"), int(found(r"^nullCountCode NoColumn = (\d+)$", CODES))
+            yield f"TEMBALKU_{name}, {code}_code", macro(name), int(found(rf"^{code}_code (?:rows )?\((?:ok|Nulls) \w+\) = (\d+) \+", CODES))
+    yield "TEMBALKU_NO_COLUMN", macro("NO_COLUMN"), int(found(r"^null_count_code NoColumn = (\d+)$", CODES))
     yield "a missing column, in words", int(found(r"their number; or (\d+)\n \* \(TEMBALKU_NO_COLUMN\), which is no refusal", HEADER)), macro("NO_COLUMN")
-    yield "the types", enum("type"), {upper(name): n for name, n in numbered("typeNumber", "crates/scalar/specs/Types.antt").items()}
-    yield "the strategies", enum("strategy"), {upper(name): n for name, n in numbered("strategyNumber", "crates/rule/specs/Strategy.antt").items()}
+    yield "the types", enum("type"), {upper(name): n for name, n in numbered("type_number", "crates/scalar/specs/Types.antt").items()}
+    yield "the strategies", enum("strategy"), {upper(name): n for name, n in numbered("strategy_number", "crates/rule/specs/Strategy.antt").items()}
     yield "the functions", header_functions(), code_functions()
     version = ".".join(str(macro(f"VERSION_{part}")) for part in ("MAJOR", "MINOR", "PATCH"))
     yield "the version", found(r'^#define TEMBALKU_VERSION "(.*)"$', HEADER), version
@@ -251,9 +259,11 @@ def elsewhere():
     strategies = {upper(name): int(n) for n, name in re.findall(r"^\| (\d) \| `(\w+)` \|", page, re.M)}
     yield "the strategies of docs/FORMAT.md", enum("strategy"), strategies
     tags = [int(n) for n in re.findall(r"^\| (1[6-9]|2\d) \| ", page, re.M)]
-    yield "the tags of docs/FORMAT.md", list(numbered("tagOf", "crates/rule/specs/Reading.antt").values()), tags
+    yield "the tags of docs/FORMAT.md", list(numbered("tag_of", "crates/rule/specs/Reading.antt").values()), tags
     said = {name: [spans(n)] for name, n in re.findall(r"^\| `(tembalku_\w+)` \| ([\d to,]+) \|", page, re.M)}
-    yield "the functions' refusals in docs/FORMAT.md", header_refusals(), said
+    yield "the functions' refusals in docs/FORMAT.md", {name: header_refusals()[name] for name in refusing_functions()}, said
+    said = re.findall(r"^\| `(tembalku_\w+)` \| none \|", page, re.M)
+    yield "the functions without refusals in docs/FORMAT.md", [name for name in header_functions() if name not in refusing_functions()], said
 
 
 def main():

@@ -2,7 +2,7 @@
 """compare_rust.py [--cases N] [--seed S] [--library ARCHIVE] [--oracle BINARY] [--smallest | --document FILE | --store]: the Rust and the
 port on the same cases.
 
-Makes N random rules with tables (rule_generator.py), runs the static library (`rt staticlib tembalku`, through stream_library.c) and the
+Makes N random rules with tables (rule_generator.py), runs the static library (tools/build_library.sh, through stream_library.c) and the
 Rust (rust_oracle/README.md) on each, and compares entries and failures, strategy, projection and nullability. The Rust writes no null
 counts: the port's, of the answer and of the table's columns, are compared with the numbers of null entries. The port's nullability is
 also compared with what is worked out from the tree (nullability.py). Prints how many agree and differ in each class (case_classes.py). A
@@ -508,7 +508,7 @@ def main():
     parser = argparse.ArgumentParser(description=__doc__, formatter_class=argparse.RawDescriptionHelpFormatter)
     parser.add_argument("--cases", type=int, default=100000)
     parser.add_argument("--seed", type=int, default=1)
-    parser.add_argument("--library", default=os.path.join(HERE, "target", "staticlib", "libtembalku.a"))
+    parser.add_argument("--library", default=os.path.join(HERE, "crates", "tembalku", "out", "libtembalku.a"))
     parser.add_argument("--oracle", default=os.path.join(HERE, "tools", "rust_oracle", "target", "release", "rust-oracle"))
     parser.add_argument("--smallest", action="store_true")
     parser.add_argument("--document")
@@ -516,7 +516,7 @@ def main():
     args = parser.parse_args()
     for path in [args.oracle] + ([] if args.store else [args.library]):
         if not os.path.exists(path):
-            parser.error(f"{path} isn't there: tools/rust_oracle/README.md says how the Rust is built, rt staticlib tembalku builds the library")
+            parser.error(f"{path} isn't there: tools/rust_oracle/README.md says how the Rust is built, tools/build_library.sh builds the library")
     return (store_answers if args.store else check_document if args.document else compare)(args, Programs(args.oracle))
 
 

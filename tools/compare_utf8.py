@@ -6,7 +6,7 @@ from 110000 to 1FFFFF (hex) by the bits that four bytes have; all of these cut b
 too long for them. Rust's `std::str::from_utf8` (utf8_rust.rs; needs rustc): all strings of up to three bytes, those of four bytes by their
 classes, long texts from each of sixteen places on with a wrong byte at each place, and random ones.
 
---library  the static library; target/staticlib/libtembalku.a unless said
+--library  the static library; crates/tembalku/out/libtembalku.a unless said
 --four     all strings of four bytes, 4,294,967,296 of them: minutes
 
 Prints how many texts of each kind were compared and how many differ; the exit status is 1 where one does.

@@ -7,7 +7,7 @@
 #   lib/pkgconfig/tembalku.pc      for `pkg-config --cflags --libs tembalku`
 #   share/doc/tembalku/            NOTICE, FORMAT.md, REFUSALS.md
 #
-# Without LIBRARY the static library is made by `rt staticlib tembalku`, which proves it. Needs gcc.
+# Without LIBRARY the static library is made by tools/build_library.sh, which proves it. Needs gcc.
 set -eu
 fail() { echo "install.sh: $*" >&2; exit 1; }
 [ $# -eq 1 ] || [ $# -eq 2 ] || { echo "usage: install.sh PREFIX [LIBRARY]" >&2; exit 2; }
@@ -17,7 +17,7 @@ x86_64-*) ;;
 *) fail "gcc makes programs for $(gcc -dumpmachine), and the library links into x86-64 programs only" ;;
 esac
 if [ $# -eq 2 ]; then
-    [ -f "$2" ] || fail "$2: there is no such library: \`rt staticlib tembalku\` writes target/staticlib/libtembalku.a"
+    [ -f "$2" ] || fail "$2: there is no such library: tools/build_library.sh writes crates/tembalku/out/libtembalku.a"
     library=$(realpath "$2")
 fi
 mkdir -p "$1" || fail "$1: can't be made"
@@ -25,8 +25,7 @@ prefix=$(cd "$1" && pwd)
 cd "$(dirname "$0")/.."
 if [ $# -eq 1 ]; then
     command -v rt > /dev/null || fail "rt isn't there: it is needed to make the library; or name one: install.sh PREFIX LIBRARY"
-    rt staticlib tembalku > /dev/null || fail "\`rt staticlib tembalku\` made no library"
-    library=$(realpath target/staticlib/libtembalku.a)
+    library=$(tools/build_library.sh 2> /dev/null) || fail "tools/build_library.sh made no library"
 fi
 version=$(sed -n 's/^#define TEMBALKU_VERSION "\(.*\)"$/\1/p' include/tembalku.h)
 series=${version%.*}    # below 1.0 a minor version may change the answer's bytes

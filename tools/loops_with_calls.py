@@ -1,7 +1,7 @@
 #!/usr/bin/env python3
 """loops_with_calls.py: lists the loops of the compiled library that make calls, with what they call.
 
-Links tools/bench_evaluate.c with target/staticlib/libtembalku.a (made by `rt staticlib tembalku`) and reads objdump's listing of the library's functions.
+Links tools/bench_evaluate.c with crates/tembalku/out/libtembalku.a (made by tools/build_library.sh) and reads objdump's listing of the library's functions.
 A call is listed with the smallest loop around it. Loops over rows are to have no calls: none of them is listed.
 """
 import os
@@ -10,13 +10,13 @@ import subprocess
 import tempfile
 
 HERE = os.path.dirname(os.path.dirname(os.path.abspath(__file__)))
-OURS = re.compile(r"(layout|scalar|rule|table|builder|writer|case|tembalku)(::|_)")
+OURS = re.compile(r"(layout|utf8|scalar|rule|table|builder|writer|case|tembalku)(::|_)")
 
 
 def listing():
     program = os.path.join(tempfile.mkdtemp(), "program")
     subprocess.run(["gcc", "-O2", "-I", os.path.join(HERE, "include"), os.path.join(HERE, "tools", "bench_evaluate.c"),
-                    os.path.join(HERE, "target", "staticlib", "libtembalku.a"), "-o", program], check=True)
+                    os.path.join(HERE, "crates", "tembalku", "out", "libtembalku.a"), "-o", program], check=True)
     return subprocess.run(["objdump", "-d", "--no-show-raw-insn", program], capture_output=True, text=True, check=True).stdout
 
 

@@ -1,7 +1,7 @@
 #!/usr/bin/env python3
 """stack_evaluate.py [ARCHIVE]: the stack that a process needs for one evaluation through the static library, outside of the gate.
 
-Builds tools/bench_evaluate.c with ARCHIVE, target/staticlib/libtembalku.a unless said (made by `rt staticlib tembalku`), and prints for
+Builds tools/bench_evaluate.c with ARCHIVE, crates/tembalku/out/libtembalku.a unless said (made by tools/build_library.sh), and prints for
 rules that nest deep the least limit of the stack, in steps of 4 KB, at which one evaluation of 512 rows ends. The process's own start is
 counted in.
 """

@@ -206,7 +206,7 @@ class Files(InFolder):
         missing = self.path("lib.a")
         code, out, err = run("run", path, "--library", missing)
         self.assertEqual((code, out), (1, ""))
-        self.assertEqual(err, f"{missing}: there is no such library: `rt staticlib tembalku` writes target/staticlib/libtembalku.a\n")
+        self.assertEqual(err, f"{missing}: there is no such library: tools/build_library.sh writes crates/tembalku/out/libtembalku.a\n")
         self.write("lib.a", "no archive")
         code, out, err = run("run", path, "--library", missing)
         self.assertEqual((code, out), (1, ""))
@@ -219,10 +219,10 @@ class Files(InFolder):
         """Without --library the one that is built in the repository."""
         path = self.write("a.txt", when("(boolean true)"))
         with mock.patch("dealer.library.ROOT", self.folder):
-            self.assertEqual(run("run", path), (1, "", "the library isn't built: `rt staticlib tembalku` writes target/staticlib/libtembalku.a; "
+            self.assertEqual(run("run", path), (1, "", "the library isn't built: tools/build_library.sh writes crates/tembalku/out/libtembalku.a; "
                                                 "or name one with --library ARCHIVE\n"))
-            os.makedirs(self.path("target/staticlib"))
-            built = self.write("target/staticlib/libtembalku.a", "no archive")
+            os.makedirs(self.path("crates/tembalku/out"))
+            built = self.write("crates/tembalku/out/libtembalku.a", "no archive")
             self.assertTrue(run("run", path)[2].startswith(f"{built}: can't be linked: "))
 
     def test_odd_name(self):

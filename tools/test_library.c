@@ -557,6 +557,72 @@ static void test_answer_counts(void) {
     ANSWER_NULLS(left_over, (size_t)-1, TEMBALKU_REFUSED_TABLE_SIZE);
 }
 
+/* ---- texts ---- */
+
+/* A text, and the place that tembalku_text_validate gives: its length if it is well-formed. */
+typedef struct {
+    const char *text;
+    size_t len, place;
+} text_case;
+
+#define FORMED(text) {text, sizeof text - 1, sizeof text - 1}
+#define ILL_FORMED(text, place) {text, sizeof text - 1, place}
+
+/* Both ends of each line of the Unicode Standard's table, what lies beyond them, and cut sequences. */
+static const text_case texts[] = {
+    FORMED(""), FORMED("boat"), FORMED("\0"), FORMED("a\0b"), FORMED("\x7F"), FORMED("Bl\xC3\xA5ne"), FORMED("\xEF\xBB\xBFname"),
+    FORMED("\xC2\x80"), FORMED("\xDF\xBF"), FORMED("\xE0\xA0\x80"), FORMED("\xE0\xBF\xBF"), FORMED("\xE1\x80\x80"), FORMED("\xEC\xBF\xBF"),
+    FORMED("\xED\x80\x80"), FORMED("\xED\x9F\xBF"), FORMED("\xEE\x80\x80"), FORMED("\xEF\xBF\xBF"), FORMED("\xEF\xB7\x90"),
+    FORMED("\xF0\x90\x80\x80"), FORMED("\xF0\xBF\xBF\xBF"), FORMED("\xF1\x80\x80\x80"), FORMED("\xF3\xBF\xBF\xBF"),
+    FORMED("\xF4\x80\x80\x80"), FORMED("\xF4\x8F\xBF\xBF"), FORMED("\xE6\xBC\xA2\xE5\xAD\x97 \xF0\x9F\x9A\xA2"),
+    ILL_FORMED("\x80", 0), ILL_FORMED("\xBF", 0), ILL_FORMED("a\x80", 1), ILL_FORMED("\xC0\x80", 0), ILL_FORMED("\xC1\xBF", 0),
+    ILL_FORMED("\xC2\x7F", 0), ILL_FORMED("\xC2\xC0", 0), ILL_FORMED("\xDF\x7F", 0), ILL_FORMED("\xE0\x9F\xBF", 0), ILL_FORMED("\xE0\xC0\x80", 0),
+    ILL_FORMED("\xE1\x7F\x80", 0), ILL_FORMED("\xE1\x80\x7F", 0), ILL_FORMED("\xEC\xC0\x80", 0), ILL_FORMED("\xED\xA0\x80", 0),
+    ILL_FORMED("\xED\xBF\xBF", 0), ILL_FORMED("\xEF\xBF\xC0", 0), ILL_FORMED("\xF0\x8F\xBF\xBF", 0), ILL_FORMED("\xF0\x90\x7F\x80", 0),
+    ILL_FORMED("\xF0\x90\x80\x7F", 0), ILL_FORMED("\xF3\xC0\x80\x80", 0), ILL_FORMED("\xF4\x90\x80\x80", 0), ILL_FORMED("\xF4\x7F\x80\x80", 0),
+    ILL_FORMED("\xF5\x80\x80\x80", 0), ILL_FORMED("\xF8\x88\x80\x80\x80", 0), ILL_FORMED("\xFE", 0), ILL_FORMED("\xFF", 0),
+    ILL_FORMED("\xC3", 0), ILL_FORMED("\xE6\xBC", 0), ILL_FORMED("\xE6", 0), ILL_FORMED("\xF0\x9F\x9A", 0), ILL_FORMED("\xF0\x9F", 0),
+    ILL_FORMED("\xF0", 0), ILL_FORMED("Bl\xE5ne", 2), ILL_FORMED("Bl\xC3", 2), ILL_FORMED("Bl\xC3\xA5\xA5", 4), ILL_FORMED("\xE6\xBC\xA2\xE5\xAD", 3),
+    ILL_FORMED("12345678\xE5", 8), ILL_FORMED("1234567\xC3\xA5\xFF", 9), ILL_FORMED("a\xED\xA0\x80\xED\xB0\x80", 1)};
+
+/* A text at the end of a page. */
+static void test_text(text_case t) {
+    const uint8_t *bytes = memcpy(at_page_end(t.len), t.text, t.len);
+    CHECK(tembalku_text_validate(bytes, t.len) == t.place, "text_validate", tembalku_text_validate(bytes, t.len));
+}
+
+/* A text of characters of one to four bytes, cut at each place: the place of the character that is cut. */
+static void test_cut_texts(void) {
+    static const text_case name = FORMED("a\xC3\xA5\xE6\xBC\xA2\xF0\x9F\x9A\xA2");
+    for (size_t cut = 0; cut <= name.len; cut++) {
+        int between = cut == 0 || cut == 1 || cut == 3 || cut == 6 || cut == 10;
+        size_t place = tembalku_text_validate((const uint8_t *)name.text, cut);
+        CHECK(place == (between ? cut : cut < 3 ? 1u : cut < 6 ? 3u : 6u), "the place of a cut character", place);
+    }
+}
+
+/* A byte that is wrong at each place of letters, of each length up to 40, at the end of a page; and none that is. */
+static void test_long_texts(void) {
+    static const uint8_t wrong[] = {0x80, 0xC3, 0xE5, 0xF4, 0xFF};
+    for (size_t len = 0; len <= 40; len++) {
+        uint8_t *text = memset(at_page_end(len), 'a', len);
+        CHECK(tembalku_text_validate(text, len) == len, "letters", len);
+        for (size_t place = 0; place < len; place++) {
+            for (size_t i = 0; i < sizeof wrong; i++) {
+                text[place] = wrong[i];
+                CHECK(tembalku_text_validate(text, len) == place, "a wrong byte at", place);
+            }
+            text[place] = 'a';
+        }
+    }
+}
+
+static void test_texts(void) {
+    for (size_t i = 0; i < sizeof texts / sizeof *texts; i++) test_text(texts[i]);
+    test_cut_texts();
+    test_long_texts();
+}
+
 static void test_helpers(void) {
     struct tembalku_answer a;
     const input r = {column_rule, sizeof column_rule};
@@ -625,6 +691,7 @@ int main(void) {
     test_helpers();
     test_no_answers();
     test_answer_counts();
+    test_texts();
     test_bits();
     test_no_entries();
     test_most_rows();

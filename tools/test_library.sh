@@ -1,17 +1,14 @@
 #!/bin/sh
 # test_library.sh [LIBRARY]: tests what a program that embeds the library takes: the header as C and C++, the library through the header
 # (tools/test_library.c), the bytes of docs/FORMAT.md, the examples, and an installed library, linked statically and as a shared object.
-# Without LIBRARY it is made by `rt staticlib tembalku`. Needs gcc, g++, nm and pkg-config.
+# Without LIBRARY it is made by tools/build_library.sh. Needs gcc, g++, nm and pkg-config.
 set -eu
 for tool in gcc g++ nm pkg-config; do
     command -v "$tool" > /dev/null || { echo "test_library.sh: $tool isn't there: it is needed for this test" >&2; exit 1; }
 done
 [ $# -eq 0 ] || library=$(realpath "$1")
 cd "$(dirname "$0")/.."
-if [ $# -eq 0 ]; then
-    rt staticlib tembalku > /dev/null
-    library=$(realpath target/staticlib/libtembalku.a)
-fi
+[ $# -gt 0 ] || library=$(tools/build_library.sh 2> /dev/null)
 scratch=$(mktemp -d)
 trap 'rm -rf "$scratch"' EXIT
 

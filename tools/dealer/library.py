@@ -8,7 +8,7 @@ from dealer.reading import read_answer
 from dealer.text import FileError
 
 ROOT = os.path.dirname(os.path.dirname(os.path.dirname(os.path.abspath(__file__))))
-ARCHIVE = os.path.join("target", "staticlib", "libtembalku.a")
+ARCHIVE = os.path.join("crates", "tembalku", "out", "libtembalku.a")
 WORK_BYTES, OUTPUT_MOST = 65536, 67670
 RULE_ACCEPTED, TABLE_ACCEPTED, ANSWERED = 256, 65536, 65536
 
@@ -17,11 +17,11 @@ def archive_path(given=None):
     """The archive that is given, or the one that is built in the repository."""
     if given is not None:
         if not os.path.isfile(given):
-            raise FileError(f"{given}: there is no such library: `rt staticlib tembalku` writes {ARCHIVE}")
+            raise FileError(f"{given}: there is no such library: tools/build_library.sh writes {ARCHIVE}")
         return given
     built = os.path.join(ROOT, ARCHIVE)
     if not os.path.isfile(built):
-        raise FileError(f"the library isn't built: `rt staticlib tembalku` writes {ARCHIVE}; or name one with --library ARCHIVE")
+        raise FileError(f"the library isn't built: tools/build_library.sh writes {ARCHIVE}; or name one with --library ARCHIVE")
     return built
 
 

@@ -1,7 +1,8 @@
 // Files that are read into lent buffers, the arguments that name them, and what is said of a file that can't be read.
 #![tactic(auto)]
 
-ghost use Rattle.std.specs.Prelude.{◌≡◌, ◌≤◌, length, IfOk};
+ghost use Rattle.std.specs.Prelude.{◌≡◌, ◌≤◌, length, take, IfOk};
+ghost use Rattle.std.specs.Io.KnownBytes.{Consumes};
 
 use std::env::FillError;
 use std::io::{Error, ErrorKind, Read};
@@ -64,9 +65,11 @@ pub fn open<R: Files>(rt: &R, path: &[u8]) -> io::Result<R::File> {
     }
 }
 
-// Reads until the buffer is full, the file ends or a read fails, and gives how many bytes are at the buffer's front.
-pub fn read_full(file: &mut impl Read, buffer: &mut [u8]) -> usize
-    ensures { result ≤ length buffer.new }
+// Reads until the buffer is full, the file ends or a read fails, and gives how many bytes are at the buffer's front: the first that the file
+// had left.
+pub fn read_full<R: Read>(file: &mut R, buffer: &mut [u8]) -> usize
+    ensures in_bounds { result ≤ length buffer.new }
+    ensures bytes { Consumes (R.remaining file.old) (R.remaining file.new) (take result buffer.new) }
 {
     let mut done = 0;
     while done < buffer.len() {

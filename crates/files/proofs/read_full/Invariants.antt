@@ -1,9 +1,12 @@
--- `read_full`: what was read stays inside of the buffer, and what is left of it falls.
-use Rattle.std.proofs.Common.{length, ◌-◌, ◌≤◌}
+-- `read_full`: what was read stays inside of the buffer and is what the file lost; what is left of the buffer falls.
+use Rattle.std.proofs.Common.{length, take, ◌-◌, ◌≡◌, ◌≤◌}
+use Rattle.std.specs.Io.KnownBytes.{Consumes}
 use Rattle.files.proofs.read_full.Given as goal
 
 abbrev pub invariant-loop-done : goal.invariant-loop-done
-invariant-loop-done g l = l.done ≤ length l.buffer
+invariant-loop-done g l =
+    (length l.buffer ≡ length l.initial.buffer) × (l.done ≤ length l.buffer)
+    × Consumes (g.R.Read.remaining l.initial.file) (g.R.Read.remaining l.file) (take l.done l.buffer)
 
 abbrev pub decreases-loop-done : goal.decreases-loop-done
 decreases-loop-done g l = length l.initial.buffer - l.done
