@@ -1,5 +1,4 @@
 -- `tembalku_answer_null_count`: the nulls of an answer, as one number.
-use borrow.Author.Rules.{rules}
 use Rattle.table.specs.Reading.{read_alone}
 use Rattle.tembalku.proofs.CodeLaws.{answer_refused, answer_nulls}
 use Rattle.tembalku.proofs.tembalku_answer_null_count.Goals as goal

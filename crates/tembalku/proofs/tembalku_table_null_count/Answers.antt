@@ -1,8 +1,6 @@
 -- `tembalku_table_null_count`: the answer about a column's nulls, as one number.
-use mathlib.Core.Path.{sym, ap, ◌∙◌}
+use mathlib.Core.Path.{sym, ◌∙◌}
 use native.Mathlib.Omega.{arith}
-use borrow.Author.Rules.{rules}
-use Rattle.tembalku.specs.Codes.{null_count_code}
 use Rattle.tembalku.proofs.CodeLaws.{nulls_few}
 use Rattle.tembalku.proofs.tembalku_table_null_count.Goals as goal
 

@@ -1,7 +1,6 @@
 -- `tembalku_table_read`: the answer of the reading, as one number.
 use native.Mathlib.Omega.{arith}
 use Rattle.tembalku.proofs.CodeLaws.{table_refused_lem, table_rows, table_accepted}
-use borrow.Author.Rules.{rules}
 use Rattle.table.proofs.StandLaws.{table_read}
 use Rattle.tembalku.proofs.tembalku_table_read.Goals as goal
 
