@@ -3,7 +3,7 @@ use Rattle.std.proofs.Common.{◌≡◌, ℕ, zero, suc, ◌+◌, ◌<◌, ◌�
 use mathlib.Core.Bool.{false≢true}
 use mathlib.Core.Option.{Option, some, none}
 use native.Mathlib.Decide.{ℕ_discrete}
-use Rattle.layout.specs.Result.{refused, ok}
+use Rattle.layout.specs.Result.{ok}
 use Rattle.layout.proofs.TestLaws.{both_hold}
 use Rattle.layout.proofs.ResultLaws.{ok_injective, refused_not_ok}
 use Rattle.builder.specs.declared.ResultBuilder.{ResultBuilder}

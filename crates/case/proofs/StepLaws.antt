@@ -14,7 +14,7 @@ use Rattle.scalar.specs.Compare.{equal_entry, less_entry}
 use Rattle.scalar.specs.Order.{key_of, Numbered}
 use Rattle.scalar.proofs.OrderLaws.{value_numbered}
 use Rattle.scalar.proofs.CompareLaws.{numbers_equal, numbers_less}
-use Rattle.rule.specs.Tree.{Expr, column, Branches, no_more, branch, branch_count}
+use Rattle.rule.specs.Tree.{Expr, Branches, no_more, branch, branch_count}
 use Rattle.rule.specs.Row.{Row, is_true_test, chosen, eval, eval_branches}
 use Rattle.rule.specs.Node.{NodeAt}
 use Rattle.rule.specs.Walks.{branch_trees, children_of, TreesAt, EndGives, ChildrenGives, BehindGives, LiteralGives}

@@ -1,7 +1,4 @@
-use Rattle.std.proofs.Common.{ℕ, ◌-◌, cond, sym, ◌∙◌, arith}
-use Rattle.case.specs.Frame.{slot_at, next_slot}
-use Rattle.case.specs.Steps.{RowsIndexed}
-use Rattle.case.specs.Taking.{CodeRight}
+use Rattle.std.proofs.Common.{sym, ◌∙◌, arith}
 use Rattle.case.proofs.StepLaws.{indices_none, indices_room, indices_more, indices_all}
 use Rattle.case.proofs.CodeLaws.{code_right}
 use Rattle.case.proofs.binary.compare_list.Goals as goal

@@ -1,10 +1,8 @@
 -- `compare_list` gives each row the number of its comparison. The loop's invariant: the first rows have theirs.
-use Rattle.std.proofs.Common.{ℕ, ◌-◌, cond, sym, ◌∙◌, arith}
+use Rattle.std.proofs.Common.{ℕ, ◌-◌, cond}
 use Rattle.case.specs.Frame.{slot_at, next_slot}
 use Rattle.case.specs.Steps.{RowsIndexed}
 use Rattle.case.specs.Taking.{CodeRight}
-use Rattle.case.proofs.StepLaws.{indices_none, indices_room, indices_more, indices_all}
-use Rattle.case.proofs.CodeLaws.{code_right}
 use Rattle.case.proofs.binary.compare_list.Given as goal
 
 abbrev pub invariant-loop-i : goal.invariant-loop-i

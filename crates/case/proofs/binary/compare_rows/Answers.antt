@@ -1,5 +1,4 @@
 -- `compare_rows` puts the comparison of two slots in the slots of the listed rows.
-use Rattle.std.proofs.Common.{rules}
 use Rattle.case.proofs.CodeLaws.{codes_filled}
 use Rattle.case.proofs.binary.compare_rows.Goals as goal
 

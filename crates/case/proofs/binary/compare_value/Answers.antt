@@ -1,5 +1,4 @@
 -- `compare_value` puts the comparison with one value in the slots of the listed rows.
-use Rattle.std.proofs.Common.{rules}
 use Rattle.case.proofs.CodeLaws.{codes_filled}
 use Rattle.case.proofs.binary.compare_value.Goals as goal
 

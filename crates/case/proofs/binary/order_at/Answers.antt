@@ -1,5 +1,4 @@
 -- `order_at` gives the order of two values, by their texts where both are text, else by their keys.
-use Rattle.std.proofs.Common.{⊎_elim, rules}
 use Rattle.scalar.proofs.OrderLaws.{both_text, not_both_text}
 use Rattle.case.proofs.CodeLaws.{first_none, second_none}
 use Rattle.case.proofs.binary.order_at.Goals as goal

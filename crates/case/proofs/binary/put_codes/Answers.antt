@@ -1,7 +1,5 @@
-use Rattle.std.proofs.Common.{◌≡◌, ℕ, ◌-◌, get_or, arith, rules}
-use Rattle.scalar.specs.declared.value.Value.{Value}
-use Rattle.case.specs.Taking.{code_value}
-use Rattle.case.proofs.RowsLaws.{FilledSoFar, none_yet, ends, row_in, row_fits, next}
+use Rattle.std.proofs.Common.{get_or, arith}
+use Rattle.case.proofs.RowsLaws.{none_yet, ends, row_in, row_fits, next}
 use Rattle.case.proofs.CodeLaws.{code_stores}
 use Rattle.case.proofs.binary.put_codes.Goals as goal
 

@@ -1,8 +1,5 @@
-use Rattle.std.proofs.Common.{ℕ, ◌-◌, get_or, sym, ◌∙◌, arith}
-use Rattle.scalar.specs.Entry.{entry, utf8}
-use Rattle.scalar.specs.Value.{meaning}
-use Rattle.case.specs.LookUpTables.{same_key, value_at}
-use Rattle.case.proofs.LookUpLaws.{Searching, search_starts, search_misses, search_hits, search_ends}
+use Rattle.std.proofs.Common.{sym, ◌∙◌, arith}
+use Rattle.case.proofs.LookUpLaws.{search_misses, search_hits, search_ends}
 use Rattle.case.proofs.bytes_like_lookup_table.find_text.Goals as goal
 
 pub loop-k-preserved : goal.loop-k-preserved

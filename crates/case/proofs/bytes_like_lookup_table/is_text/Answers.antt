@@ -1,6 +1,6 @@
 -- `is_text` tells by the kind what is no text, then by the size, then by the bytes.
-use Rattle.std.proofs.Common.{arith, rules}
-use Rattle.case.proofs.LookUpLaws.{text_nowhere, text_unlike, text_few, text_like}
+use Rattle.std.proofs.Common.{arith}
+use Rattle.case.proofs.LookUpLaws.{text_nowhere, text_unlike, text_like}
 use Rattle.case.proofs.bytes_like_lookup_table.is_text.Goals as goal
 
 pub returns-then-kind-lt5 : goal.returns-then-kind-lt5

@@ -1,5 +1,5 @@
 -- `key_hint` goes by the kind: a text's hint, wherever it lies; what is no text has 0.
-use Rattle.std.proofs.Common.{arith, rules}
+use Rattle.std.proofs.Common.{arith}
 use Rattle.case.proofs.LookUpColumnLaws.{hint_in_rule, hint_in_table, hint_nowhere}
 use Rattle.case.proofs.bytes_like_lookup_table.key_hint.Goals as goal
 

@@ -1,5 +1,4 @@
 -- The key, or the first of all.
-use Rattle.std.proofs.Common.{arith, rules}
 use Rattle.case.proofs.LookUpColumnLaws.{text_found_here}
 use Rattle.case.proofs.bytes_like_lookup_table.likely_index.Goals as goal
 

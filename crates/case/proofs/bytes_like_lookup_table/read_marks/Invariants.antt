@@ -1,7 +1,6 @@
 -- `read_marks` goes key by key. The loop's invariant: the keys passed have their sizes and marks, and the others the size 0.
-use Rattle.std.proofs.Common.{◌-◌, ◌≤◌, sym, ◌∙◌, arith, rules}
+use Rattle.std.proofs.Common.{◌-◌, ◌≤◌}
 use Rattle.case.specs.LookUpColumns.{Marked}
-use Rattle.case.proofs.MarkLaws.{marks_none, marks_more}
 use Rattle.case.proofs.bytes_like_lookup_table.read_marks.Given as goal
 
 abbrev pub invariant-loop-k : goal.invariant-loop-k

@@ -1,7 +1,7 @@
-use Rattle.std.proofs.Common.{◌≡◌, ◌-◌, ◌≤◌, length, drop, refl, arith}
+use Rattle.std.proofs.Common.{◌-◌, length, refl, arith}
 use Rattle.scalar.specs.Value.{place_text}
 use Rattle.case.specs.LookUpTables.{bytes_of}
-use Rattle.case.proofs.WordLaws.{words_unlike, backs_none, backs_more, words_end, kind_bytes, kind_room, beside_long, beside_bytes, beside_word}
+use Rattle.case.proofs.WordLaws.{words_unlike, backs_more, words_end, kind_bytes, beside_long, beside_bytes, beside_word}
 use Rattle.case.proofs.bytes_like_lookup_table.same_in.Goals as goal
 
 pub returns-then-word-word_in : goal.returns-then-word-word_in

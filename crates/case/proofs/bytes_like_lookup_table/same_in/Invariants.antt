@@ -1,8 +1,7 @@
 -- `same_in` goes four bytes at a time. The loop's invariant: from `left` on the texts are one.
-use Rattle.std.proofs.Common.{◌≡◌, ◌-◌, ◌≤◌, length, drop, refl, arith}
+use Rattle.std.proofs.Common.{◌≡◌, ◌≤◌, length, drop}
 use Rattle.scalar.specs.Value.{place_text}
 use Rattle.case.specs.LookUpTables.{bytes_of}
-use Rattle.case.proofs.WordLaws.{words_unlike, backs_none, backs_more, words_end, kind_bytes, kind_room, beside_long, beside_bytes, beside_word}
 use Rattle.case.proofs.bytes_like_lookup_table.same_in.Given as goal
 
 abbrev pub invariant-loop-left : goal.invariant-loop-left

@@ -1,7 +1,7 @@
-use Rattle.std.proofs.Common.{◌≡◌, ◌-◌, ◌≤◌, length, drop, refl, arith}
+use Rattle.std.proofs.Common.{◌-◌, length, refl, arith}
 use Rattle.scalar.specs.Value.{place_text}
 use Rattle.case.specs.LookUpTables.{bytes_of}
-use Rattle.case.proofs.WordLaws.{backs_none, backs_all, kind_room, beside_long, byte_unlike, byte_more}
+use Rattle.case.proofs.WordLaws.{backs_all, byte_unlike, byte_more}
 use Rattle.case.proofs.bytes_like_lookup_table.same_short.Goals as goal
 
 pub returns-then-text-left : goal.returns-then-text-left

@@ -1,8 +1,7 @@
 -- `same_short` goes byte by byte. The loop's invariant: from `left` on the texts are one.
-use Rattle.std.proofs.Common.{◌≡◌, ◌-◌, ◌≤◌, length, drop, refl, arith}
+use Rattle.std.proofs.Common.{◌≡◌, ◌≤◌, length, drop}
 use Rattle.scalar.specs.Value.{place_text}
 use Rattle.case.specs.LookUpTables.{bytes_of}
-use Rattle.case.proofs.WordLaws.{backs_none, backs_all, kind_room, beside_long, byte_unlike, byte_more}
 use Rattle.case.proofs.bytes_like_lookup_table.same_short.Given as goal
 
 abbrev pub invariant-loop-left : goal.invariant-loop-left

@@ -1,5 +1,5 @@
 -- The key that left the hint, by its mark, none, or the first of all.
-use Rattle.std.proofs.Common.{◌-◌, get_or, refl, arith, rules}
+use Rattle.std.proofs.Common.{◌-◌, get_or, refl, arith}
 use Rattle.case.proofs.LookUpColumnLaws.{text_found_nowhere, text_found_here}
 use Rattle.case.proofs.MarkLaws.{marked_same}
 use Rattle.case.proofs.bytes_like_lookup_table.text_index.Goals as goal

@@ -1,17 +1,8 @@
 -- The cycle of calls that evaluates expressions and CASEs over a list of rows. The measure is sixteen times the depth that is left, and how far a
 -- call is from the next node. What is to be shown at each call and at each return is a law over plain lists.
-use Rattle.std.proofs.Common.{ℕ, ◌+◌, ◌-◌, ◌*◌, ◌<◌, sym, refl, ◌∙◌, arith, rules}
-use Rattle.case.proofs.FrameLaws.{rows_to, rows_small, framed_fillable, framed_kept, framed_below}
-use Rattle.case.proofs.ExprLaws.{expr_none, expr_behind, expr_column, expr_literal, expr_case, expr_unary, expr_binary, unary_gives, binary_gives, against_none, against_value, against_asks, against_next, against_rows, back_long}
-use Rattle.case.proofs.LookUpCase.{keyed_case}
-use Rattle.case.proofs.CaseLaws.{shape_1, shape_2, shape_3, shape_4, shape_5, shape_6, case_none, case_behind, case_by, scalar_gives, column_gives, lookup_gives, no_expr_gives, single_gives, no_expr_steps, single_steps, scalar_steps, with_expr_gives, by_base_gives}
-use Rattle.case.proofs.ChooseLaws.{open_rows, open_self, step_asks, step_turn, turn_room, turn_asks, turn_long, turn_open, turn_gives, Chosen, choose_none, choose_ahead, choose_end, choose_more}
-use Rattle.case.proofs.TakeLaws.{picked_room, picked_asks, picked_next, next_asks, next_fillable, next_room, next_takes, then_known, then_takes, else_none, else_known_lem, else_next, else_again, else_takes, Taken, start_framed, start_done, take_none, take_framed, take_more, take_end}
-use Rattle.case.proofs.MergeLaws.{branches_ahead, branches_open, branches_framed, branches_gives}
-use Rattle.rule.proofs.StrategyLaws.{strategy_gives}
-use Rattle.rule.proofs.LiteralLaws.{literal_gives}
-use Rattle.rule.proofs.WalkLaws.{children_gives, end_gives}
-use Rattle.rule.proofs.TypeOfLaws.{type_gives}
+use Rattle.std.proofs.Common.{◌+◌, ◌-◌, ◌*◌}
+use Rattle.case.proofs.ChooseLaws.{Chosen}
+use Rattle.case.proofs.TakeLaws.{Taken}
 use Rattle.case.proofs.case.+expressions.Given as goal
 
 abbrev pub decreases-against : goal.decreases-against

@@ -1,6 +1,5 @@
 -- By the base's flag.
-use Rattle.std.proofs.Common.{ℕ, ◌+◌, ◌%◌, sym, refl, ap, ◌∙◌, arith, rules}
-use lib.ListN.{get_or-eq_default}
+use Rattle.std.proofs.Common.{ℕ, ◌%◌, sym, ap, ◌∙◌}
 use Rattle.rule.proofs.WalkLaws.{end_gives}
 use Rattle.case.proofs.case_values.branches_at.Goals as goal
 

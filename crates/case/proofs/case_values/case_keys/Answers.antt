@@ -1,6 +1,5 @@
 -- The keys, or none.
 use Rattle.case.proofs.CaseValueLaws.{list_rows, keys_found, keys_missed}
-use Rattle.std.proofs.Common.{rules}
 use Rattle.rule.proofs.WalkLaws.{end_gives}
 use Rattle.case.proofs.case_values.case_keys.Goals as goal
 

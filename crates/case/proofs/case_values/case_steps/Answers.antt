@@ -1,6 +1,5 @@
 -- The steps, or none.
 use Rattle.case.proofs.CaseValueLaws.{list_small, steps_found, steps_missed}
-use Rattle.std.proofs.Common.{rules}
 use Rattle.case.proofs.case_values.case_steps.Goals as goal
 
 pub step_values-requires : goal.step_values-requires

@@ -1,5 +1,5 @@
 -- By the strategy: steps without a base, keys with one, else none.
-use Rattle.std.proofs.Common.{sym, ◌∙◌, rules}
+use Rattle.std.proofs.Common.{sym, ◌∙◌}
 use Rattle.case.proofs.CaseLaws.{shape_1, shape_4, shape_5}
 use Rattle.case.proofs.CaseValueLaws.{values_none, by_steps, by_keys}
 use Rattle.rule.proofs.StrategyLaws.{strategy_gives}

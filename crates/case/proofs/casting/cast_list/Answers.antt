@@ -1,9 +1,9 @@
-use Rattle.std.proofs.Common.{ℕ, ◌-◌, ◌∙◌, subst, arith}
+use Rattle.std.proofs.Common.{◌∙◌, subst, arith}
 use Rattle.scalar.specs.declared.value.Value.{Value}
 use Rattle.scalar.specs.Value.{Gives}
-use Rattle.case.specs.Frame.{slot_at, operation_of}
+use Rattle.case.specs.Frame.{operation_of}
 use Rattle.case.specs.Casting.{cast_to}
-use Rattle.case.proofs.RowsLaws.{FilledFromSoFar, none_yet, ends, row_in_from, row_fits_from, slot_fresh_from, next_from}
+use Rattle.case.proofs.RowsLaws.{none_yet, ends, row_in_from, row_fits_from, slot_fresh_from, next_from}
 use Rattle.case.proofs.casting.cast_list.Goals as goal
 
 pub loop-i-init : goal.loop-i-init

@@ -1,10 +1,10 @@
 -- `cast_list` puts the casts in the slots of the rows of a list. The loop's invariant: so far it is there.
-use Rattle.std.proofs.Common.{ℕ, ◌-◌, ◌∙◌, subst, arith}
+use Rattle.std.proofs.Common.{ℕ, ◌-◌}
 use Rattle.scalar.specs.declared.value.Value.{Value}
 use Rattle.scalar.specs.Value.{Gives}
 use Rattle.case.specs.Frame.{slot_at, operation_of}
 use Rattle.case.specs.Casting.{cast_to}
-use Rattle.case.proofs.RowsLaws.{FilledFromSoFar, none_yet, ends, row_in_from, row_fits_from, slot_fresh_from, next_from}
+use Rattle.case.proofs.RowsLaws.{FilledFromSoFar}
 use Rattle.case.proofs.casting.cast_list.Given as goal
 
 abbrev pub invariant-loop-i : goal.invariant-loop-i

@@ -1,5 +1,5 @@
 -- `cast_rows` casts the first rows' floats by their bits, and the rows behind them by the values.
-use Rattle.std.proofs.Common.{arith, rules}
+use Rattle.std.proofs.Common.{arith}
 use Rattle.case.specs.Casting.{cast_to}
 use Rattle.case.proofs.CastingLaws.{behind_fillable, behind_done}
 use Rattle.case.proofs.casting.cast_rows.Goals as goal

@@ -1,5 +1,4 @@
 -- `truncate_floats` by the type.
-use Rattle.std.proofs.Common.{rules}
 use Rattle.case.proofs.CastingLaws.{none_cast, cast_by}
 use Rattle.case.proofs.casting.truncate_floats.Goals as goal
 

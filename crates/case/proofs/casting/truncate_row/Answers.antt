@@ -1,5 +1,5 @@
 -- `truncate_row` casts a float, keeps a null, and ends at any other value.
-use Rattle.std.proofs.Common.{refl, arith, rules}
+use Rattle.std.proofs.Common.{refl, arith}
 use Rattle.scalar.proofs.FloatLaws.{float_stores}
 use Rattle.case.proofs.CastingLaws.{float_row, other_row}
 use Rattle.case.proofs.casting.truncate_row.Goals as goal

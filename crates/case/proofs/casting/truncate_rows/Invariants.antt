@@ -1,12 +1,10 @@
 -- `truncate_rows` casts the floats of the first rows. The loop's invariant: so far they are cast.
-use Rattle.std.proofs.Common.{ℕ, ◌-◌, arith}
-use borrow.Author.Tests.{not-true, not-false}
+use Rattle.std.proofs.Common.{ℕ, ◌-◌}
 use Rattle.scalar.specs.declared.value.Value.{Value}
 use Rattle.scalar.specs.Value.{Gives}
 use Rattle.case.specs.Frame.{slot_at, operation_of}
 use Rattle.case.specs.Casting.{cast_to, integer_type}
-use Rattle.case.proofs.RowsLaws.{FilledSoFar, none_yet, row_in, row_fits}
-use Rattle.case.proofs.CastingLaws.{row_done, row_kept}
+use Rattle.case.proofs.RowsLaws.{FilledSoFar}
 use Rattle.case.proofs.casting.truncate_rows.Given as goal
 
 abbrev pub invariant-loop-i : goal.invariant-loop-i

@@ -1,5 +1,4 @@
 -- `truncated` is the cast by the bits, or the try-cast.
-use Rattle.std.proofs.Common.{rules}
 use Rattle.case.proofs.CastingLaws.{cast_right, try_right}
 use Rattle.case.proofs.casting.truncated.Goals as goal
 

@@ -1,5 +1,5 @@
 -- The table has the column that the node names, or the slots are null but where they failed.
-use Rattle.std.proofs.Common.{arith, rules, ◌≡◌, ◌∙◌, length}
+use Rattle.std.proofs.Common.{arith, ◌≡◌, ◌∙◌, length}
 use Rattle.std.proofs.Math.ListN.{length-map}
 use Rattle.table.specs.declared.places.ColumnPlace.{ColumnPlace}
 use Rattle.case.proofs.CellLaws.{or_null_behind, or_null_none, or_null_some}

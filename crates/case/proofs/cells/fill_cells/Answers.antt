@@ -1,5 +1,5 @@
 -- The table has the column, or the slots are null.
-use Rattle.std.proofs.Common.{arith, rules, ◌≡◌, ◌∙◌, length}
+use Rattle.std.proofs.Common.{arith, ◌≡◌, ◌∙◌, length}
 use Rattle.std.proofs.Math.ListN.{length-map}
 use Rattle.table.specs.declared.places.ColumnPlace.{ColumnPlace}
 use Rattle.case.proofs.CellLaws.{cells_none, cells_some}

@@ -1,5 +1,5 @@
 -- `entry_or_null` goes by the test's truth.
-use Rattle.std.proofs.Common.{◌∙◌, arith, rules}
+use Rattle.std.proofs.Common.{◌∙◌, arith}
 use Rattle.case.proofs.TruthLaws.{chosen_by}
 use Rattle.scalar.specs.Entry.{Entry, entry}
 use Rattle.scalar.specs.Value.{meaning}

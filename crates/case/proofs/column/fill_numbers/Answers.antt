@@ -1,7 +1,6 @@
-use Rattle.std.proofs.Common.{◌-◌, arith}
-use Rattle.case.proofs.RowsLaws.{FilledSoFar, none_yet, ends, row_in, row_fits, next}
+use Rattle.std.proofs.Common.{arith}
+use Rattle.case.proofs.RowsLaws.{none_yet, ends, row_in, row_fits, next}
 use Rattle.case.proofs.ColumnSlotLaws.{number_right}
-use Rattle.case.specs.ColumnSlots.{NumberRight}
 use Rattle.case.proofs.column.fill_numbers.Goals as goal
 
 pub loop-i-init : goal.loop-i-init

@@ -1,7 +1,6 @@
 -- `fill_numbers` puts a column's entries in the slots of the listed rows. The loop's invariant: so far it is there.
-use Rattle.std.proofs.Common.{◌-◌, arith}
-use Rattle.case.proofs.RowsLaws.{FilledSoFar, none_yet, ends, row_in, row_fits, next}
-use Rattle.case.proofs.ColumnSlotLaws.{number_right}
+use Rattle.std.proofs.Common.{◌-◌}
+use Rattle.case.proofs.RowsLaws.{FilledSoFar}
 use Rattle.case.specs.ColumnSlots.{NumberRight}
 use Rattle.case.proofs.column.fill_numbers.Given as goal
 

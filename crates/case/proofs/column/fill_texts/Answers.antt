@@ -1,7 +1,5 @@
-use Rattle.std.proofs.Common.{◌-◌, arith}
-use Rattle.layout.specs.Bytes.{part}
-use Rattle.case.proofs.RowsLaws.{FilledSoFar, none_yet, ends, row_in, row_fits, next}
-use Rattle.case.specs.ColumnSlots.{TextRight}
+use Rattle.std.proofs.Common.{arith}
+use Rattle.case.proofs.RowsLaws.{none_yet, ends, row_in, row_fits, next}
 use Rattle.case.proofs.column.fill_texts.Goals as goal
 
 pub loop-i-init : goal.loop-i-init

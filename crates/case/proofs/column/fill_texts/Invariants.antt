@@ -1,7 +1,7 @@
 -- `fill_texts` puts a column's texts in the slots of the listed rows. The loop's invariant: so far it is there.
-use Rattle.std.proofs.Common.{◌-◌, arith}
+use Rattle.std.proofs.Common.{◌-◌}
 use Rattle.layout.specs.Bytes.{part}
-use Rattle.case.proofs.RowsLaws.{FilledSoFar, none_yet, ends, row_in, row_fits, next}
+use Rattle.case.proofs.RowsLaws.{FilledSoFar}
 use Rattle.case.specs.ColumnSlots.{TextRight}
 use Rattle.case.proofs.column.fill_texts.Given as goal
 

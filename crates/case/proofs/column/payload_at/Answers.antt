@@ -1,6 +1,5 @@
 -- `payload_at` goes by the type.
-use Rattle.std.proofs.Common.{rules}
-use Rattle.case.proofs.ColumnSlotLaws.{boolean_payload, int32_payload, int64_payload, float64_payload, text_payload}
+use Rattle.case.proofs.ColumnSlotLaws.{boolean_payload, int32_payload, int64_payload, float64_payload}
 use Rattle.case.proofs.column.payload_at.Goals as goal
 
 pub returns-in-Boolean : goal.returns-in-Boolean

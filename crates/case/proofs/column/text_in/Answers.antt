@@ -1,8 +1,7 @@
 -- `text_in` goes by the validity.
-use Rattle.std.proofs.Common.{rules}
 use Rattle.layout.specs.Bytes.{part}
 use Rattle.table.proofs.EntryLaws.{text_between_gives}
-use Rattle.case.proofs.ColumnSlotLaws.{text_valid, text_null}
+use Rattle.case.proofs.ColumnSlotLaws.{text_valid}
 use Rattle.case.proofs.column.text_in.Goals as goal
 
 pub returns-then-valid_at : goal.returns-then-valid_at

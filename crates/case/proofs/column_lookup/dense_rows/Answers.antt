@@ -1,7 +1,4 @@
-use Rattle.std.proofs.Common.{◌≡◌, ℕ, ◌-◌, sym, ◌∙◌, arith}
-use Rattle.case.specs.Steps.{RowsIndexed}
-use Rattle.case.specs.LookUpColumns.{dense_row}
-use Rattle.case.proofs.StepLaws.{indices_none, indices_room, indices_more, indices_all}
+use Rattle.case.proofs.StepLaws.{indices_more}
 use Rattle.case.proofs.column_lookup.dense_rows.Goals as goal
 
 pub loop-i-preserved : goal.loop-i-preserved

@@ -1,8 +1,7 @@
 -- `dense_rows` gives each row its index. The loop's invariant: the first rows have theirs.
-use Rattle.std.proofs.Common.{◌≡◌, ℕ, ◌-◌, sym, ◌∙◌, arith}
+use Rattle.std.proofs.Common.{◌≡◌, ℕ, ◌-◌}
 use Rattle.case.specs.Steps.{RowsIndexed}
 use Rattle.case.specs.LookUpColumns.{dense_row}
-use Rattle.case.proofs.StepLaws.{indices_none, indices_room, indices_more, indices_all}
 use Rattle.case.proofs.column_lookup.dense_rows.Given as goal
 
 abbrev pub invariant-loop-i : goal.invariant-loop-i

@@ -1,5 +1,5 @@
 -- By a dense table, or by the hints.
-use Rattle.std.proofs.Common.{sym, refl, ◌∙◌, rules}
+use Rattle.std.proofs.Common.{sym, refl, ◌∙◌}
 use Rattle.case.proofs.DenseLaws.{rows_dense}
 use Rattle.case.proofs.column_lookup.keyed_rows.Goals as goal
 

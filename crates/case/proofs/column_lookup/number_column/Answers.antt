@@ -1,6 +1,5 @@
 -- The numbers of the keys and of the column are read, and each row has its index; or no row has one.
-use Rattle.std.proofs.Common.{refl, rules}
-use borrow.Author.Tests.{not-false}
+use Rattle.std.proofs.Common.{refl}
 use Rattle.case.proofs.FrameLaws.{rows_small}
 use Rattle.case.proofs.LookUpTrees.{zeros}
 use Rattle.case.proofs.LookUpColumnLaws.{numbers_table, column_refused, numbers_keyed, type_some}

@@ -1,6 +1,5 @@
 -- ELSE's index of a null, or the index of the number.
-use Rattle.std.proofs.Common.{get_or, refl, arith, rules}
-use borrow.Author.Tests.{not-true, not-false}
+use Rattle.std.proofs.Common.{get_or, refl, arith}
 use Rattle.case.proofs.LookUpColumnLaws.{number_below, number_null, number_value}
 use Rattle.case.proofs.column_lookup.number_row.Goals as goal
 

@@ -1,6 +1,4 @@
-use Rattle.std.proofs.Common.{◌-◌, sym, ◌∙◌, arith}
-use Rattle.case.specs.Steps.{RowsIndexed}
-use Rattle.case.specs.LookUpColumns.{NumberRow}
+use Rattle.std.proofs.Common.{sym, ◌∙◌, arith}
 use Rattle.case.proofs.StepLaws.{indices_none, indices_room, indices_more, indices_all}
 use Rattle.case.proofs.column_lookup.number_rows.Goals as goal
 

@@ -1,5 +1,5 @@
 -- The hints and the marks are read, and each row has its index.
-use Rattle.std.proofs.Common.{refl, rules}
+use Rattle.std.proofs.Common.{refl}
 use Rattle.case.proofs.LookUpTrees.{zeros}
 use Rattle.case.proofs.LookUpColumnLaws.{texts_keyed}
 use Rattle.case.proofs.column_lookup.text_column.Goals as goal

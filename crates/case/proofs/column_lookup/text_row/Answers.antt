@@ -1,6 +1,5 @@
 -- ELSE's index of a null, or the index of the text.
-use Rattle.std.proofs.Common.{refl, arith, rules}
-use borrow.Author.Tests.{not-true, not-false}
+use Rattle.std.proofs.Common.{refl, arith}
 use Rattle.case.proofs.LookUpColumnLaws.{text_null, text_value, text_below}
 use Rattle.case.proofs.column_lookup.text_row.Goals as goal
 

@@ -1,8 +1,7 @@
 -- `text_rows` gives each row its index. The loop's invariant: the first rows have theirs.
-use Rattle.std.proofs.Common.{◌-◌, sym, ◌∙◌, arith}
+use Rattle.std.proofs.Common.{◌-◌}
 use Rattle.case.specs.Steps.{RowsIndexed}
 use Rattle.case.specs.LookUpColumns.{TextRow}
-use Rattle.case.proofs.StepLaws.{indices_none, indices_room, indices_more, indices_all}
 use Rattle.case.proofs.column_lookup.text_rows.Given as goal
 
 abbrev pub invariant-loop-i : goal.invariant-loop-i

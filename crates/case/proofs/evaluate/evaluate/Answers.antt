@@ -1,5 +1,5 @@
 -- A refusal of either reading touches nothing; else what was read is evaluated.
-use Rattle.std.proofs.Common.{arith, rules}
+use Rattle.std.proofs.Common.{arith}
 use Rattle.table.proofs.StandLaws.{table_read}
 use Rattle.case.proofs.EvaluateLaws.{rule_refused, table_refused_lem, both_read}
 use Rattle.case.proofs.evaluate.evaluate.Goals as goal

@@ -1,5 +1,5 @@
 -- 13 and 14 touch nothing; behind them the rows have the outcomes, which are written, and the work buffer is cleared.
-use Rattle.std.proofs.Common.{◌∙◌, ap, arith, rules}
+use Rattle.std.proofs.Common.{◌∙◌, ap, arith}
 use mathlib.Core.Bool.{not}
 use Rattle.case.proofs.EvaluateLaws.{not_fitting, too_short, answer_asks, evaluated}
 use Rattle.case.proofs.evaluate.evaluate_read.Goals as goal

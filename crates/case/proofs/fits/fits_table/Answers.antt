@@ -1,8 +1,7 @@
-use Rattle.std.proofs.Common.{◌-◌, sym, ◌∙◌, inl, inr, ⊎_elim, arith, rules, ◌≡◌, length}
+use Rattle.std.proofs.Common.{sym, ◌∙◌, inl, inr, arith, ◌≡◌, length}
 use Rattle.std.proofs.Math.ListN.{length-map}
 use Rattle.table.specs.declared.places.ColumnPlace.{ColumnPlace}
-use borrow.Author.Tests.{not-true, not-false}
-use Rattle.case.proofs.FitsLaws.{Fitted, fitted_none, fitted_more, table_misfits, beyond_fits}
+use Rattle.case.proofs.FitsLaws.{fitted_none, fitted_more, table_misfits, beyond_fits}
 use Rattle.case.proofs.fits.fits_table.Goals as goal
 use Rattle.case.proofs.fits.fits_table.Goals.{then-mark-ne0+else-not-index_fits, else-mark-ne0}
 

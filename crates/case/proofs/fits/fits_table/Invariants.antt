@@ -1,7 +1,6 @@
 -- `fits_table` tests the marks in turn that a table can have columns for, and that there are no others. The loop's invariant: those below `i` fit. The measure is what is left of 16.
-use Rattle.std.proofs.Common.{◌-◌, sym, ◌∙◌, inl, inr, ⊎_elim, arith, rules}
-use borrow.Author.Tests.{not-true, not-false}
-use Rattle.case.proofs.FitsLaws.{Fitted, fitted_none, fitted_more, table_misfits, beyond_fits}
+use Rattle.std.proofs.Common.{◌-◌}
+use Rattle.case.proofs.FitsLaws.{Fitted}
 use Rattle.case.proofs.fits.fits_table.Given as goal
 
 abbrev pub invariant-loop-i : goal.invariant-loop-i

@@ -1,7 +1,6 @@
 -- `greatest_beyond` goes mark by mark. The loop's invariant: the greatest of those passed. The measure is what is left of 256.
-use Rattle.std.proofs.Common.{◌-◌, ◌≤◌, ⊎_elim, arith}
+use Rattle.std.proofs.Common.{◌-◌, ◌≤◌}
 use Rattle.case.specs.Fitting.{Beyond}
-use Rattle.case.proofs.FitsLaws.{beyond_none, beyond_greater, beyond_less, beyond_all}
 use Rattle.case.proofs.fits.greatest_beyond.Given as goal
 
 abbrev pub invariant-loop-i : goal.invariant-loop-i

@@ -1,5 +1,5 @@
 -- `index_fits` gives no where the column is missing, and else what its place gives.
-use Rattle.std.proofs.Common.{arith, rules, ◌≡◌, ◌∙◌, length}
+use Rattle.std.proofs.Common.{arith, ◌≡◌, ◌∙◌, length}
 use Rattle.std.proofs.Math.ListN.{length-map}
 use Rattle.table.specs.declared.places.ColumnPlace.{ColumnPlace}
 use Rattle.case.proofs.FitsLaws.{index_missing, index_there}

@@ -1,6 +1,5 @@
 -- `cut_keys` gives each row its number. The loop's invariant: the first rows have theirs.
-use Rattle.std.proofs.Common.{◌-◌, sym, ◌∙◌, arith, rules}
-use Rattle.case.proofs.KeyLaws.{keys_none, keys_more, keys_all}
+use Rattle.std.proofs.Common.{◌-◌}
 use Rattle.case.specs.Steps.{KeysAt}
 use Rattle.case.proofs.keys.cut_keys.Given as goal
 

@@ -1,7 +1,5 @@
-use Rattle.std.proofs.Common.{◌-◌, sym, refl, ◌∙◌, arith}
-use Rattle.scalar.specs.declared.types.DataType.TheVariants.{Int32}
-use Rattle.case.proofs.KeyLaws.{key_int32, turned_wraps, keys_none, keys_more, keys_all}
-use Rattle.case.specs.Steps.{KeysAt}
+use Rattle.std.proofs.Common.{refl}
+use Rattle.case.proofs.KeyLaws.{key_int32, turned_wraps, keys_more}
 use Rattle.case.proofs.keys.int32_keys.Goals as goal
 
 pub loop-i-preserved : goal.loop-i-preserved

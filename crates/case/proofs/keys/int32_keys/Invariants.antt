@@ -1,7 +1,6 @@
 -- `int32_keys` gives each row its number: the sign is turned. The loop's invariant: the first rows have theirs.
-use Rattle.std.proofs.Common.{◌-◌, sym, refl, ◌∙◌, arith}
+use Rattle.std.proofs.Common.{◌-◌}
 use Rattle.scalar.specs.declared.types.DataType.TheVariants.{Int32}
-use Rattle.case.proofs.KeyLaws.{key_int32, turned_wraps, keys_none, keys_more, keys_all}
 use Rattle.case.specs.Steps.{KeysAt}
 use Rattle.case.proofs.keys.int32_keys.Given as goal
 

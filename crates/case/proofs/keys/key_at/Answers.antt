@@ -1,7 +1,7 @@
 -- A row's number, type by type.
-use Rattle.std.proofs.Common.{sym, ap, rules}
+use Rattle.std.proofs.Common.{sym, ap}
 use Rattle.scalar.specs.Types.{mark_number}
-use Rattle.case.proofs.KeyLaws.{key_boolean, key_int32, key_int64, key_float64, key_utf8}
+use Rattle.case.proofs.KeyLaws.{key_boolean, key_int32, key_int64, key_float64}
 use Rattle.case.proofs.keys.key_at.Goals as goal
 
 pub returns-then-bit_at : goal.returns-then-bit_at

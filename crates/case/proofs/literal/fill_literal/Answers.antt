@@ -1,6 +1,5 @@
 -- A literal that stands at the place can be stored, so the slots have its value.
 use Rattle.case.proofs.CellLaws.{literal_filled}
-use Rattle.std.proofs.Common.{rules}
 use Rattle.rule.proofs.LiteralLaws.{literal_gives}
 use Rattle.case.proofs.literal.fill_literal.Goals as goal
 

@@ -1,7 +1,6 @@
 -- Both literals can be stored where they stand at their places, the second also once it is cast.
 use Rattle.scalar.proofs.OperationLaws.{try_cast_gives}
 use Rattle.case.proofs.CellLaws.{scalars_filled}
-use Rattle.std.proofs.Common.{rules}
 use Rattle.rule.proofs.TypeOfLaws.{type_gives}
 use Rattle.rule.proofs.WalkLaws.{end_gives}
 use Rattle.rule.proofs.LiteralLaws.{literal_gives}

@@ -1,5 +1,5 @@
 -- `add_key` drops a null WHEN and one whose key is there, and adds any other.
-use Rattle.std.proofs.Common.{sym, subst, arith, length-set, rules}
+use Rattle.std.proofs.Common.{sym, subst, arith, length-set}
 use Rattle.scalar.specs.Value.{Storable}
 use Rattle.scalar.proofs.ValueLaws.{value_of_stores}
 use Rattle.case.proofs.LookUpLaws.{null_dropped, equal_dropped, key_added, added_value}

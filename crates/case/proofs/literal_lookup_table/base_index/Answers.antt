@@ -1,5 +1,4 @@
 -- `base_index` finds a Boolean in its own table, a number by kind and payload and a text by its bytes; null has the ELSE index, a failure the one behind it.
-use Rattle.std.proofs.Common.{rules}
 use Rattle.case.proofs.LookUpLaws.{null_index, boolean_index, int32_index, int64_index, float64_index, nan_index, rule_text_index, table_text_index, failed_index}
 use Rattle.case.proofs.literal_lookup_table.base_index.Goals as goal
 

@@ -1,5 +1,4 @@
-use Rattle.std.proofs.Common.{◌-◌, ◌*◌, ◌≤◌, sym, ◌∙◌, arith}
-use Rattle.case.specs.LookUpTables.{TableOf}
+use Rattle.std.proofs.Common.{sym, ◌∙◌, arith}
 use Rattle.case.proofs.LookUpLaws.{table_none, table_more, table_all}
 use Rattle.case.proofs.literal_lookup_table.fill_table.Goals as goal
 

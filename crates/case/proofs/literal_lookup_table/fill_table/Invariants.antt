@@ -1,7 +1,6 @@
 -- `fill_table` adds the WHENs in order. The loop's invariant: every base has the index in the table that it has among the WHENs so far.
-use Rattle.std.proofs.Common.{◌-◌, ◌*◌, ◌≤◌, sym, ◌∙◌, arith}
+use Rattle.std.proofs.Common.{◌-◌, ◌*◌, ◌≤◌}
 use Rattle.case.specs.LookUpTables.{TableOf}
-use Rattle.case.proofs.LookUpLaws.{table_none, table_more, table_all}
 use Rattle.case.proofs.literal_lookup_table.fill_table.Given as goal
 
 abbrev pub invariant-loop-left : goal.invariant-loop-left

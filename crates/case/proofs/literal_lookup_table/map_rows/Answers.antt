@@ -1,6 +1,6 @@
-use Rattle.std.proofs.Common.{◌-◌, ◌∙◌, arith}
-use Rattle.case.specs.LookUpTables.{key_index, MappedBy}
-use Rattle.case.proofs.RowsLaws.{FilledSoFar, none_yet, ends, row_in, row_fits, slot_fresh, next}
+use Rattle.std.proofs.Common.{◌∙◌, arith}
+use Rattle.case.specs.LookUpTables.{key_index}
+use Rattle.case.proofs.RowsLaws.{none_yet, ends, row_in, row_fits, slot_fresh, next}
 use Rattle.case.proofs.LookUpLaws.{index_below, mapped_row}
 use Rattle.case.proofs.literal_lookup_table.map_rows.Goals as goal
 

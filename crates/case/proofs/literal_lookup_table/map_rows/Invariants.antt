@@ -1,8 +1,7 @@
 -- `map_rows` puts the literal at the index of each row's base in the row's slot. The loop's invariant: so far it is there.
-use Rattle.std.proofs.Common.{◌-◌, ◌∙◌, arith}
+use Rattle.std.proofs.Common.{◌-◌}
 use Rattle.case.specs.LookUpTables.{key_index, MappedBy}
-use Rattle.case.proofs.RowsLaws.{FilledSoFar, none_yet, ends, row_in, row_fits, slot_fresh, next}
-use Rattle.case.proofs.LookUpLaws.{index_below, mapped_row}
+use Rattle.case.proofs.RowsLaws.{FilledSoFar}
 use Rattle.case.proofs.literal_lookup_table.map_rows.Given as goal
 
 abbrev pub invariant-loop-i : goal.invariant-loop-i

@@ -1,5 +1,5 @@
-use Rattle.std.proofs.Common.{◌-◌, sym, ◌∙◌, arith, rules}
-use Rattle.case.proofs.LookUpTrees.{LiteralsSoFar, literals_none, literals_more, literals_ended, literals_all}
+use Rattle.std.proofs.Common.{arith}
+use Rattle.case.proofs.LookUpTrees.{literals_more, literals_ended, literals_all}
 use Rattle.rule.proofs.WalkLaws.{end_gives}
 use Rattle.rule.proofs.LiteralLaws.{literal_gives}
 use Rattle.case.proofs.literal_lookup_table.read_literals.Goals as goal

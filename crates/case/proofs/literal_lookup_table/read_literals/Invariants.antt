@@ -1,8 +1,6 @@
 -- `read_literals` reads literal by literal. The loop's invariant: whatever literals stand there, those read are held, and the others stand at the place.
-use Rattle.std.proofs.Common.{◌-◌, sym, ◌∙◌, arith, rules}
-use Rattle.case.proofs.LookUpTrees.{LiteralsSoFar, literals_none, literals_more, literals_ended, literals_all}
-use Rattle.rule.proofs.WalkLaws.{end_gives}
-use Rattle.rule.proofs.LiteralLaws.{literal_gives}
+use Rattle.std.proofs.Common.{◌-◌}
+use Rattle.case.proofs.LookUpTrees.{LiteralsSoFar}
 use Rattle.case.proofs.literal_lookup_table.read_literals.Given as goal
 
 abbrev pub invariant-loop-i : goal.invariant-loop-i

@@ -1,5 +1,5 @@
 -- Without ELSE the indexes are what the builder holds; with it the open list's rows are settled first.
-use Rattle.std.proofs.Common.{refl, arith, rules}
+use Rattle.std.proofs.Common.{refl, arith}
 use Rattle.case.proofs.MergeLaws.{values_none, values_some, settled_small}
 use Rattle.rule.proofs.WalkLaws.{behind_gives}
 use Rattle.case.proofs.merge.else_values.Goals as goal

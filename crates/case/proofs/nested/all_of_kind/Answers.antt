@@ -1,5 +1,5 @@
 use Rattle.std.proofs.Common.{arith}
-use Rattle.case.proofs.NestedLaws.{KindsLeft, kinds_start, kinds_differ, kinds_less, kinds_end}
+use Rattle.case.proofs.NestedLaws.{kinds_differ, kinds_less, kinds_end}
 use Rattle.case.proofs.nested.all_of_kind.Goals as goal
 
 pub returns-then-kinds-from : goal.returns-then-kinds-from

@@ -1,6 +1,5 @@
 -- `all_of_kind` looks at the classes from the last on. The loop's invariant: what is left gives the answer.
-use Rattle.std.proofs.Common.{arith}
-use Rattle.case.proofs.NestedLaws.{KindsLeft, kinds_start, kinds_differ, kinds_less, kinds_end}
+use Rattle.case.proofs.NestedLaws.{KindsLeft}
 use Rattle.case.proofs.nested.all_of_kind.Given as goal
 
 abbrev pub invariant-loop-left : goal.invariant-loop-left

@@ -1,5 +1,4 @@
-use Rattle.std.proofs.Common.{◌-◌, sym, ◌∙◌, arith}
-use Rattle.case.proofs.NestedLaws.{NumberedSoFar, numbered_none, numbered_all, number_in, number_listed, numbered_next}
+use Rattle.case.proofs.NestedLaws.{numbered_next}
 use Rattle.case.proofs.nested.class_listed.Goals as goal
 
 pub loop-i-preserved : goal.loop-i-preserved

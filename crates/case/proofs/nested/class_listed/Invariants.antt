@@ -1,6 +1,6 @@
 -- `class_listed` puts a class for each listed row. The loop's invariant: the first rows have theirs.
-use Rattle.std.proofs.Common.{◌-◌, sym, ◌∙◌, arith}
-use Rattle.case.proofs.NestedLaws.{NumberedSoFar, numbered_none, numbered_all, number_in, number_listed, numbered_next}
+use Rattle.std.proofs.Common.{◌-◌}
+use Rattle.case.proofs.NestedLaws.{NumberedSoFar}
 use Rattle.case.proofs.nested.class_listed.Given as goal
 
 abbrev pub invariant-loop-i : goal.invariant-loop-i

@@ -1,6 +1,6 @@
 -- `copy_block` copies the literals one by one. The loop's invariant: those below the index are copied.
-use Rattle.std.proofs.Common.{◌+◌, ◌-◌, sym, ◌∙◌, arith}
-use Rattle.case.proofs.NestedLaws.{CopiedSoFar, copied_none, copied_next, copied_all}
+use Rattle.std.proofs.Common.{◌+◌, ◌-◌}
+use Rattle.case.proofs.NestedLaws.{CopiedSoFar}
 use Rattle.case.proofs.nested.copy_block.Given as goal
 
 abbrev pub invariant-loop-k : goal.invariant-loop-k

@@ -1,5 +1,5 @@
 -- `literal_results` looks at THEN by THEN, and promises nothing.
-use Rattle.std.proofs.Common.{◌-◌, arith, rules}
+use Rattle.std.proofs.Common.{◌-◌}
 use Rattle.case.proofs.nested.literal_results.Given as goal
 
 abbrev pub invariant-loop-k : goal.invariant-loop-k

@@ -1,5 +1,5 @@
 -- `nested_case` reads the literals behind the class and numbers the rows by their indices, where all are of the kind and the rows have indices; or finds no classes.
-use Rattle.std.proofs.Common.{sym, refl, ◌∙◌, arith, rules}
+use Rattle.std.proofs.Common.{sym, refl, ◌∙◌, arith}
 use Rattle.case.proofs.FrameLaws.{rows_small}
 use Rattle.case.proofs.NestedLaws.{case_none, index_in, case_classed}
 use Rattle.case.proofs.nested.nested_case.Goals as goal

@@ -1,6 +1,6 @@
 -- `nested_results` reads the literals behind the class, where there is room, and says whether all are of the kind.
-use Rattle.std.proofs.Common.{sym, ◌∙◌, arith, rules}
-use Rattle.case.proofs.NestedLaws.{grown_none, nested_none, nested_give}
+use Rattle.std.proofs.Common.{arith}
+use Rattle.case.proofs.NestedLaws.{nested_give}
 use Rattle.rule.proofs.TypeOfLaws.{type_gives}
 use Rattle.case.proofs.nested.nested_results.Goals as goal
 

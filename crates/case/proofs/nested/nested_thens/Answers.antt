@@ -1,5 +1,5 @@
-use Rattle.std.proofs.Common.{◌+◌, ◌-◌, sym, ◌∙◌, arith, rules}
-use Rattle.case.proofs.NestedLaws.{ClassedSoFar, classed_none, classed_framed, classed_all, then_longs, classed_not, classed_next}
+use Rattle.std.proofs.Common.{sym, ◌∙◌, arith}
+use Rattle.case.proofs.NestedLaws.{classed_none, classed_framed, classed_all, then_longs, classed_not, classed_next}
 use Rattle.rule.proofs.WalkLaws.{end_gives}
 use Rattle.case.proofs.nested.nested_thens.Goals as goal
 

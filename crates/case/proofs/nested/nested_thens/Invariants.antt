@@ -1,7 +1,6 @@
 -- `nested_thens` goes THEN by THEN. The loop's invariant: the rows of the THENs before have right classes, the other rows have the classes that they had.
-use Rattle.std.proofs.Common.{◌+◌, ◌-◌, sym, ◌∙◌, arith, rules}
-use Rattle.case.proofs.NestedLaws.{ClassedSoFar, classed_none, classed_framed, classed_all, then_longs, classed_not, classed_next}
-use Rattle.rule.proofs.WalkLaws.{end_gives}
+use Rattle.std.proofs.Common.{◌+◌, ◌-◌}
+use Rattle.case.proofs.NestedLaws.{ClassedSoFar}
 use Rattle.case.proofs.nested.nested_thens.Given as goal
 
 abbrev pub invariant-loop-k : goal.invariant-loop-k

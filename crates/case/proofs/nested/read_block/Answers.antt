@@ -1,5 +1,5 @@
 -- `read_block` reads the literals into arrays of their own and copies them behind the class.
-use Rattle.std.proofs.Common.{sym, refl, ◌∙◌, arith, rules}
+use Rattle.std.proofs.Common.{refl, arith}
 use Rattle.case.proofs.LookUpTrees.{zeros}
 use Rattle.case.proofs.NestedLaws.{block_read}
 use Rattle.case.proofs.nested.read_block.Goals as goal

@@ -1,5 +1,5 @@
-use Rattle.std.proofs.Common.{◌-◌, sym, ◌∙◌, arith, rules}
-use Rattle.case.proofs.DenseLaws.{DenseSoFar, dense_none, dense_refused, dense_more, dense_all}
+use Rattle.std.proofs.Common.{arith}
+use Rattle.case.proofs.DenseLaws.{dense_all}
 use Rattle.case.proofs.primitive_lookup_table.fill_dense.Goals as goal
 
 pub returns : goal.returns

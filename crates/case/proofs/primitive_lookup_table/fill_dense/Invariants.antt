@@ -1,6 +1,6 @@
 -- `fill_dense` puts the keys' indices. The loop's invariant: those of the first keys are there, and ELSE's anywhere else.
-use Rattle.std.proofs.Common.{◌-◌, sym, ◌∙◌, arith, rules}
-use Rattle.case.proofs.DenseLaws.{DenseSoFar, dense_none, dense_refused, dense_more, dense_all}
+use Rattle.std.proofs.Common.{◌-◌}
+use Rattle.case.proofs.DenseLaws.{DenseSoFar}
 use Rattle.case.proofs.primitive_lookup_table.fill_dense.Given as goal
 
 abbrev pub invariant-loop-key : goal.invariant-loop-key

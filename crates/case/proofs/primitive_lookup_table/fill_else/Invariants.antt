@@ -1,7 +1,6 @@
 -- `fill_else` puts the ELSE index. The loop's invariant: it is at the first distances.
-use Rattle.std.proofs.Common.{◌-◌, sym, ◌∙◌, arith, rules}
+use Rattle.std.proofs.Common.{◌-◌}
 use Rattle.case.specs.LookUpColumns.{ElseFilled}
-use Rattle.case.proofs.DenseLaws.{else_none, else_more, else_all}
 use Rattle.case.proofs.primitive_lookup_table.fill_else.Given as goal
 
 abbrev pub invariant-loop-d : goal.invariant-loop-d

@@ -1,5 +1,5 @@
-use Rattle.std.proofs.Common.{ℕ, ◌-◌, eqb, get_or, arith, eq-eqb, ne_eqb}
-use Rattle.case.proofs.LookUpLaws.{Searching, search_starts, search_misses, search_hits, search_ends}
+use Rattle.std.proofs.Common.{arith, eq-eqb, ne_eqb}
+use Rattle.case.proofs.LookUpLaws.{search_misses, search_hits, search_ends}
 use Rattle.case.proofs.primitive_lookup_table.find_key.Goals as goal
 
 pub loop-k-preserved : goal.loop-k-preserved

@@ -1,5 +1,5 @@
-use Rattle.std.proofs.Common.{ℕ, ◌-◌, ◌&&◌, eqb, get_or, ap₂, ⊎_elim, arith, eq-eqb, ne_eqb}
-use Rattle.case.proofs.LookUpLaws.{Searching, search_starts, search_misses, search_hits, search_ends, kind_differs, payload_differs}
+use Rattle.std.proofs.Common.{◌&&◌, eqb, get_or, ap₂, arith, eq-eqb, ne_eqb}
+use Rattle.case.proofs.LookUpLaws.{search_misses, search_hits, search_ends, kind_differs, payload_differs}
 use Rattle.case.proofs.primitive_lookup_table.find_number.Goals as goal
 use Rattle.case.proofs.primitive_lookup_table.find_number.Goals.{then-payload-keys+else-kind-kinds, else-payload-keys}
 

@@ -1,6 +1,6 @@
 -- `find_number` breaks out at the first key of the kind and the payload. The loop's invariant: what is left gives the answer.
-use Rattle.std.proofs.Common.{ℕ, ◌-◌, ◌&&◌, eqb, get_or, ap₂, ⊎_elim, arith, eq-eqb, ne_eqb}
-use Rattle.case.proofs.LookUpLaws.{Searching, search_starts, search_misses, search_hits, search_ends, kind_differs, payload_differs}
+use Rattle.std.proofs.Common.{ℕ, ◌-◌, ◌&&◌, eqb, get_or}
+use Rattle.case.proofs.LookUpLaws.{Searching}
 use Rattle.case.proofs.primitive_lookup_table.find_number.Given as goal
 
 abbrev pub invariant-loop-k : goal.invariant-loop-k

@@ -1,5 +1,5 @@
 -- `least_number` ends: k rises to the size.
-use Rattle.std.proofs.Common.{◌-◌, ◌≤◌, arith, rules}
+use Rattle.std.proofs.Common.{◌-◌, ◌≤◌}
 use Rattle.case.proofs.primitive_lookup_table.least_number.Given as goal
 
 abbrev pub invariant-loop-k : goal.invariant-loop-k

@@ -1,5 +1,5 @@
 -- The key that left the hint, none, or the first of all.
-use Rattle.std.proofs.Common.{◌-◌, get_or, refl, arith, rules}
+use Rattle.std.proofs.Common.{◌-◌, get_or, refl, arith}
 use Rattle.case.proofs.LookUpColumnLaws.{number_nowhere, number_here}
 use Rattle.case.proofs.primitive_lookup_table.number_index.Goals as goal
 

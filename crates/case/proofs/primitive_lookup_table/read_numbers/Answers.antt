@@ -1,5 +1,5 @@
-use Rattle.std.proofs.Common.{◌-◌, sym, ◌∙◌, arith, rules}
-use Rattle.case.proofs.LookUpColumnLaws.{NumbersSoFar, numbers_none, numbers_more, numbers_refused, numbers_all}
+use Rattle.std.proofs.Common.{sym, ◌∙◌, arith}
+use Rattle.case.proofs.LookUpColumnLaws.{numbers_none, numbers_more, numbers_refused, numbers_all}
 use Rattle.case.proofs.primitive_lookup_table.read_numbers.Goals as goal
 
 pub loop-k-init : goal.loop-k-init

@@ -1,6 +1,6 @@
 -- `read_numbers` reads key by key. The loop's invariant: the keys read go by their numbers, and have left their hints.
-use Rattle.std.proofs.Common.{◌-◌, sym, ◌∙◌, arith, rules}
-use Rattle.case.proofs.LookUpColumnLaws.{NumbersSoFar, numbers_none, numbers_more, numbers_refused, numbers_all}
+use Rattle.std.proofs.Common.{◌-◌}
+use Rattle.case.proofs.LookUpColumnLaws.{NumbersSoFar}
 use Rattle.case.proofs.primitive_lookup_table.read_numbers.Given as goal
 
 abbrev pub invariant-loop-k : goal.invariant-loop-k

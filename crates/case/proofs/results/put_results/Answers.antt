@@ -1,6 +1,5 @@
-use Rattle.std.proofs.Common.{◌-◌, ⊎_elim, arith}
-use Rattle.case.specs.Results.{PutBy}
-use Rattle.case.proofs.RowsLaws.{FilledSoFar, none_yet, ends, row_in, row_fits}
+use Rattle.std.proofs.Common.{arith}
+use Rattle.case.proofs.RowsLaws.{row_fits}
 use Rattle.case.proofs.ResultLaws.{put_known, put_behind}
 use Rattle.case.proofs.results.put_results.Goals as goal
 use Rattle.case.proofs.results.put_results.Goals.{then-j-lt258, else-j-lt258}

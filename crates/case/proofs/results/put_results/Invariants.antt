@@ -1,8 +1,7 @@
 -- `put_results` puts the literal at each row's index in the row's slot. The loop's invariant: so far it is there.
-use Rattle.std.proofs.Common.{◌-◌, ⊎_elim, arith}
+use Rattle.std.proofs.Common.{◌-◌}
 use Rattle.case.specs.Results.{PutBy}
-use Rattle.case.proofs.RowsLaws.{FilledSoFar, none_yet, ends, row_in, row_fits}
-use Rattle.case.proofs.ResultLaws.{put_known, put_behind}
+use Rattle.case.proofs.RowsLaws.{FilledSoFar}
 use Rattle.case.proofs.results.put_results.Given as goal
 
 abbrev pub invariant-loop-i : goal.invariant-loop-i

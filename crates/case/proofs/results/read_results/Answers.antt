@@ -1,7 +1,7 @@
 -- `read_results` reads the THENs, puts a failure behind ELSE, and reads ELSE where it is there and a literal.
-use Rattle.std.proofs.Common.{sym, ◌∙◌, arith, length-set, rules}
+use Rattle.std.proofs.Common.{sym, ◌∙◌}
 use Rattle.scalar.proofs.OperationLaws.{try_cast_gives}
-use Rattle.case.proofs.ResultLaws.{failed_in, failed_long, else_absent, else_literal, else_other}
+use Rattle.case.proofs.ResultLaws.{else_absent, else_literal, else_other}
 use Rattle.rule.proofs.LiteralLaws.{literal_gives}
 use Rattle.case.proofs.results.read_results.Goals as goal
 

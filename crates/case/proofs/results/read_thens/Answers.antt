@@ -1,5 +1,5 @@
-use Rattle.std.proofs.Common.{◌+◌, ◌-◌, sym, ◌∙◌, ⊎_elim, arith, rules}
-use Rattle.case.proofs.ResultLaws.{ThensSoFar, thens_none, thens_all, then_in, then_literal, then_other}
+use Rattle.std.proofs.Common.{sym, ◌∙◌}
+use Rattle.case.proofs.ResultLaws.{then_literal, then_other}
 use Rattle.rule.proofs.LiteralLaws.{literal_gives}
 use Rattle.rule.proofs.WalkLaws.{end_gives}
 use Rattle.case.proofs.results.read_thens.Goals as goal

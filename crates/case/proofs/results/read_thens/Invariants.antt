@@ -1,8 +1,6 @@
 -- `read_thens` reads THEN by THEN. The loop's invariant: whatever branches stand there, the literals among the THENs read are held, and the other branches stand at the place.
-use Rattle.std.proofs.Common.{◌+◌, ◌-◌, sym, ◌∙◌, ⊎_elim, arith, rules}
-use Rattle.case.proofs.ResultLaws.{ThensSoFar, thens_none, thens_all, then_in, then_literal, then_other}
-use Rattle.rule.proofs.LiteralLaws.{literal_gives}
-use Rattle.rule.proofs.WalkLaws.{end_gives}
+use Rattle.std.proofs.Common.{◌+◌, ◌-◌}
+use Rattle.case.proofs.ResultLaws.{ThensSoFar}
 use Rattle.case.proofs.results.read_thens.Given as goal
 
 abbrev pub invariant-loop-k : goal.invariant-loop-k

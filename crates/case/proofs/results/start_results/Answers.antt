@@ -1,5 +1,5 @@
 -- `start_results` reads the literals and puts each row's in its slot.
-use Rattle.std.proofs.Common.{refl, arith, rules}
+use Rattle.std.proofs.Common.{refl, arith}
 use Rattle.case.proofs.LookUpTrees.{zeros}
 use Rattle.case.proofs.ResultLaws.{start_right}
 use Rattle.case.proofs.results.start_results.Goals as goal

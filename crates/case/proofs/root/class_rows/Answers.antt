@@ -1,5 +1,5 @@
 -- `class_rows` has the literals and the index of each row, and then the classes of the rows of THENs that are CASEs; or no classes.
-use Rattle.std.proofs.Common.{sym, ◌∙◌, arith, rules}
+use Rattle.std.proofs.Common.{sym, ◌∙◌, arith}
 use Rattle.case.proofs.RootLaws.{root_framed, classes_none, thens_ask, classes_give}
 use Rattle.case.proofs.root.class_rows.Goals as goal
 

@@ -1,5 +1,5 @@
 -- `root_results` has the results, and the place of the branches where they serve.
-use Rattle.std.proofs.Common.{sym, ◌∙◌, arith, rules}
+use Rattle.std.proofs.Common.{sym, ◌∙◌, arith}
 use Rattle.case.proofs.RootLaws.{results_none, results_give}
 use Rattle.rule.proofs.TypeOfLaws.{type_gives}
 use Rattle.case.proofs.root.root_results.Goals as goal

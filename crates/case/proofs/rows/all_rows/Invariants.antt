@@ -1,6 +1,6 @@
 -- `all_rows` puts each row at its own place. The loop's invariant: so far they are there, and nothing behind the list is changed.
-use Rattle.std.proofs.Common.{◌-◌, arith}
-use Rattle.case.proofs.RowsLaws.{AllRowsSoFar, all_none, all_in, all_more, all_ends}
+use Rattle.std.proofs.Common.{◌-◌}
+use Rattle.case.proofs.RowsLaws.{AllRowsSoFar}
 use Rattle.case.proofs.rows.all_rows.Given as goal
 
 abbrev pub invariant-loop-i : goal.invariant-loop-i

@@ -1,8 +1,8 @@
-use Rattle.std.proofs.Common.{ℕ, ◌-◌, ◌∙◌, subst, arith}
+use Rattle.std.proofs.Common.{◌∙◌, subst, arith}
 use Rattle.scalar.specs.declared.value.Value.{Value}
 use Rattle.scalar.specs.Value.{Gives}
-use Rattle.case.specs.Frame.{slot_at, operation_of}
-use Rattle.case.proofs.RowsLaws.{FilledSoFar, none_yet, ends, row_in, row_fits, slot_fresh, next}
+use Rattle.case.specs.Frame.{operation_of}
+use Rattle.case.proofs.RowsLaws.{none_yet, ends, row_in, row_fits, slot_fresh, next}
 use Rattle.case.proofs.rows.apply_castless.Goals as goal
 
 pub loop-i-init : goal.loop-i-init

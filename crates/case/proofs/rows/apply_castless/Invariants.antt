@@ -1,9 +1,9 @@
 -- `apply_castless` puts the operation's value in the slots of the listed rows. The loop's invariant: so far it is there.
-use Rattle.std.proofs.Common.{ℕ, ◌-◌, ◌∙◌, subst, arith}
+use Rattle.std.proofs.Common.{ℕ, ◌-◌}
 use Rattle.scalar.specs.declared.value.Value.{Value}
 use Rattle.scalar.specs.Value.{Gives}
 use Rattle.case.specs.Frame.{slot_at, operation_of}
-use Rattle.case.proofs.RowsLaws.{FilledSoFar, none_yet, ends, row_in, row_fits, slot_fresh, next}
+use Rattle.case.proofs.RowsLaws.{FilledSoFar}
 use Rattle.case.proofs.rows.apply_castless.Given as goal
 
 abbrev pub invariant-loop-i : goal.invariant-loop-i

@@ -1,8 +1,6 @@
 -- `apply_one` hands each operation that is no cast on to its own function.
-use Rattle.scalar.proofs.OperationLaws.{not_gives, is_not_null_gives, negative_gives}
+use Rattle.scalar.proofs.OperationLaws.{negative_gives}
 use Rattle.case.proofs.RowsLaws.{operation_gives}
-use Rattle.case.proofs.CastingLaws.{castless_not}
-use Rattle.std.proofs.Common.{rules}
 use Rattle.case.proofs.rows.apply_one.Goals as goal
 
 pub returns-in-Negative : goal.returns-in-Negative

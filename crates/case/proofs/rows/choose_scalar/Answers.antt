@@ -1,6 +1,5 @@
-use Rattle.std.proofs.Common.{◌≡◌, ℕ, ◌-◌, List, ◌∙◌, subst, arith}
-use Rattle.case.proofs.RowsLaws.{FilledSoFar, none_yet, ends, row_in, row_fits, slot_fresh, next}
-use Rattle.case.specs.Taking.{ScalarRight}
+use Rattle.std.proofs.Common.{◌≡◌, ℕ, List, ◌∙◌, subst}
+use Rattle.case.proofs.RowsLaws.{row_fits, slot_fresh, next}
 use Rattle.rule.specs.Row.{is_true_test, chosen}
 use Rattle.scalar.specs.Value.{meaning}
 use Rattle.scalar.specs.declared.value.Value.{Value}

@@ -1,10 +1,7 @@
 -- `choose_scalar` puts the one value or the other in the slots of the listed rows. The loop's invariant: so far it is there.
-use Rattle.std.proofs.Common.{◌≡◌, ℕ, ◌-◌, List, ◌∙◌, subst, arith}
-use Rattle.case.proofs.RowsLaws.{FilledSoFar, none_yet, ends, row_in, row_fits, slot_fresh, next}
+use Rattle.std.proofs.Common.{◌-◌}
+use Rattle.case.proofs.RowsLaws.{FilledSoFar}
 use Rattle.case.specs.Taking.{ScalarRight}
-use Rattle.rule.specs.Row.{is_true_test, chosen}
-use Rattle.scalar.specs.Value.{meaning}
-use Rattle.scalar.specs.declared.value.Value.{Value}
 use Rattle.case.proofs.rows.choose_scalar.Given as goal
 
 abbrev pub invariant-loop-i : goal.invariant-loop-i

@@ -1,5 +1,5 @@
-use Rattle.std.proofs.Common.{◌-◌, ◌*◌, arith}
-use Rattle.case.proofs.RowsLaws.{CopiedSoFar, copied_none, copied_more, copied_all}
+use Rattle.std.proofs.Common.{arith}
+use Rattle.case.proofs.RowsLaws.{copied_all}
 use Rattle.case.proofs.rows.copy_list.Goals as goal
 
 pub returns : goal.returns

@@ -1,6 +1,6 @@
 -- `copy_list` copies a list byte by byte. The loop's invariant: so far the bytes are the same, and those before are unchanged.
-use Rattle.std.proofs.Common.{◌-◌, ◌*◌, arith}
-use Rattle.case.proofs.RowsLaws.{CopiedSoFar, copied_none, copied_more, copied_all}
+use Rattle.std.proofs.Common.{◌-◌, ◌*◌}
+use Rattle.case.proofs.RowsLaws.{CopiedSoFar}
 use Rattle.case.proofs.rows.copy_list.Given as goal
 
 abbrev pub invariant-loop-i : goal.invariant-loop-i

@@ -1,6 +1,5 @@
-use Rattle.std.proofs.Common.{◌≡◌, ℕ, ◌-◌, refl, arith}
-use Rattle.scalar.specs.declared.value.Value.{Value}
-use Rattle.case.proofs.RowsLaws.{FilledSoFar, none_yet, ends, row_in, row_fits, next}
+use Rattle.std.proofs.Common.{refl}
+use Rattle.case.proofs.RowsLaws.{row_fits, next}
 use Rattle.case.proofs.rows.fill_value.Goals as goal
 
 pub put_slot-requires : goal.put_slot-requires

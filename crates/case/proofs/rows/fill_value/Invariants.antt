@@ -1,7 +1,7 @@
 -- `fill_value` puts one value in the slots of the listed rows. The loop's invariant: so far it is there.
-use Rattle.std.proofs.Common.{◌≡◌, ℕ, ◌-◌, refl, arith}
+use Rattle.std.proofs.Common.{◌≡◌, ℕ, ◌-◌}
 use Rattle.scalar.specs.declared.value.Value.{Value}
-use Rattle.case.proofs.RowsLaws.{FilledSoFar, none_yet, ends, row_in, row_fits, next}
+use Rattle.case.proofs.RowsLaws.{FilledSoFar}
 use Rattle.case.proofs.rows.fill_value.Given as goal
 
 abbrev pub invariant-loop-i : goal.invariant-loop-i

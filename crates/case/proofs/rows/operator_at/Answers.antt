@@ -1,5 +1,5 @@
 -- `operator_at` goes by the tag, and for the casts by the type byte.
-use Rattle.std.proofs.Common.{arith, refl, rules}
+use Rattle.std.proofs.Common.{arith, refl}
 use Rattle.case.proofs.ExprLaws.{operator_behind, operator_negative, operator_is_not_null, operator_cast, operator_try_cast, operator_not}
 use Rattle.rule.proofs.LiteralLaws.{numbered_gives}
 use Rattle.case.proofs.rows.operator_at.Goals as goal

@@ -1,5 +1,4 @@
 -- `put_row` stores a row's two bytes.
-use Rattle.std.proofs.Common.{arith, length-set, rules}
 use Rattle.case.proofs.SiftLaws.{put_row_lem}
 use Rattle.case.proofs.rows.put_row.Goals as goal
 

@@ -1,5 +1,5 @@
 -- `row_at` adds up the bytes of a row.
-use Rattle.std.proofs.Common.{◌+◌, ◌*◌, arith, rules}
+use Rattle.std.proofs.Common.{◌+◌, ◌*◌, arith}
 use Rattle.layout.proofs.NumberLaws.{number_two}
 use Rattle.case.proofs.rows.row_at.Goals as goal
 

@@ -1,5 +1,4 @@
 -- `class_at` hands each way of leaving on to its own test.
-use Rattle.std.proofs.Common.{rules}
 use Rattle.case.proofs.ClassLaws.{class_null, class_true, class_equal}
 use Rattle.case.proofs.settle.class_at.Goals as goal
 

@@ -1,5 +1,4 @@
 -- `fill_codes` compares the open rows where that is asked for.
-use Rattle.std.proofs.Common.{rules}
 use Rattle.case.proofs.ClassLaws.{codes_asked, codes_unasked}
 use Rattle.case.proofs.settle.fill_codes.Goals as goal
 

@@ -1,5 +1,4 @@
 -- `open_builder` gives a builder that holds nothing.
-use Rattle.std.proofs.Common.{rules}
 use Rattle.case.proofs.SettleLaws.{new_free, new_open}
 use Rattle.case.proofs.settle.open_builder.Goals as goal
 

@@ -1,5 +1,5 @@
 -- `settle_by` hands the rows that leave to the builder.
-use Rattle.std.proofs.Common.{sym, arith, rules}
+use Rattle.std.proofs.Common.{sym, arith}
 use Rattle.case.proofs.SettleLaws.{open_rows, size, size_values, part_asks, settles}
 use Rattle.case.proofs.settle.settle_by.Goals as goal
 

@@ -1,6 +1,5 @@
-use Rattle.std.proofs.Common.{◌-◌, length, sym, ◌∙◌, ⊎_elim, arith}
-use Rattle.case.proofs.SplitLaws.{SplitSoFar, split_none, split_ends, split_in, split_few, split_fits, stay_in, class_kept, split_stays, split_leaves}
-use Rattle.case.specs.Choosing.{class_coded}
+use Rattle.std.proofs.Common.{sym, ◌∙◌, arith}
+use Rattle.case.proofs.SplitLaws.{split_none, split_ends, split_in, split_few, split_fits, stay_in, class_kept, split_stays, split_leaves}
 use Rattle.case.proofs.settle.split.Goals as goal
 use Rattle.case.proofs.settle.split.Goals.{then-class-eq0, else-class-eq0}
 

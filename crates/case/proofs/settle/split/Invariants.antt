@@ -1,6 +1,6 @@
 -- `split` parts the rows that leave from those that stay, one row a turn. The loop's invariant: so far they are parted.
-use Rattle.std.proofs.Common.{◌-◌, length, sym, ◌∙◌, ⊎_elim, arith}
-use Rattle.case.proofs.SplitLaws.{SplitSoFar, split_none, split_ends, split_in, split_few, split_fits, stay_in, class_kept, split_stays, split_leaves}
+use Rattle.std.proofs.Common.{◌-◌, length}
+use Rattle.case.proofs.SplitLaws.{SplitSoFar}
 use Rattle.case.specs.Choosing.{class_coded}
 use Rattle.case.proofs.settle.split.Given as goal
 

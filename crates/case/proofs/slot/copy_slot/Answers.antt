@@ -1,5 +1,5 @@
 -- `copy_slot` stores the next frame's kind and payload.
-use Rattle.std.proofs.Common.{refl, rules}
+use Rattle.std.proofs.Common.{refl}
 use Rattle.case.proofs.SlotLaws.{slot_copied}
 use Rattle.case.proofs.slot.copy_slot.Goals as goal
 

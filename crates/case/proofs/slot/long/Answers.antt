@@ -1,6 +1,5 @@
 -- `long` gives the number of eight bytes, from the numbers of their halves.
 use Rattle.layout.proofs.NumberLaws.{number_whole}
-use Rattle.std.proofs.Common.{rules}
 use Rattle.case.proofs.slot.long.Goals as goal
 
 pub returns : goal.returns

@@ -1,5 +1,5 @@
 -- `put_parts` stores a kind's and a payload's nine bytes in the slot of its row.
-use Rattle.std.proofs.Common.{arith, length-set, rules}
+use Rattle.std.proofs.Common.{rules}
 use native.Mathlib.Numerals.{towards_numerals}
 use native.Mathlib.Nat.{div-div-eq-div-mul}
 use Rattle.layout.specs.Bytes.{number_bytes}

@@ -1,5 +1,4 @@
 -- `put_slot` stores a value by its kind and its payload, which keep it.
-use Rattle.std.proofs.Common.{rules}
 use Rattle.case.proofs.SlotLaws.{slot_put}
 use Rattle.case.proofs.slot.put_slot.Goals as goal
 

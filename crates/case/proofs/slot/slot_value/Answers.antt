@@ -1,6 +1,5 @@
 -- `slot_value` reads a kind and a payload.
 use Rattle.case.proofs.SlotLaws.{slot_got}
-use Rattle.std.proofs.Common.{rules}
 use Rattle.case.proofs.slot.slot_value.Goals as goal
 
 pub returns : goal.returns

@@ -1,5 +1,5 @@
 -- Kind and payload keep a value that can be stored.
-use Rattle.std.proofs.Common.{arith, rules}
+use Rattle.std.proofs.Common.{arith}
 use Rattle.case.proofs.SlotLaws.{stored_is}
 use Rattle.case.proofs.slot.stored.Goals as goal
 

@@ -1,5 +1,5 @@
 -- `word` adds up the bytes of a number.
-use Rattle.std.proofs.Common.{arith, rules}
+use Rattle.std.proofs.Common.{arith}
 use Rattle.layout.proofs.NumberLaws.{number_four}
 use Rattle.case.proofs.slot.word.Goals as goal
 

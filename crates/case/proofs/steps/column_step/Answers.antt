@@ -1,5 +1,5 @@
 -- Each row has its index by the one step; or no row has one.
-use Rattle.std.proofs.Common.{refl, arith, rules}
+use Rattle.std.proofs.Common.{refl, arith}
 use Rattle.case.proofs.StepLaws.{step_refused, step_gives}
 use Rattle.case.proofs.steps.column_step.Goals as goal
 

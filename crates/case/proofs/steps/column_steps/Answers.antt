@@ -1,6 +1,5 @@
 -- The steps are read, and each row has its index; or no row has one.
-use Rattle.std.proofs.Common.{arith, rules}
-use borrow.Author.Tests.{not-false}
+use Rattle.std.proofs.Common.{arith}
 use Rattle.case.proofs.StepLaws.{column_refused, column_gives}
 use Rattle.case.proofs.steps.column_steps.Goals as goal
 

@@ -1,7 +1,6 @@
 -- `fill_spans` gives each step its span. The loop's invariant: the first steps have theirs.
-use Rattle.std.proofs.Common.{◌-◌, sym, ◌∙◌, arith, rules}
+use Rattle.std.proofs.Common.{◌-◌}
 use Rattle.case.specs.Steps.{SpansOf}
-use Rattle.case.proofs.SpanLaws.{spans_none, spans_more, spans_all}
 use Rattle.case.proofs.steps.fill_spans.Given as goal
 
 abbrev pub invariant-loop-k : goal.invariant-loop-k

@@ -1,5 +1,5 @@
 -- The column's numbers, the steps' spans, and each row's index by them.
-use Rattle.std.proofs.Common.{sym, refl, ◌∙◌, arith, rules}
+use Rattle.std.proofs.Common.{sym, refl, ◌∙◌, arith}
 use Rattle.case.proofs.SpanLaws.{rows_spans, rows_of}
 use Rattle.case.proofs.steps.index_column.Goals as goal
 

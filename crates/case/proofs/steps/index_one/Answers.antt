@@ -1,6 +1,4 @@
-use Rattle.std.proofs.Common.{◌≡◌, ℕ, ◌-◌, sym, ◌∙◌, arith}
-use Rattle.case.specs.Steps.{one_span, RowsIndexed}
-use Rattle.case.proofs.StepLaws.{indices_none, indices_room, indices_more, indices_all}
+use Rattle.case.proofs.StepLaws.{indices_more}
 use Rattle.case.proofs.steps.index_one.Goals as goal
 
 pub loop-i-preserved : goal.loop-i-preserved

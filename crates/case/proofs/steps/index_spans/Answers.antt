@@ -1,5 +1,4 @@
 -- By the one span, or by all.
-use Rattle.std.proofs.Common.{sym, ◌∙◌, arith}
 use Rattle.case.proofs.SpanLaws.{rows_one}
 use Rattle.case.proofs.steps.index_spans.Goals as goal
 

@@ -1,5 +1,5 @@
-use Rattle.std.proofs.Common.{◌-◌, sym, ◌∙◌, arith, rules}
-use Rattle.case.proofs.StepLaws.{StepsSoFar, steps_none, steps_more, steps_refused, steps_all}
+use Rattle.std.proofs.Common.{arith}
+use Rattle.case.proofs.StepLaws.{steps_more, steps_all}
 use Rattle.rule.proofs.WalkLaws.{end_gives}
 use Rattle.case.proofs.steps.read_steps.Goals as goal
 

@@ -1,7 +1,6 @@
 -- `read_steps` reads WHEN by WHEN. The loop's invariant: whatever branches stand there, those read are steps, and the others stand at the place.
-use Rattle.std.proofs.Common.{◌-◌, sym, ◌∙◌, arith, rules}
-use Rattle.case.proofs.StepLaws.{StepsSoFar, steps_none, steps_more, steps_refused, steps_all}
-use Rattle.rule.proofs.WalkLaws.{end_gives}
+use Rattle.std.proofs.Common.{◌-◌}
+use Rattle.case.proofs.StepLaws.{StepsSoFar}
 use Rattle.case.proofs.steps.read_steps.Given as goal
 
 abbrev pub invariant-loop-k : goal.invariant-loop-k

@@ -1,6 +1,5 @@
-use Rattle.std.proofs.Common.{ℕ, ◌+◌, ◌-◌, get_or, sym, ◌∙◌, ⊎_elim, arith, rules}
-use Rattle.case.specs.Steps.{in_span}
-use Rattle.case.proofs.LookUpLaws.{Searching, search_starts, search_misses, search_hits, search_ends}
+use Rattle.std.proofs.Common.{sym, ◌∙◌, arith}
+use Rattle.case.proofs.LookUpLaws.{search_misses, search_hits, search_ends}
 use Rattle.case.proofs.steps.span_index.Goals as goal
 use Rattle.case.proofs.steps.span_index.Goals.{then-span-count, else-span-count+then-in_span}
 

@@ -1,7 +1,7 @@
 -- `span_index` breaks out at the first span that the number lies in. The loop's invariant: what is left gives the answer.
-use Rattle.std.proofs.Common.{ℕ, ◌+◌, ◌-◌, get_or, sym, ◌∙◌, ⊎_elim, arith, rules}
+use Rattle.std.proofs.Common.{ℕ, ◌+◌, ◌-◌, get_or}
 use Rattle.case.specs.Steps.{in_span}
-use Rattle.case.proofs.LookUpLaws.{Searching, search_starts, search_misses, search_hits, search_ends}
+use Rattle.case.proofs.LookUpLaws.{Searching}
 use Rattle.case.proofs.steps.span_index.Given as goal
 
 abbrev pub invariant-loop-span : goal.invariant-loop-span

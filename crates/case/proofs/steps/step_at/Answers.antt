@@ -1,6 +1,6 @@
 -- A comparison of a column with a literal, whichever stands first, or no step.
-use Rattle.std.proofs.Common.{inl, inr, ⊎_elim, rules}
-use Rattle.case.proofs.StepLaws.{step_none, step_column, step_literal}
+use Rattle.std.proofs.Common.{inl, inr}
+use Rattle.case.proofs.StepLaws.{step_column, step_literal}
 use Rattle.rule.proofs.WalkLaws.{children_gives, end_gives}
 use Rattle.case.proofs.steps.step_at.Goals as goal
 use Rattle.case.proofs.steps.step_at.Goals.{then-tag-ne23+else-tag-ne24, else-tag-ne23}

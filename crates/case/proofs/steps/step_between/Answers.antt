@@ -1,6 +1,6 @@
 -- A column beside a literal, or no step.
-use Rattle.std.proofs.Common.{sym, ◌∙◌, arith, rules}
-use Rattle.case.proofs.StepLaws.{sides_none, sides_some, tag_inside}
+use Rattle.std.proofs.Common.{sym, ◌∙◌}
+use Rattle.case.proofs.StepLaws.{sides_some}
 use Rattle.rule.proofs.LiteralLaws.{literal_gives}
 use Rattle.case.proofs.steps.step_between.Goals as goal
 

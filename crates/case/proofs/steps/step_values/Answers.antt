@@ -1,5 +1,5 @@
 -- The table has the column of the first WHEN, and the rows have their indices by it; or no row has one.
-use Rattle.std.proofs.Common.{arith, rules, ◌≡◌, ◌∙◌, length}
+use Rattle.std.proofs.Common.{arith, ◌≡◌, ◌∙◌, length}
 use Rattle.std.proofs.Math.ListN.{length-map}
 use Rattle.table.specs.declared.places.ColumnPlace.{ColumnPlace}
 use Rattle.case.proofs.StepLaws.{table_refused_lem, table_gives}

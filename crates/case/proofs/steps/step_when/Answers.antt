@@ -1,8 +1,7 @@
 -- The table has the column of the WHEN, and the rows have their indices by it; or no row has one.
-use Rattle.std.proofs.Common.{arith, rules, ◌≡◌, ◌∙◌, length}
+use Rattle.std.proofs.Common.{arith, ◌≡◌, ◌∙◌, length}
 use Rattle.std.proofs.Math.ListN.{length-map}
 use Rattle.table.specs.declared.places.ColumnPlace.{ColumnPlace}
-use borrow.Author.Tests.{not-false}
 use Rattle.case.proofs.StepLaws.{when_refused, when_gives}
 use Rattle.case.proofs.steps.step_when.Goals as goal
 

@@ -1,7 +1,5 @@
-use Rattle.std.proofs.Common.{◌≡◌, ℕ, ◌-◌, arith}
-use Rattle.case.proofs.RowsLaws.{FilledFromSoFar, none_yet, ends, row_in_from, row_fits_from, next_fresh_from, next_from}
-use Rattle.case.specs.Frame.{next_slot}
-use Rattle.scalar.specs.declared.value.Value.{Value}
+use Rattle.std.proofs.Common.{arith}
+use Rattle.case.proofs.RowsLaws.{none_yet, ends, row_in_from, row_fits_from, next_fresh_from, next_from}
 use Rattle.case.proofs.taking.copy_slots.Goals as goal
 
 pub loop-i-init : goal.loop-i-init

@@ -1,6 +1,6 @@
 -- `copy_slots` puts the next frame's values in the slots of its listed rows. The loop's invariant: so far it is there.
-use Rattle.std.proofs.Common.{◌≡◌, ℕ, ◌-◌, arith}
-use Rattle.case.proofs.RowsLaws.{FilledFromSoFar, none_yet, ends, row_in_from, row_fits_from, next_fresh_from, next_from}
+use Rattle.std.proofs.Common.{◌≡◌, ℕ, ◌-◌}
+use Rattle.case.proofs.RowsLaws.{FilledFromSoFar}
 use Rattle.case.specs.Frame.{next_slot}
 use Rattle.scalar.specs.declared.value.Value.{Value}
 use Rattle.case.proofs.taking.copy_slots.Given as goal

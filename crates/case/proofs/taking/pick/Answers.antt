@@ -1,6 +1,5 @@
-use Rattle.std.proofs.Common.{◌-◌, ⊎_elim, arith}
-use Rattle.case.proofs.TakingLaws.{PickedSoFar, picked_none, picked_ends, pick_in, pick_fits, put_in, picked_hit, picked_miss}
-use Rattle.case.specs.Taking.{HasIndex}
+use Rattle.std.proofs.Common.{arith}
+use Rattle.case.proofs.TakingLaws.{pick_fits, put_in, picked_hit, picked_miss}
 use Rattle.case.proofs.taking.pick.Goals as goal
 use Rattle.case.proofs.taking.pick.Goals.{then-values-r, else-values-r}
 

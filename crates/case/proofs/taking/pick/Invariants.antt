@@ -1,6 +1,6 @@
 -- `pick` lists the rows of an index for the next frame, one row a turn. The loop's invariant: so far they are listed.
-use Rattle.std.proofs.Common.{◌-◌, ⊎_elim, arith}
-use Rattle.case.proofs.TakingLaws.{PickedSoFar, picked_none, picked_ends, pick_in, pick_fits, put_in, picked_hit, picked_miss}
+use Rattle.std.proofs.Common.{◌-◌}
+use Rattle.case.proofs.TakingLaws.{PickedSoFar}
 use Rattle.case.specs.Taking.{HasIndex}
 use Rattle.case.proofs.taking.pick.Given as goal
 
