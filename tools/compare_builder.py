@@ -2,8 +2,8 @@
 """compare_builder.py [--cases N] [--seed S] [--oracle BINARY]: the Rust's ResultBuilder and the port's on the same sequences of parts.
 
 The port's builder isn't in the static library. It is run by builder_lines.rt.txt, a program over crates/builder, with `rt try` in a
-scratch repository (rt takes no file named .rt outside of the listed crates): on the interpreter and compiled three ways, each of which
-must write what the Rust answered. Values are Int32 in the Rust; the port's value 0 stands for null. At most 2,000 sequences fit a run.
+scratch repository (rt takes no file named .rt outside of the listed crates): on the interpreter, as far as that goes, and compiled with
+checks, which must agree and write what the Rust answered. Values are Int32 in the Rust; the port's value 0 stands for null. At most 2,000 sequences fit a run.
 Prints how many agree and differ in each class; where the Rust has no such refusal (10, 18, 20) the port must give document 01's. Exit
 status 1: the port wrote something else, which is printed.
 """
@@ -11,7 +11,6 @@ import argparse
 import collections
 import os
 import random
-import re
 import shutil
 import subprocess
 import sys
@@ -19,7 +18,8 @@ import tempfile
 
 HERE = os.path.dirname(os.path.dirname(os.path.abspath(__file__)))
 ORACLE = os.path.join(HERE, "tools", "rust_oracle", "target", "release", "rust-oracle")
-CRATES = "layout:\nbuilder: layout\nbuilder_lines: builder io libc\n"
+BELOW = ("layout", "files", "builder")
+CRATES = "layout:\nfiles:\nbuilder: layout\nbuilder_lines: files builder\n"
 COMPARED = "built, or refused with 19 or 21"
 CLASSES = {0: COMPARED, 19: COMPARED, 21: COMPARED, 20: "a row held twice (20)", 18: "a row beyond the count, or not rising (18)",
            10: "more than 512 rows (10)"}
@@ -116,31 +116,27 @@ def sequence_bytes(sequence):
 
 
 def try_port(sequences, lines):
-    """Runs the port's builder, which must write the lines. Gives what rt said, or nothing."""
+    """Runs the port's builder, which must write the lines. Gives what it wrote instead and what rt said, or nothing."""
     with tempfile.TemporaryDirectory() as scratch:
-        for name in ("layout", "builder"):
-            shutil.copytree(os.path.join(HERE, "crates", name), os.path.join(scratch, "crates", name))
+        for name in BELOW:
+            shutil.copytree(os.path.join(HERE, "crates", name), os.path.join(scratch, "crates", name), ignore=shutil.ignore_patterns("out"))
         program = os.path.join(scratch, "crates", "builder_lines")
         os.makedirs(os.path.join(program, "src"))
         shutil.copy(os.path.join(HERE, "tools", "builder_lines.rt.txt"), os.path.join(program, "src", "main.rt"))
         with open(os.path.join(scratch, "crates.txt"), "w", encoding="utf-8") as out:
             out.write(CRATES)
-        with open(os.path.join(program, "stdin"), "wb") as out:
-            out.write(b"".join(map(sequence_bytes, sequences)))
-        with open(os.path.join(program, "stdout"), "w", encoding="utf-8") as out:
-            out.write("".join(line + "\n" for line in lines))
-        run = subprocess.run(["rt", "try", "builder_lines"], cwd=scratch, capture_output=True, text=True)
-        return None if run.returncode == 0 else run.stdout + run.stderr
+        run = subprocess.run(["rt", "try"], cwd=program, input=b"".join(map(sequence_bytes, sequences)), capture_output=True)
+        wrote, said = run.stdout.decode(errors="replace"), run.stderr.decode(errors="replace")
+        return None if run.returncode == 0 and wrote == "".join(line + "\n" for line in lines) else (wrote, said)
 
 
-def place(wrong, sequences, expected):
-    """The sequence at whose line the port's output differs, by the byte that rt names."""
-    found = re.search(r"at byte (\d+)", wrong)
-    if not found:
-        return ""
-    text = "".join(line + "\n" for line in expected)
-    at = text[:int(found.group(1))].count("\n")
-    return f": {sequences[at]}, expected {expected[at]!r}" if at < len(sequences) else ""
+def place(wrote, sequences, expected):
+    """The sequence at whose line the port's output differs."""
+    lines = wrote.splitlines()
+    for i, line in enumerate(expected):
+        if i >= len(lines) or lines[i] != line:
+            return f": {sequences[i]}, expected {line!r}"
+    return ""
 
 
 def compare(oracle, count, seed):
@@ -157,7 +153,7 @@ def compare(oracle, count, seed):
     for name in dict.fromkeys(CLASSES.values()):
         print(f"  {name:43} {tally[name][0]:8} {tally[name][1]:8}")
     if wrong:
-        print("the port wrote something else" + place(wrong, sequences, expected) + "\n" + wrong)
+        print("the port wrote something else" + place(wrong[0], sequences, expected) + "\n" + wrong[1])
     return not wrong
 
 

@@ -29,11 +29,11 @@ def clauses(text, i):
     found = {"requires": [], "ensures": []}
     while True:
         i = text.index("{", i)
-        word = text[:i].split()[-1]
-        end = braces(text, i)
-        if word not in found:
+        clause = re.search(r"\b(requires|ensures)(?:\s+\w+)?\s*$", text[:i])
+        if not clause:
             return found
-        found[word].append(text[i + 1:end - 1].strip())
+        end = braces(text, i)
+        found[clause[1]].append(text[i + 1:end - 1].strip())
         i = end
 
 
@@ -54,16 +54,13 @@ def definitions(root):
 
 def named(promise):
     """The name that a promise begins with, behind its quantifiers."""
-    body = re.sub(r"^λ \S+\. ⌜ ?|⌝$", "", promise).strip()
-    body = re.sub(r"^\(\(.*?\) → ", "", body)
-    return body.lstrip("(").split()[0]
+    return re.sub(r"^\(?\([^()]*\) → ", "", promise).lstrip("(").split()[0]
 
 
 def outright(promise, text, specs):
     """Whether a promise is an equation, or a record of equations and of such records."""
-    body = re.sub(r"^λ \S+\. ⌜ ?|⌝$", "", promise)
     if text is None:
-        return re.match(r"\s*\(?(now )?(\w+|\(\w+ \.exit\)) ≡", body) is not None
+        return re.match(r"\(?\w+(\.now|\.new)? ≡", promise) is not None
     if not text.startswith("pub record"):
         return False
     fields = [l.strip().split(" : ", 1)[1] for l in text.split("\n")[1:] if l.strip().startswith("pub ")]
@@ -81,7 +78,7 @@ def main(root):
         if os.path.exists(os.path.join(root, "crates", crate, "src", "main.rt")):
             continue
         text = re.sub(r"//[^\n]*", "", open(path, encoding="utf-8").read())
-        imported = dict((n, c) for c, names in re.findall(r"ghost use Rattle·(\w+?)(?:·specs\.specs)?\.[^;{]*\{([^}]*)\}", text) for n in re.split(r",\s*", names))
+        imported = dict((n, c) for c, names in re.findall(r"ghost use Rattle\.(\w+)\.[^;{]*\{([^}]*)\}", text) for n in re.split(r",\s*", names))
         for m in FUNCTION.finditer(text):
             total += 1
             c = clauses(text, m.end())

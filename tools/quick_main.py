@@ -3,6 +3,7 @@
 the words that name the libraries below it, of this repository and of the toolchain's folder KIT, as `rt try` passes them."""
 import pathlib
 import re
+import shlex
 import sys
 
 ROOT = pathlib.Path(__file__).resolve().parent.parent
@@ -43,9 +44,9 @@ def main():
     crates = listed()
     for name in crates["tembalku"]:
         uses = ",".join(["core", "std", *crates[name]])
-        print("--lib", f"{name}:{uses}={ROOT}/crates/{name}/src/lib.rt")
+        print("--lib", shlex.quote(f"{name}:{uses}={ROOT}/crates/{name}/src/lib.rt"))
     for name, uses in of_kit(kit, ["std"]).items():
-        print("--lib", f"{name}:{','.join(uses)}={kit}/rattle/{name}/src/lib.rt")
+        print("--lib", shlex.quote(f"{name}:{','.join(uses)}={kit}/rattle/{name}/src/lib.rt"))
 
 
 if __name__ == "__main__":
