@@ -222,7 +222,7 @@ null_literal (equal a b) p = absurd (false≢true p)
 null_literal (less a b) p = absurd (false≢true p)
 null_literal (case_when b bs e) p = absurd (false≢true p)
 
--- null try_casts to null
+-- null try-casts to null
 try_null : (to : DataType) → try_cast_entry to null ≡ null
 unfolding cast_entry
 try_null Boolean = refl

@@ -1,4 +1,4 @@
-// Casts and try_casts in the slots of the listed rows: floats to integers by their bits, as far as all are floats, the rest by the values.
+// Casts and try-casts in the slots of the listed rows: floats to integers by their bits, as far as all are floats, the rest by the values.
 ghost use Rattle.std.specs.Prelude.{◌≡◌, ◌<◌, ◌≤◌, length, if◌then◌else◌};
 ghost use Rattle.scalar.specs.Value.{float_value, Gives};
 ghost use Rattle.scalar.specs.Casts.{truncated_as, failed, cast_value};
