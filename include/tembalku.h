@@ -1,6 +1,6 @@
 /* Tembalku: evaluates a dealer's CASE rule over a table of targets.
  *
- * For makers of displays. Link with libtembalku.a (`rt lib` in crates/tembalku); `tools/install.sh` puts it, a shared object and this header in
+ * For makers of displays. Link with libtembalku.a (`tools/build_library.sh`); `tools/install.sh` puts it, a shared object and this header in
  * place. docs/FORMAT.md has the bytes of rules, tables and answers, the meaning of a rule at a row, and the order in which refusals are
  * tested; docs/REFUSALS.md explains the refusals.
  *

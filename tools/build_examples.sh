@@ -4,7 +4,7 @@
 set -eu
 [ $# -eq 0 ] || library=$(realpath "$1")
 cd "$(dirname "$0")/.."
-[ $# -gt 0 ] || library=$(tools/build_library.sh 2> /dev/null)
+[ $# -gt 0 ] || library=$(tools/build_library.sh)
 PATH=$PATH:${HOME:-}/.cargo/bin    # where rustup puts rustc
 scratch=$(mktemp -d)
 trap 'rm -rf "$scratch"' EXIT

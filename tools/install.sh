@@ -25,7 +25,7 @@ prefix=$(cd "$1" && pwd)
 cd "$(dirname "$0")/.."
 if [ $# -eq 1 ]; then
     command -v rt > /dev/null || fail "rt isn't there: it is needed to make the library; or name one: install.sh PREFIX LIBRARY"
-    library=$(tools/build_library.sh 2> /dev/null) || fail "tools/build_library.sh made no library"
+    library=$(tools/build_library.sh) || fail "tools/build_library.sh made no library"
 fi
 version=$(sed -n 's/^#define TEMBALKU_VERSION "\(.*\)"$/\1/p' include/tembalku.h)
 series=${version%.*}    # below 1.0 a minor version may change the answer's bytes

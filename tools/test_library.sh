@@ -8,7 +8,7 @@ for tool in gcc g++ nm pkg-config; do
 done
 [ $# -eq 0 ] || library=$(realpath "$1")
 cd "$(dirname "$0")/.."
-[ $# -gt 0 ] || library=$(tools/build_library.sh 2> /dev/null)
+[ $# -gt 0 ] || library=$(tools/build_library.sh)
 scratch=$(mktemp -d)
 trap 'rm -rf "$scratch"' EXIT
 
