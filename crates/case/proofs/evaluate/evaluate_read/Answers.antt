@@ -8,13 +8,13 @@ pub returns-then-not-fits : goal.returns-then-not-fits
 returns-then-not-fits c = not_fitting (λ i. omega (arith, c.type_inv.rule i)) (λ i. omega (arith, c.type_inv.table i)) c.requires c.fits_table-fits.ensures (ap not c.if-not-fits.true)
 
 pub returns-then-work-lt-WORK_LEAST : goal.returns-then-work-lt-WORK_LEAST
-returns-then-work-lt-WORK_LEAST c = too_short (λ i. omega (arith, c.type_inv.rule i)) (λ i. omega (arith, c.type_inv.table i)) c.requires c.fits_table-fits.ensures (ap not c.if-not-fits.false) c.if-work-lt-WORK_LEAST.true
+returns-then-work-lt-WORK_LEAST c = too_short (λ i. omega (arith, c.type_inv.rule i)) (λ i. omega (arith, c.type_inv.table i)) c.requires c.fits_table-fits.ensures (ap not c.if-not-fits.false) (omega arith)
 
 pub answer_rows-answer-requires : goal.answer_rows-answer-requires
-answer_rows-answer-requires c = answer_asks (λ i. omega (arith, c.type_inv.rule i)) (λ i. omega (arith, c.type_inv.table i)) c.requires c.fits_table-fits.ensures (ap not c.if-not-fits.false) (omega (arith, c.if-work-lt-WORK_LEAST.false))
+answer_rows-answer-requires c = answer_asks (λ i. omega (arith, c.type_inv.rule i)) (λ i. omega (arith, c.type_inv.table i)) c.requires c.fits_table-fits.ensures (ap not c.if-not-fits.false) (omega arith)
 
 pub shape_of-work : goal.shape_of-work
 shape_of-work c = c.clear.auto.work ∙ c.answer_rows-answer.ensures.long
 
 pub returns : goal.returns
-returns c = evaluated (λ i. omega (arith, c.type_inv.rule i)) (λ i. omega (arith, c.type_inv.table i)) c.requires c.fits_table-fits.ensures (ap not c.if-not-fits.false) c.answer_rows-answer.ensures.right c.answer_rows-answer.ensures.wrote (omega (arith, c.if-work-lt-WORK_LEAST.false)) c.answer_rows-answer.ensures.long c.clear.ensures
+returns c = evaluated (λ i. omega (arith, c.type_inv.rule i)) (λ i. omega (arith, c.type_inv.table i)) c.requires c.fits_table-fits.ensures (ap not c.if-not-fits.false) c.answer_rows-answer.ensures.right c.answer_rows-answer.ensures.wrote (omega arith) c.answer_rows-answer.ensures.long c.clear.ensures
