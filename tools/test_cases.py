@@ -28,7 +28,8 @@ def made_files(folder):
     """The files of the programs that the tools make, by their path below the crates."""
     found = {}
     for program in PROGRAMS:
-        for base, _, names in os.walk(os.path.join(folder, program)):
+        for base, folders, names in os.walk(os.path.join(folder, program)):
+            folders[:] = [f for f in folders if f != "out"]
             for name in names:
                 path = os.path.join(base, name)
                 data = os.path.basename(base) == "data" and not name.startswith(NOT_MADE)
@@ -47,7 +48,7 @@ def printed(program):
 def make_again(folder):
     """The made files, written anew in a copy of the crates."""
     for program in PROGRAMS:
-        shutil.copytree(os.path.join(CRATES, program), os.path.join(folder, program))
+        shutil.copytree(os.path.join(CRATES, program), os.path.join(folder, program), ignore=shutil.ignore_patterns("out"))
     for path in made_files(folder):
         os.remove(os.path.join(folder, path))
     for tool in (make_cases, make_run_cases):
