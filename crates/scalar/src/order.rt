@@ -7,6 +7,7 @@ ghost use Rattle.scalar.specs.Value.{meaning};
 use crate::negative::sign_turned;
 use crate::text::{place_text, same_bytes, text_less};
 use crate::value::{Value, float_bits};
+use std::cmp::Ordering;
 
 // How two values stand to each other.
 #[derive(Clone, Copy, Debug, PartialEq, Eq)]
@@ -84,13 +85,11 @@ pub fn text_order(s: &[u8], t: &[u8]) -> Order
 pub fn number_order(x: u64, y: u64) -> Order
     ensures { result ≡ number_order x y }
 {
-    if x == y {
-        return Order::Equal;
+    match x.cmp(&y) {
+        Ordering::Less => Order::Less,
+        Ordering::Equal => Order::Equal,
+        Ordering::Greater => Order::Greater,
     }
-    if x < y {
-        return Order::Less;
-    }
-    Order::Greater
 }
 
 // A number of a kind beside another key.
