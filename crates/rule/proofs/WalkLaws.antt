@@ -2,7 +2,7 @@
 use mathlib.Core.Path.{◌≡◌, refl, ap, sym, subst, ◌∙◌}
 use mathlib.Core.Bool.{Bool, true, false, cond}
 use mathlib.Core.List.{List, [], ◌∷◌, ◌++◌}
-use Prim.Native.Nat.{ℕ, zero, suc, ◌+◌, ◌-◌, ◌*◌, ◌%◌, ◌<◌, ◌≤◌}
+use Prim.Native.Nat.{ℕ, zero, suc, ◌+◌, ◌*◌, ◌%◌, ◌<◌, ◌≤◌}
 use native.Mathlib.Omega.{arith}
 use lib.Dec.{leb}
 use lib.ListN.{length, drop, get_or-eq_default}
@@ -152,10 +152,10 @@ first_two e f trees =
     (first, second, later)
 
 -- what stands behind so many fields, one field on
-pub behind_next : (rule : List ℕ) (place : ℕ) {left next : ℕ} → 0 < left → next ≡ field_end rule place → behind_fields rule next (left - 1) ≡ behind_fields rule place left
+pub behind_next : (rule : List ℕ) (place : ℕ) {left less next : ℕ} → suc less ≡ left → next ≡ field_end rule place → behind_fields rule next less ≡ behind_fields rule place left
 unfolding behind_fields
 behind_next rule place {left = zero} some is = absurd (omega arith)
-behind_next rule place {left = suc n} {next} some is = let k : suc n - 1 ≡ n = omega arith in ap (behind_fields rule next) k ∙ ap (λ (x : ℕ). behind_fields rule x n) is
+behind_next rule place {left = suc n} {less} {next} some is = let k : less ≡ n = omega arith in ap (behind_fields rule next) k ∙ ap (λ (x : ℕ). behind_fields rule x n) is
 
 -- and behind none
 pub behind_none : (rule : List ℕ) {place left : ℕ} → left ≤ 0 → place ≡ behind_fields rule place left

@@ -20,13 +20,11 @@ pub(crate) fn projected(seen: Seen) -> ColumnList
 {
     let mut columns = [0u8; 256];
     let mut count = 0;
-    let mut i = 0;
-    while i < 256 {
+    for i in 0..256 {
         if seen.marks[i] != 0 {
             columns[count] = i as u8;
             count += 1;
         }
-        i += 1;
     }
     ColumnList { count, columns }
 }

@@ -42,13 +42,11 @@ fn all_literals(rule: &[u8], at: usize, count: usize) -> bool
     ensures { result ≡ literals_there rule.now at count }
 {
     let mut place = at;
-    let mut left = count;
-    while left > 0 {
+    for _ in 0..count {
         if byte_at(rule, place) != 17 {
             return false;
         }
         place = field_end(rule, place);
-        left -= 1;
     }
     true
 }
@@ -58,14 +56,12 @@ fn some_when(rule: &[u8], at: usize, count: u8) -> bool
     ensures { result ≡ when_there rule.now at count }
 {
     let mut place = at;
-    let mut left = count;
-    while left > 0 {
+    for _ in 0..count {
         let null = is_null_literal(rule, place);
         if !null {
             return true;
         }
         place = behind_fields(rule, place, 2);
-        left -= 1;
     }
     false
 }

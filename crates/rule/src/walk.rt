@@ -39,10 +39,8 @@ pub fn behind_fields(rule: &[u8], at: usize, count: usize) -> usize
     ensures { result ≡ behind_fields rule.now at count }
 {
     let mut place = at;
-    let mut left = count;
-    while left > 0 {
+    for _ in 0..count {
         place = field_end(rule, place);
-        left -= 1;
     }
     place
 }
