@@ -8,3 +8,4 @@ pub mod CountLaws
 pub mod NumberLaws
 pub mod PartLaws
 pub mod PlaceLaws
+pub mod RefusalLaws

@@ -5,8 +5,7 @@ use Rattle.layout.specs.Result.{ok}
 use Rattle.layout.specs.Refusals.{among}
 use Rattle.layout.proofs.ResultLaws.{refused_not_ok, ok_injective, RefusedAmong, ok_among, refused_among}
 use Rattle.scalar.specs.declared.types.DataType.{DataType}
-use Rattle.scalar.specs.declared.types.TypeAnswer.{TypeAnswer}
-use Rattle.scalar.specs.declared.types.TypeAnswer.TheVariants.{Known, Unknown}
+use Rattle.std.specs.Prelude.{Option, Some, None}
 use Rattle.scalar.specs.declared.types.DataType.TheVariants.{Boolean, Int32, Int64, Float64, Utf8}
 use Rattle.scalar.specs.Types.{type_number, same_type, type_numbered, type_answer, type_means, mark_number, mark_numbered}
 use Rattle.scalar.specs.Integer.{signed, in_range}
@@ -233,7 +232,7 @@ less_typed a b = go (pair_of a b)
 abbrev pub NoType : ℕ → Type 0
 NoType k = (((((Unit {0} × (k ≡ 1 → ⊥)) × (k ≡ 2 → ⊥)) × (k ≡ 3 → ⊥)) × (k ≡ 4 → ⊥)) × (k ≡ 5 → ⊥))
 
-pub no_type : (k : ℕ) → NoType k → Unknown ≡ type_answer (type_numbered 0 k)
+pub no_type : (k : ℕ) → NoType k → None ≡ type_answer (type_numbered 0 k)
 unfolding type_numbered
 no_type zero h = refl
 no_type (suc zero) h = absurd (h.0.0.0.0.1 refl)
@@ -244,11 +243,11 @@ no_type (suc (suc (suc (suc (suc zero))))) h = absurd (h.1 refl)
 no_type (suc (suc (suc (suc (suc (suc j)))))) h = refl
 
 -- a number that is a type's
-pub has_type : (k : ℕ) (t : DataType) → k ≡ type_number t → Known t ≡ type_answer (type_numbered 0 k)
+pub has_type : (k : ℕ) (t : DataType) → k ≡ type_number t → Some t ≡ type_answer (type_numbered 0 k)
 has_type k t e = ap type_answer (sym (type_numbered_back 0 t)) ∙ ap (λ (x : ℕ). type_answer (type_numbered 0 x)) (sym e)
 
 -- an answer is the reading, whatever the refusal
-pub type_means_lem : (n k : ℕ) {r : TypeAnswer} → r ≡ type_answer (type_numbered 0 k) → type_means n r ≡ type_numbered n k
+pub type_means_lem : (n k : ℕ) {r : Option DataType} → r ≡ type_answer (type_numbered 0 k) → type_means n r ≡ type_numbered n k
 unfolding type_numbered
 type_means_lem n k e = ap (type_means n) e ∙ go k
   where

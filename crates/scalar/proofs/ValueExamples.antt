@@ -2,7 +2,7 @@
 use Rattle.std.proofs.Common.{◌≡◌, true, [], ◌∷◌, refl}
 use lib.Ieee.{nan_bits}
 use Rattle.scalar.specs.declared.types.DataType.TheVariants as Of
-use Rattle.scalar.specs.declared.types.TypeAnswer.TheVariants.{Known, Unknown}
+use Rattle.std.specs.Prelude.{Some, None}
 use Rattle.scalar.specs.declared.value.Value.TheVariants.{Null, Boolean, Int32, Int64, Nan, RuleText, TableText, Failed}
 use Rattle.scalar.specs.Types.{type_numbered, type_answer}
 use Rattle.scalar.specs.Text.{same_bytes, text_less}
@@ -47,6 +47,6 @@ unfolding pair_of same_bytes text_less
 compare_example = (refl, refl, refl)
 
 -- 5 is Utf8, 6 is none
-pub type_example : (type_answer (type_numbered 0 5) ≡ Known Of.Utf8) × (type_answer (type_numbered 0 6) ≡ Unknown)
+pub type_example : (type_answer (type_numbered 0 5) ≡ Some Of.Utf8) × (type_answer (type_numbered 0 6) ≡ None)
 unfolding type_numbered
 type_example = (refl, refl)

@@ -1,9 +1,7 @@
 -- Types with their numbers (01, Bytes of a rule).
-use Rattle.std.specs.Prelude.{ℕ, zero, suc, Bool, true, false, cond, ◌==◌}
+use Rattle.std.specs.Prelude.{ℕ, zero, suc, Bool, true, false, cond, ◌==◌, Option, Some, None}
 use Rattle.layout.specs.Result.{Result, refused, ok}
 use Rattle.scalar.specs.declared.types.DataType.{DataType}
-use Rattle.scalar.specs.declared.types.TypeAnswer.{TypeAnswer}
-use Rattle.scalar.specs.declared.types.TypeAnswer.TheVariants.{Known, Unknown}
 use Rattle.scalar.specs.declared.types.DataType.TheVariants.{Boolean, Int32, Int64, Float64, Utf8}
 
 -- 1 Boolean, 2 Int32, 3 Int64, 4 Float64, 5 Utf8
@@ -45,14 +43,14 @@ type_numbered n (suc (suc (suc (suc (suc zero))))) = ok Utf8
 type_numbered n (suc (suc (suc (suc (suc (suc k)))))) = refused n
 
 -- what an answer says, if a number without a type is refused with n
-abbrev pub type_means : ℕ → TypeAnswer → Result DataType
-type_means n (Known t) = ok t
-type_means n Unknown = refused n
+abbrev pub type_means : ℕ → Option DataType → Result DataType
+type_means n (Some t) = ok t
+type_means n None = refused n
 
 -- a reading of a number as an answer
-abbrev pub type_answer : Result DataType → TypeAnswer
-type_answer (ok t) = Known t
-type_answer (refused n) = Unknown
+abbrev pub type_answer : Result DataType → Option DataType
+type_answer (ok t) = Some t
+type_answer (refused n) = None
 
 -- a mark is 0 or 1 (01, Bytes of a rule; Bytes of a table)
 unfoldable pub mark_numbered : ℕ → ℕ → Result Bool

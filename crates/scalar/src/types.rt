@@ -1,8 +1,8 @@
 // The types of columns, literals and results.
 ghost use Rattle.std.specs.Prelude.{◌≡◌};
-ghost use Rattle.scalar.specs.Types.{is_integer, type_numbered, type_answer, mark_number};
+ghost use Rattle.scalar.specs.Types.{is_integer, type_number, type_numbered, type_answer, mark_number};
 
-#[derive(Clone, Copy)]
+#[derive(Clone, Copy, Debug, PartialEq, Eq)]
 pub enum DataType {
     Boolean,
     Int32,
@@ -11,24 +11,32 @@ pub enum DataType {
     Utf8,
 }
 
-// The type of a number, if it has one.
-#[derive(Clone, Copy)]
-pub enum TypeAnswer {
-    Known(DataType),
-    Unknown,
-}
+impl DataType {
+    // The number of a type.
+    pub fn number(self) -> u8
+        ensures { result ≡ type_number self }
+    {
+        match self {
+            DataType::Boolean => 1,
+            DataType::Int32 => 2,
+            DataType::Int64 => 3,
+            DataType::Float64 => 4,
+            DataType::Utf8 => 5,
+        }
+    }
 
-// The type of a number: 1 to 5.
-pub fn type_numbered(number: u8) -> TypeAnswer
-    ensures { result ≡ type_answer (type_numbered 0 number) }
-{
-    match number {
-        1 => TypeAnswer::Known(DataType::Boolean),
-        2 => TypeAnswer::Known(DataType::Int32),
-        3 => TypeAnswer::Known(DataType::Int64),
-        4 => TypeAnswer::Known(DataType::Float64),
-        5 => TypeAnswer::Known(DataType::Utf8),
-        _ => TypeAnswer::Unknown,
+    // The type of a number: 1 to 5.
+    pub fn numbered(number: u8) -> Option<DataType>
+        ensures { result ≡ type_answer (type_numbered 0 number) }
+    {
+        match number {
+            1 => Some(DataType::Boolean),
+            2 => Some(DataType::Int32),
+            3 => Some(DataType::Int64),
+            4 => Some(DataType::Float64),
+            5 => Some(DataType::Utf8),
+            _ => None,
+        }
     }
 }
 

@@ -2,7 +2,7 @@
 use borrow.Author.Rules.{rules}
 use Rattle.scalar.specs.declared.types.DataType.TheVariants.{Boolean, Int32, Int64, Float64, Utf8}
 use Rattle.scalar.proofs.TypeLaws.{has_type, no_type}
-use Rattle.scalar.proofs.types.type_numbered.Goals as goal
+use Rattle.scalar.proofs.types.DataType.numbered.Goals as goal
 
 pub returns-in-1 : goal.returns-in-1
 returns-in-1 c = has_type c.args.number Boolean c.in-1.is
