@@ -3,7 +3,6 @@ ghost use Rattle.std.specs.Prelude.{◌≡◌};
 ghost use Rattle.rule.specs.WalkedStrategy.{null_there, else_there, literals_there, when_there, else_serves_at, table_serves_at, single_at, strategy_at};
 
 use crate::type_of::type_of;
-use crate::types::type_number;
 use crate::walk::{behind_fields, field_end};
 use layout::number::byte_at;
 
@@ -77,7 +76,7 @@ fn else_serves(rule: &[u8], at: usize, end: usize, then: usize) -> bool
     if byte_at(rule, at) != 17 {
         return false;
     }
-    type_number(type_of(rule, at)) == type_number(type_of(rule, then))
+    type_of(rule, at).number() == type_of(rule, then).number()
 }
 
 // Whether a lookup table serves: at least two branches, all literals, some WHEN not null, and an ELSE that serves.

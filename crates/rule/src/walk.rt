@@ -2,7 +2,7 @@
 ghost use Rattle.std.specs.Prelude.{◌≡◌};
 ghost use Rattle.rule.specs.Walked.{field_end, children_at, behind_fields};
 
-use layout::field::{Header, field_at};
+use layout::field::field_at;
 
 // Where the field at a place ends.
 pub fn field_end(rule: &[u8], at: usize) -> usize
@@ -12,8 +12,8 @@ pub fn field_end(rule: &[u8], at: usize) -> usize
         return at;
     }
     match field_at(rule, at) {
-        Header::Found(p) => p.end,
-        Header::Cut => rule.len(),
+        Some(p) => p.end,
+        None => rule.len(),
     }
 }
 
