@@ -111,8 +111,7 @@ fn read_steps(
     ensures { StepsRead rule.now at count column kind result tags.new keys.new }
 {
     let mut place = at;
-    let mut k = 0;
-    while k < count {
+    for k in 0..count {
         let then = field_end(rule, place);
         let s = step_at(rule, place, then);
         if s.tag == 0 {
@@ -127,7 +126,6 @@ fn read_steps(
         tags[k] = s.tag;
         keys[k] = s.key;
         place = field_end(rule, then);
-        k += 1;
     }
     true
 }
@@ -164,11 +162,9 @@ fn fill_spans(tags: &[u8], keys: &[u64], count: usize, lows: &mut [u64], highs: 
     requires lows_len { (length lows.old ≡ 32) × (length highs.old ≡ 32) }
     ensures { SpansOf tags.now keys.now count lows.new highs.new }
 {
-    let mut k = 0;
-    while k < count {
+    for k in 0..count {
         lows[k] = low_of(tags[k], keys[k]);
         highs[k] = high_of(tags[k], keys[k]);
-        k += 1;
     }
 }
 
@@ -184,17 +180,12 @@ fn span_index(lows: &[u64], highs: &[u64], count: usize, x: u64) -> u16
     requires { (length lows.now ≡ 32) × (length highs.now ≡ 32) × (count ≤ 32) }
     ensures { result ≡ span_index lows.now highs.now count x }
 {
-    let mut span = 0;
-    let index = loop {
-        if span == count {
-            break count + 1;
-        }
+    for span in 0..count {
         if in_span(lows[span], highs[span], x) {
-            break span + 1;
+            return (span + 1) as u16;
         }
-        span += 1;
-    };
-    index as u16
+    }
+    (count + 1) as u16
 }
 
 // The index of a row by its number: of a null the ELSE index.
@@ -233,11 +224,9 @@ fn index_rows(
     requires indices_len { (length indices.old ≡ 512) × (length numbers.now ≡ 512) }
     ensures { RowsIndexed (λ r c. c ≡ row_span numbers.now validity.now lows.now highs.now count r) work.now at n indices.new }
 {
-    let mut i = 0;
-    while i < n {
+    for i in 0..n {
         let r = row_at(work, at, i);
         indices[r] = row_index(numbers, validity, lows, highs, count, r);
-        i += 1;
     }
 }
 
@@ -280,11 +269,9 @@ fn index_one(
     requires indices_len { (length indices.old ≡ 512) × (length numbers.now ≡ 512) }
     ensures { RowsIndexed (λ r c. c ≡ one_span numbers.now validity.now low high r) work.now at n indices.new }
 {
-    let mut i = 0;
-    while i < n {
+    for i in 0..n {
         let r = row_at(work, at, i);
         indices[r] = one_row(numbers, validity, low, high, r);
-        i += 1;
     }
 }
 
