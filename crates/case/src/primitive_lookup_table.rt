@@ -1,7 +1,7 @@
 // Number keys: Int32, Int64 and Float64, floats by bits; and those of one kind by the numbers by which they are compared.
 ghost use Rattle.std.specs.Prelude.{◌≡◌, ℕ, ◌<◌, ◌≤◌, length, ◌≢◌, slice_index};
 ghost use Rattle.case.specs.LookUpTables.{Keys, number_index};
-ghost use Rattle.case.specs.LookUpColumns.{number_key, number_hint, NumbersRead, NumberTable, number_found, ElseFilled, DenseFilled};
+ghost use Rattle.case.specs.LookUpColumns.{number_hint, NumbersRead, NumberTable, number_found, ElseFilled, DenseFilled};
 
 use scalar::order::{Key, key_of};
 use scalar::value::value_of;
@@ -27,32 +27,6 @@ pub(crate) fn find_number(
     otherwise
 }
 
-// A number among those of its kind; kind 0 is none.
-#[derive(Clone, Copy)]
-pub(crate) struct NumberKey {
-    pub(crate) kind: u8,
-    pub(crate) number: u64,
-}
-
-// No number.
-fn no_number() -> NumberKey
-    ensures { result ≡ number_key Key.Null }
-{
-    NumberKey { kind: 0, number: 0 }
-}
-
-// The number by which a value is compared.
-fn number_key(key: Key) -> NumberKey
-    ensures { result ≡ number_key key }
-{
-    match key {
-        Key::Null => no_number(),
-        Key::Failed => no_number(),
-        Key::Number(kind, number) => NumberKey { kind, number },
-        Key::Text => no_number(),
-    }
-}
-
 // A number's place among the hints.
 fn number_hint(x: u64) -> usize
     ensures { result ≡ number_hint x }
@@ -74,12 +48,14 @@ pub(crate) fn read_numbers(
     ensures { NumbersRead kinds.now keys.now size kind result numbers.new hints.new }
 {
     for k in 0..size {
-        let x = number_key(key_of(value_of(kinds[k], keys[k])));
-        if x.kind != kind {
+        let Key::Number(of, number) = key_of(value_of(kinds[k], keys[k])) else {
+            return false;
+        };
+        if of != kind {
             return false;
         }
-        numbers[k] = x.number;
-        hints[number_hint(x.number)] = (k + 1) as u8;
+        numbers[k] = number;
+        hints[number_hint(number)] = (k + 1) as u8;
     }
     true
 }

@@ -1,9 +1,9 @@
 // WHENs that each compare the numbers of one column with a literal. A row's branch is found from the one number by which its entry is compared:
 // the first WHEN that the number passes.
-ghost use Rattle.std.specs.Prelude.{◌≡◌, ◌+◌, ◌*◌, ◌<◌, ◌≤◌, length, if◌then◌else◌};
+ghost use Rattle.std.specs.Prelude.{◌≡◌, ◌+◌, ◌*◌, ◌<◌, ◌≤◌, length, if◌then◌else◌, IfSome};
 ghost use Rattle.table.specs.Places.{column_in};
 ghost use Rattle.case.specs.Frame.{Rows};
-ghost use Rattle.case.specs.Steps.{StepsGive, no_step, step_of, SidesGive, StepGives, StepsRead, step_low, step_high, SpansOf, one_span, in_span, span_index, row_span, RowIndex, RowsIndexed, ColumnGives, StepRows, WhenGives};
+ghost use Rattle.case.specs.Steps.{StepsGive, step_of, SidesGive, StepGives, StepsRead, step_low, step_high, SpansOf, one_span, in_span, span_index, row_span, RowIndex, RowsIndexed, ColumnGives, StepRows, WhenGives};
 
 use crate::keys::column_keys;
 use crate::literal_lookup_table::BRANCHES_MOST;
@@ -21,7 +21,7 @@ use table::places::{ColumnPlace, Table};
 const NUMBER_MOST: u64 = 0xffff_ffff_ffff_ffff;
 
 // A column compared with a literal: equal (23), less (24), or the literal less than the column (26, the tag of no node); the column, and the kind
-// and the key of the literal. Tag 0 is any other node.
+// and the key of the literal.
 #[derive(Clone, Copy)]
 pub(crate) struct Step {
     pub(crate) tag: u8,
@@ -30,44 +30,30 @@ pub(crate) struct Step {
     pub(crate) key: u64,
 }
 
-// Any other node.
-fn no_step() -> Step
-    ensures { result ≡ no_step }
-{
-    Step {
-        tag: 0,
-        column: 0,
-        kind: 0,
-        key: 0,
-    }
-}
-
 // A step by its tag, its column and how its literal is compared.
-fn step_of(tag: u8, column: u8, key: Key) -> Step
+fn step_of(tag: u8, column: u8, key: Key) -> Option<Step>
     ensures { result ≡ step_of tag column key }
 {
     match key {
-        Key::Null => no_step(),
-        Key::Failed => no_step(),
-        Key::Number(kind, key) => Step {
+        Key::Number(kind, key) => Some(Step {
             tag,
             column,
             kind,
             key,
-        },
-        Key::Text => no_step(),
+        }),
+        _ => None,
     }
 }
 
 // The step of a tag, where a column stands at one place and a literal from another to its end.
-fn step_between(rule: &[u8], tag: u8, at: usize, literal: usize, end: usize) -> Step
-    ensures { SidesGive rule.now tag at literal end result }
+fn step_between(rule: &[u8], tag: u8, at: usize, literal: usize, end: usize) -> Option<Step>
+    ensures { IfSome result (SidesGive rule.now tag at literal end) }
 {
     if byte_at(rule, at) != 16 {
-        return no_step();
+        return None;
     }
     if byte_at(rule, literal) != 17 {
-        return no_step();
+        return None;
     }
     step_of(
         tag,
@@ -77,13 +63,13 @@ fn step_between(rule: &[u8], tag: u8, at: usize, literal: usize, end: usize) -> 
 }
 
 // The node at a place, where it is a step.
-fn step_at(rule: &[u8], start: usize, end: usize) -> Step
-    ensures { StepGives rule.now start end result }
+fn step_at(rule: &[u8], start: usize, end: usize) -> Option<Step>
+    ensures { IfSome result (StepGives rule.now start end) }
 {
     let tag = byte_at(rule, start);
     if tag != 23 {
         if tag != 24 {
-            return no_step();
+            return None;
         }
     }
     let at = children_at(rule, start);
@@ -92,7 +78,7 @@ fn step_at(rule: &[u8], start: usize, end: usize) -> Step
         return step_between(rule, tag, at, middle, end);
     }
     if tag != 24 {
-        return no_step();
+        return None;
     }
     step_between(rule, 26, middle, at, middle)
 }
@@ -113,10 +99,9 @@ fn read_steps(
     let mut place = at;
     for k in 0..count {
         let then = field_end(rule, place);
-        let s = step_at(rule, place, then);
-        if s.tag == 0 {
+        let Some(s) = step_at(rule, place, then) else {
             return false;
-        }
+        };
         if s.column != column {
             return false;
         }
@@ -378,7 +363,9 @@ pub(crate) fn step_values(
     requires values_len { length values.old ≡ 512 }
     ensures { StepsGive rule.now at table.now t count work.now n result values.new }
 {
-    let first = step_at(rule, at, field_end(rule, at));
+    let Some(first) = step_at(rule, at, field_end(rule, at)) else {
+        return false;
+    };
     let c = first.column as usize;
     if t.count <= c {
         return false;
@@ -441,10 +428,9 @@ pub(crate) fn step_when(
     if !asked {
         return false;
     }
-    let s = step_at(rule, start, end);
-    if s.tag == 0 {
+    let Some(s) = step_at(rule, start, end) else {
         return false;
-    }
+    };
     let c = s.column as usize;
     if t.count <= c {
         return false;
