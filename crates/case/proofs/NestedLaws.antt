@@ -1,5 +1,5 @@
 -- The classes of rows by a CASE of literals that is a THEN of the root. Assumes nothing.
-use Rattle.std.proofs.Common.{◌≡◌, ℕ, zero, suc, ◌+◌, ◌-◌, ◌*◌, ◌<◌, ◌≤◌, Bool, true, false, cond, eqb, ◌⊎◌, List, length, get_or, set, sym, refl, ap, ◌∙◌, subst, ap₂, inl, inr, arith, length-set, get_or-set_other, get_or-set_same, eq-eqb, ne_eqb, eqb-true}
+use Rattle.std.proofs.Common.{◌≡◌, ℕ, zero, suc, ◌+◌, ◌-◌, ◌*◌, ◌<◌, ◌≤◌, Bool, true, false, cond, eqb, ◌⊎◌, List, length, get_or, set, sym, refl, ap, ◌∙◌, subst, ap₂, inl, inr, arith, length-set, get_or-set_other, get_or-set_same, eq-eqb, ne_eqb, eqb-true, Option, Some}
 use mathlib.Core.Bool.{false≢true}
 use native.Mathlib.Decide.{ℕ_discrete, dec_lt}
 use Rattle.layout.specs.Bytes.{byte}
@@ -206,14 +206,14 @@ nested_give {rule} {start} {end} {code} {from} {place} {count} {kinds' = kinds'}
   };
 }
 
-module _ {rule : List ℕ} {start end : ℕ} {table : List ℕ} {t : Table} {code from : ℕ} {w : List ℕ} {n : ℕ} {values kinds payloads kinds' payloads' : List ℕ} {found place : ℕ}
-    (v : CaseValues rule start end table t w n values found) (is : found ≡ place) (there : place ≡ 0 → ⊥) (results : NestedResults rule start end code from kinds payloads place kinds' payloads') where
-  given_index : found ≡ 0 → ⊥
-  given_index e = there (sym is ∙ e)
+module _ {rule : List ℕ} {start end : ℕ} {table : List ℕ} {t : Table} {code from : ℕ} {w : List ℕ} {n : ℕ} {values kinds payloads kinds' payloads' : List ℕ} {found : Option ℕ} {place : ℕ}
+    (v : CaseValues rule start end table t w n values found) (is : found ≡ Some place) (there : place ≡ 0 → ⊥) (results : NestedResults rule start end code from kinds payloads place kinds' payloads') where
+  given : CaseValues rule start end table t w n values (Some place)
+  given = subst (λ (x : Option ℕ). CaseValues rule start end table t w n values x) is v
 
   -- an index of a CASE's results lies in the classes behind a class
   pub index_in : (q : ℕ) → Listed w 0 n q → from + get_or values q 0 < 258
-  index_in q l = let f = (v.each given_index q l).few in let r = (results.found there).room in omega arith
+  index_in q l = let f = (given.each q l).few in let r = (results.found there).room in omega arith
 
   -- the literal at a row's index behind a class is the row's outcome
   pub case_classed : {classes classes' : List ℕ} {count : ℕ} → count ≡ byte rule (start + 4) → 0 < code → Numbered w n values from classes classes'
@@ -224,27 +224,27 @@ module _ {rule : List ℕ} {start end : ℕ} {table : List ℕ} {t : Table} {cod
     few = room;
     onward = λ m. omega arith;
     others = numbered.others;
-    here = λ m q l. subst (ClassRight rule start end table t kinds' payloads' code from (from + count + 3) q) (sym (numbered.here q l)) (right_at q (v.each given_index q l));
+    here = λ m q l. subst (ClassRight rule start end table t kinds' payloads' code from (from + count + 3) q) (sym (numbered.here q l)) (right_at q (given.each q l));
   }
     where
       room : from + count + 3 ≤ 258
       room = let r = (results.found there).room in omega arith
 
-      read : BlockRead rule found end (byte rule (start + 4)) (results.found there).type from kinds' payloads'
-      read = subst (λ (x : ℕ). BlockRead rule x end (byte rule (start + 4)) (results.found there).type from kinds' payloads') (sym is) (results.found there).read
+      read : BlockRead rule place end (byte rule (start + 4)) (results.found there).type from kinds' payloads'
+      read = (results.found there).read
 
       of_kind : (c : ℕ) → 0 < c → c ≤ byte rule (start + 4) + 1 → get_or kinds' (from + c) 0 ≡ code
       of_kind zero a b = absurd (omega arith)
       of_kind (suc j) a b = kind_at kinds' code from (byte rule (start + 4) + 1) (results.found there).of_kind j (omega arith)
 
-      by : (q c : ℕ) → 0 < c → c ≤ byte rule (start + 4) + 1 → (e : Expr) (depth : ℕ) → CaseTree rule start end table t found depth q c e
+      by : (q c : ℕ) → 0 < c → c ≤ byte rule (start + 4) + 1 → (e : Expr) (depth : ℕ) → CaseTree rule start end table t place depth q c e
           → meaning rule table (value_at kinds' payloads' (from + c)) ≡ eval e (row_in table t q)
       by q zero a b e depth tree = absurd (omega arith)
       by q (suc j) a b e depth tree =
           read.held tree.bs tree.els depth (row_in table t q) table tree.trees tree.counted j (omega arith) (λ z. let k = of_kind (suc j) a b in omega arith)
           ∙ sym (tree.outcome (results.found there).type (results.found there).type_is)
 
-      right_at : (q : ℕ) → CaseIndex rule start end table t found q (get_or values q 0) → ClassRight rule start end table t kinds' payloads' code from (from + count + 3) q (from + get_or values q 0)
+      right_at : (q : ℕ) → CaseIndex rule start end table t place q (get_or values q 0) → ClassRight rule start end table t kinds' payloads' code from (from + count + 3) q (from + get_or values q 0)
       right_at q x = record {
         above = (let a = x.some in omega arith);
         below = (let b = x.few in omega arith);

@@ -162,8 +162,7 @@ fn nested_case(
         return 0;
     }
     let mut values = [0u16; 512];
-    let found = case_values(rule, start, end, table, t, work, n, &mut values);
-    if found != place {
+    if case_values(rule, start, end, table, t, work, n, &mut values) != Some(place) {
         return 0;
     }
     class_listed(work, n, &values, from, classes);

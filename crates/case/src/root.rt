@@ -39,8 +39,7 @@ pub(crate) fn class_rows(
     if place == 0 {
         return false;
     }
-    let found = case_values(rule, 0, rule.len(), table, t, work, t.rows, classes);
-    if found != place {
+    if case_values(rule, 0, rule.len(), table, t, work, t.rows, classes) != Some(place) {
         return false;
     }
     nested_thens(
