@@ -92,13 +92,11 @@ pub(crate) fn compare_list(
     requires in_bounds { (12288 ≤ length work.now) × (length codes.old ≡ 512) }
     ensures { RowsIndexed (λ r c. CodeRight less rule.now table.now (slot_at work.now r) (if fixed then b else next_slot work.now r) c) work.now at n codes.new }
 {
-    let mut i = 0;
-    while i < n {
+    for i in 0..n {
         let r = row_at(work, at, i);
         let x = get_slot(work, r);
         let y = second_side(work, fixed, b, r);
         codes[r] = truth_code(less, order_at(rule, table, x, y));
-        i += 1;
     }
 }
 
@@ -107,11 +105,9 @@ fn put_codes(work: &mut [u8], n: usize, codes: &[u8])
     requires { Fillable work.old n × (512 ≤ length codes.now) }
     ensures { Filled (λ r v. v ≡ code_value (slice_index codes.now r)) work.old n work.new }
 {
-    let mut i = 0;
-    while i < n {
+    for i in 0..n {
         let r = row_at(work, 0, i);
         put_slot(work, r, code_value(codes[r]));
-        i += 1;
     }
 }
 

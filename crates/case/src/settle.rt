@@ -101,8 +101,7 @@ fn split(
     ensures { Parted (class_coded how codes.now work.old index failed) work.old left result rows.new values.new work.new }
 {
     let mut m = 0;
-    let mut i = 0;
-    while i < left {
+    for i in 0..left {
         let r = row_at(work, 5632, i);
         let class = class_at(work, codes, how, index, failed, r);
         if class == 0 {
@@ -112,7 +111,6 @@ fn split(
             values[m] = class;
             m += 1;
         }
-        i += 1;
     }
     m
 }
@@ -233,8 +231,7 @@ fn split_by(
     ensures { Parted (class_by whens.now index) work.old left result rows.new values.new work.new }
 {
     let mut m = 0;
-    let mut i = 0;
-    while i < left {
+    for i in 0..left {
         let r = row_at(work, 5632, i);
         let class = class_by(whens, index, r);
         if class == 0 {
@@ -244,7 +241,6 @@ fn split_by(
             values[m] = class;
             m += 1;
         }
-        i += 1;
     }
     m
 }
