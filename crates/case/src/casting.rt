@@ -78,16 +78,8 @@ fn truncate_floats(work: &mut [u8], n: usize, to: DataType, tried: bool) -> usiz
     ensures { (result ≤ n) × Filled (λ q x. Gives (operation_of (cast_to tried to)) (slot_at work.old q) x) work.old result work.new }
 {
     match to {
-        DataType::Int32 => if tried {
-            truncate_rows(work, n, true, true)
-        } else {
-            truncate_rows(work, n, true, false)
-        },
-        DataType::Int64 => if tried {
-            truncate_rows(work, n, false, true)
-        } else {
-            truncate_rows(work, n, false, false)
-        },
+        DataType::Int32 => truncate_rows(work, n, true, tried),
+        DataType::Int64 => truncate_rows(work, n, false, tried),
         _ => 0,
     }
 }

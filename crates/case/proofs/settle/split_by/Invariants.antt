@@ -1,8 +1,0 @@
--- `split_by` parts the rows that leave from those that stay, one row a turn. The loop's invariant: so far they are parted.
-use Rattle.std.proofs.Common.{length}
-use Rattle.case.proofs.SplitLaws.{SplitSoFar}
-use Rattle.case.specs.Choosing.{class_by}
-use Rattle.case.proofs.settle.split_by.Given as goal
-
-abbrev pub invariant-loop-i : goal.invariant-loop-i
-invariant-loop-i l = SplitSoFar (class_by l.whens l.index) l.initial.work l.left (length l.initial.rows) (length l.initial.values) l.i l.m l.rows l.values l.work
