@@ -11,13 +11,16 @@ use lib.ListN.{length, get_or, take, drop, set, length-set, length-append, drop_
 use lib.Seq.{drop-cons, get_or-take, take-set-lt, take_at, get_or-append-add, get_or-set_same, get_or-set_other, ext_get_or, length-take-le, take_all, take-suc-set, append_snoc}
 use native.Mathlib.Decide.{dec_lt, dec_le}
 use borrow.Author.Tests.{le-leb, lt-leb, lt-ltb, le-ltb, ltb-true, leb-true, eqb-true, not-true, not-false, eq-eqb, ne_eqb}
-use Rattle.layout.specs.Result.{Result, refused, ok, ◌>>=◌, require}
+use Rattle.std.specs.Prelude.{Result as RustResult, Ok, Err}
+use Rattle.layout.specs.declared.refusal.Refusal.{Refusal}
+use Rattle.layout.specs.declared.refusal.Refusal.TheVariants as Is
+use Rattle.layout.specs.Refusals.{number_of, refusal_numbered}
+use Rattle.layout.specs.Result.{Result, refused, ok, ◌>>=◌, require, answered}
 use Rattle.layout.proofs.TestLaws.{both_hold}
 use Rattle.layout.proofs.ResultLaws.{refused_not_ok, ok_injective, require_then}
 use Rattle.builder.specs.Builder.{Builder, rising_below, is_whole, holds, some_held, hold_all, held_after, add_branch_result, or_else, finish}
-use Rattle.builder.specs.BuilderStruct.{marked, held_all, held_in, some_marked, count_of, builder_of, empty_builder, new_answer, marks_after, values_after, holding, answered, add_answer, finish_answer, NewGives, AddGives, FinishGives}
+use Rattle.builder.specs.BuilderStruct.{marked, held_all, held_in, some_marked, count_of, builder_of, empty_builder, new_answer, marks_after, values_after, holding, add_answer, left_by, add_after, finish_answer, NewGives, AddGives, FinishGives}
 use Rattle.builder.specs.declared.ResultBuilder.{ResultBuilder}
-use Rattle.builder.specs.declared.BuilderAnswer.{BuilderAnswer}
 use Rattle.builder.specs.declared.Finished.{Finished}
 
 -- ---- rows that rise below a count
@@ -137,15 +140,16 @@ pub holds_none : (marks values rows given : List ℕ) → HoldsSoFar marks value
 holds_none marks values rows given = record { few = omega arith; long = refl; long_values = refl; marks_are = refl; values_are = refl }
 
 module _ {marks values rows given : List ℕ} {i : ℕ} {marks' values' : List ℕ} (s : HoldsSoFar marks values rows given i marks' values') where
-  pub holds_more : i < length rows → length rows ≡ length given
-      → HoldsSoFar marks values rows given (i + 1) (set marks' (get_or rows i 0) 1) (set values' (get_or rows i 0) (get_or given i 0))
+  -- the value of one row more
+  pub holds_more : i < length rows → length rows ≡ length given → {j r v : ℕ} → j ≡ i + 1 → r ≡ get_or rows i 0 → v ≡ get_or given i 0
+      → HoldsSoFar marks values rows given j (set marks' r 1) (set values' r v)
   unfolding marks_after values_after
-  holds_more h e = record {
+  holds_more h e {j} {r} {v} next row value = record {
     few = omega arith;
-    long = length-set marks' (get_or rows i 0) 1 ∙ s.long;
-    long_values = length-set values' (get_or rows i 0) (get_or given i 0) ∙ s.long_values;
-    marks_are = s.marks_are ∙ rw (add-one i, drop-cons rows i 0 h) refl;
-    values_are = s.values_are ∙ rw (add-one i, drop-cons rows i 0 h, drop-cons given i 0 (omega arith)) refl;
+    long = length-set marks' r 1 ∙ s.long;
+    long_values = length-set values' r v ∙ s.long_values;
+    marks_are = s.marks_are ∙ rw (next, row, add-one i, drop-cons rows i 0 h) refl;
+    values_are = s.values_are ∙ rw (next, row, value, add-one i, drop-cons rows i 0 h, drop-cons given i 0 (omega arith)) refl;
   }
 
   pub holds_all : length rows ≤ i → (marks' ≡ marks_after marks rows) × (values' ≡ values_after values rows given)
@@ -245,16 +249,16 @@ held_replicate zero m h = refl
 held_replicate (suc n) zero h = absurd (omega arith)
 held_replicate (suc n) (suc m) h = ap (λ (l : List (Option ℕ)). none ∷ l) (held_replicate n m (omega arith))
 
-pub new_refused : (rows : ℕ) (b : ResultBuilder) → b ≡ empty_builder 0 → 512 < rows → record { refused = 10; builder = b } ≡ new_answer rows
+pub new_refused : (rows : ℕ) → 512 < rows → Err Is.TableSize ≡ new_answer rows
 unfolding new_answer
-new_refused rows b e h = ap (λ (x : ResultBuilder). record { refused = 10; builder = x }) e ∙ simp (lt-leb rows 512 h)
+new_refused rows h = simp (lt-leb rows 512 h)
 
-pub new_given : (rows : ℕ) (b : ResultBuilder) → b ≡ empty_builder rows → rows ≤ 512 → record { refused = 0; builder = b } ≡ new_answer rows
+pub new_given : (rows : ℕ) (b : ResultBuilder) → b ≡ empty_builder rows → rows ≤ 512 → Ok b ≡ new_answer rows
 unfolding new_answer
-new_given rows b e h = ap (λ (x : ResultBuilder). record { refused = 0; builder = x }) e ∙ simp (le-leb rows 512 h)
+new_given rows b e h = ap Ok e ∙ simp (le-leb rows 512 h)
 
 -- a new builder is the definition's
-pub new_gives : {rows : ℕ} {r : BuilderAnswer} → r ≡ new_answer rows → NewGives rows r
+pub new_gives : {rows : ℕ} {r : RustResult ResultBuilder Refusal} → r ≡ new_answer rows → NewGives rows r
 unfolding new_answer
 new_gives {rows} {r} e = go (dec_le rows 512)
   where
@@ -263,15 +267,15 @@ new_gives {rows} {r} e = go (dec_le rows 512)
         let few : min rows 512 ≡ rows = omega arith in
         let held : held_in (min rows 512) (replicate 512 0) (replicate 512 0) ≡ replicate rows none =
         ap (λ (n : ℕ). held_in n (replicate 512 0) (replicate 512 0)) few ∙ held_replicate rows 512 h in
-        let is : r ≡ record { refused = 0; builder = empty_builder rows } = e ∙ simp (le-leb rows 512 h) in
+        let is : r ≡ Ok (empty_builder rows) = e ∙ simp (le-leb rows 512 h) in
         subst (NewGives rows) (sym is) (record {
           says = (λ i. ok (record { part = false; whole = false; held = held i })) ∙ simp (le-leb rows 512 h);
-          same_rows = λ _. refl;
+          same_rows = refl;
         })
     go (no n) =
         let h : 512 < rows = omega arith in
-        let is : r ≡ record { refused = 10; builder = empty_builder 0 } = e ∙ simp (lt-leb rows 512 h) in
-        subst (NewGives rows) (sym is) (record { says = simp (lt-leb rows 512 h); same_rows = λ l. absurd (omega arith) })
+        let is : r ≡ Err Is.TableSize = e ∙ simp (lt-leb rows 512 h) in
+        subst (NewGives rows) (sym is) (record { says = simp (lt-leb rows 512 h); same_rows = tt })
 
 pub kept_value : (m v : ℕ) → (m ≡ 0 → ⊥) → v ≡ or_else 0 (marked m v)
 kept_value zero v n = absurd (n refl)
@@ -324,14 +328,14 @@ whole_holds held rows values p e q = whole_from held 0 rows values p (omega arit
 steps : (same rises fits free : Bool) → Builder ℕ → Result (Builder ℕ)
 steps same rises fits free out = require same 19 >>= λ _. require rises 18 >>= λ _. require fits 21 >>= λ _. require free 20 >>= λ _. ok out
 
--- no refusal has the number 0
-steps_some : (same rises fits free : Bool) (out : Builder ℕ) → steps same rises fits free out ≡ refused 0 → ⊥
+-- a refusal keeps its number
+steps_number : (same rises fits free : Bool) (out : Builder ℕ) (n : ℕ) → steps same rises fits free out ≡ refused n → number_of (refusal_numbered n) ≡ n
 unfolding steps
-steps_some false rises fits free out e = let z : ◌≡◌ {A = ℕ} 19 0 = cc in omega arith
-steps_some true false fits free out e = let z : ◌≡◌ {A = ℕ} 18 0 = cc in omega arith
-steps_some true true false free out e = let z : ◌≡◌ {A = ℕ} 21 0 = cc in omega arith
-steps_some true true true false out e = let z : ◌≡◌ {A = ℕ} 20 0 = cc in omega arith
-steps_some true true true true out e = absurd (refused_not_ok 0 out (sym e))
+steps_number false rises fits free out n e = let is : ◌≡◌ {A = ℕ} 19 n = cc in subst (λ (k : ℕ). number_of (refusal_numbered k) ≡ k) is refl
+steps_number true false fits free out n e = let is : ◌≡◌ {A = ℕ} 18 n = cc in subst (λ (k : ℕ). number_of (refusal_numbered k) ≡ k) is refl
+steps_number true true false free out n e = let is : ◌≡◌ {A = ℕ} 21 n = cc in subst (λ (k : ℕ). number_of (refusal_numbered k) ≡ k) is refl
+steps_number true true true false out n e = let is : ◌≡◌ {A = ℕ} 20 n = cc in subst (λ (k : ℕ). number_of (refusal_numbered k) ≡ k) is refl
+steps_number true true true true out n e = absurd (refused_not_ok n out (sym e))
 
 -- what went before where the steps give something
 steps_ok : (same rises fits free : Bool) (out x : Builder ℕ) → steps same rises fits free out ≡ ok x → (same ≡ true) × (rises ≡ true) × (out ≡ x)
@@ -360,17 +364,20 @@ module _ (b : ResultBuilder) (rows values : List ℕ) (long : length b.held ≡ 
   unfolding add_branch_result steps
   add_is = ap (λ (n : ℕ). steps (eqb (length rows) (length values)) (rising_below 0 n rows) (not b.whole && not (b.part && is_whole (builder_of b) rows)) (not (some_held (builder_of b).held rows)) (with_branch b rows values)) count_is
 
-  -- the answer by what the definition gives
-  said : (x : Result (Builder ℕ)) → add_branch_result (builder_of b) rows values ≡ x → answered b rows values x ≡ add_answer b rows values
-  unfolding add_answer
-  said x p = ap (answered b rows values) (sym p)
+  -- what is answered and left, by what the definition gives
+  abbrev pub Answers : RustResult (Unit {0}) Refusal → ResultBuilder → Type 0
+  Answers r b' = (r ≡ add_answer b rows values) × (b' ≡ add_after b rows values)
 
-  pub add_19 : (length rows ≡ length values → ⊥) → record { refused = 19; builder = b } ≡ add_answer b rows values
+  said : (x : Result (Builder ℕ)) → add_branch_result (builder_of b) rows values ≡ x → Answers (answered (λ _. tt {0}) x) (left_by b rows values x)
+  unfolding add_answer add_after
+  said x p = (ap (answered (λ _. tt {0})) (sym p), ap (left_by b rows values) (sym p))
+
+  pub add_19 : (length rows ≡ length values → ⊥) → Answers (Err Is.BuilderLength) b
   unfolding steps
   add_19 n = said (refused 19) (add_is ∙ simp (ne_eqb _ _ n))
 
   module _ (same : length rows ≡ length values) where
-    pub add_18 : rising_below 0 (count_of b) rows ≡ false → record { refused = 18; builder = b } ≡ add_answer b rows values
+    pub add_18 : rising_below 0 (count_of b) rows ≡ false → Answers (Err Is.BuilderRow) b
     unfolding steps
     add_18 r = said (refused 18) (add_is ∙ simp (eq-eqb _ _ same, r))
 
@@ -383,27 +390,27 @@ module _ (b : ResultBuilder) (rows values : List ℕ) (long : length b.held ≡ 
         go false e = refl
 
     module _ (rises : rising_below 0 (count_of b) rows ≡ true) where
-      pub add_21 : not (not b.whole && not (b.part && eqb (length rows) (count_of b))) ≡ true → record { refused = 21; builder = b } ≡ add_answer b rows values
+      pub add_21 : not (not b.whole && not (b.part && eqb (length rows) (count_of b))) ≡ true → Answers (Err Is.BuilderWhole) b
       unfolding steps
       add_21 c = said (refused 21) (add_is ∙ simp (eq-eqb _ _ same, rises, count_is, not-true (not b.whole && not (b.part && eqb (length rows) (count_of b))) c))
 
       -- what is known where neither a whole nor a part refuses
       module _ (fits : not (not b.whole && not (b.part && eqb (length rows) (count_of b))) ≡ false) where
-        pub add_20 : some_marked b.held rows ≡ true → record { refused = 20; builder = b } ≡ add_answer b rows values
+        pub add_20 : some_marked b.held rows ≡ true → Answers (Err Is.BuilderHeld) b
         unfolding steps
         add_20 m =
             let held : some_held (builder_of b).held rows ≡ true = sym (marked_held (count_of b) b.held b.values 0 rows (omega arith) (omega arith) rises) ∙ m in
             said (refused 20) (add_is ∙ simp (eq-eqb _ _ same, rises, count_is, not-false (not b.whole && not (b.part && eqb (length rows) (count_of b))) fits, held))
 
         pub add_given : some_marked b.held rows ≡ false → (r : ResultBuilder) → r ≡ holding b rows values → (part all : Bool) → part ≡ (b.part || not all) → all ≡ eqb (length rows) (count_of b)
-            → record { refused = 0; builder = record { rows = r.rows; part = part; whole = all; held = r.held; values = r.values } } ≡ add_answer b rows values
+            → Answers (Ok tt) (record { rows = r.rows; part = part; whole = all; held = r.held; values = r.values })
         unfolding steps
         add_given m r h part all p w =
             let held : some_held (builder_of b).held rows ≡ false = sym (marked_held (count_of b) b.held b.values 0 rows (omega arith) (omega arith) rises) ∙ m in
             let whole_is : all ≡ is_whole (builder_of b) rows = w ∙ ap (eqb (length rows)) (sym count_is) in
             let part_is : part ≡ (b.part || not (is_whole (builder_of b) rows)) = p ∙ ap (λ (x : Bool). b.part || not x) whole_is in
-            (λ i. record { refused = 0; builder = record { rows = (h i).rows; part = part_is i; whole = whole_is i; held = (h i).held; values = (h i).values } })
-            ∙ said (ok (with_branch b rows values)) (add_is ∙ simp (eq-eqb _ _ same, rises, count_is, not-false (not b.whole && not (b.part && eqb (length rows) (count_of b))) fits, held))
+            let a = said (ok (with_branch b rows values)) (add_is ∙ simp (eq-eqb _ _ same, rises, count_is, not-false (not b.whole && not (b.part && eqb (length rows) (count_of b))) fits, held)) in
+            (a.0, (λ i. record { rows = (h i).rows; part = part_is i; whole = whole_is i; held = (h i).held; values = (h i).values }) ∙ a.1)
 
         -- no refusal where no row is held
         pub add_goes : some_held (builder_of b).held rows ≡ false
@@ -416,9 +423,8 @@ module _ (b : ResultBuilder) (rows values : List ℕ) (long : length b.held ≡ 
             tests ∙ (λ i. ok (record { part = b.part || not (is_whole (builder_of b) rows); whole = is_whole (builder_of b) rows; held = held_after_lem rises i }))
 
   -- an answer is the definition's
-  answer_gives : (x : Result (Builder ℕ)) → add_branch_result (builder_of b) rows values ≡ x → AddGives b rows values (answered b rows values x)
-  answer_gives (refused zero) p = absurd (steps_some _ _ _ _ _ (sym add_is ∙ p))
-  answer_gives (refused (suc n)) p = record { says = sym p; same_rows = refl; unchanged = λ _. refl }
+  answer_gives : (x : Result (Builder ℕ)) → add_branch_result (builder_of b) rows values ≡ x → AddGives b rows values (answered (λ _. tt {0}) x) (left_by b rows values x)
+  answer_gives (refused n) p = record { says = ap refused (steps_number _ _ _ _ _ n (sym add_is ∙ p)) ∙ sym p; same_rows = refl; unchanged = refl }
   answer_gives (ok x) p =
       let t = steps_ok _ _ _ _ _ x (sym add_is ∙ p) in
       let held : held_in (count_of b) (marks_after b.held rows) (values_after b.values rows values) ≡ x.held =
@@ -427,9 +433,11 @@ module _ (b : ResultBuilder) (rows values : List ℕ) (long : length b.held ≡ 
       record {
         says = (λ i. ok (record { part = x.part; whole = x.whole; held = held i })) ∙ sym p;
         same_rows = refl;
-        unchanged = λ n. absurd (n refl);
+        unchanged = tt;
       }
 
-  pub add_gives : {r : BuilderAnswer} → r ≡ add_answer b rows values → AddGives b rows values r
-  unfolding add_answer
-  add_gives {r} e = subst (AddGives b rows values) (sym e) (answer_gives (add_branch_result (builder_of b) rows values) refl)
+  pub add_gives : {r : RustResult (Unit {0}) Refusal} {b' : ResultBuilder} → Answers r b' → AddGives b rows values r b'
+  unfolding add_answer add_after
+  add_gives {r} {b'} e =
+      subst (λ (z : ResultBuilder). AddGives b rows values r z) (sym e.1)
+      (subst (λ (z : RustResult (Unit {0}) Refusal). AddGives b rows values z (add_after b rows values)) (sym e.0) (answer_gives (add_branch_result (builder_of b) rows values) refl))

@@ -1,9 +1,10 @@
 -- What a `ResultBuilder` struct says, and what its functions promise.
-use Rattle.std.specs.Prelude.{◌≡◌, Bool, false, cond, not, ◌||◌, List, [], ◌∷◌, ◌++◌, ℕ, zero, suc, min, ◌-◌, ◌≤◌, eqb, leb, get_or, set, take, replicate}
+use Rattle.std.specs.Prelude.{◌≡◌, Bool, false, not, ◌||◌, List, [], ◌∷◌, ◌++◌, ℕ, zero, suc, min, ◌-◌, eqb, get_or, set, take, replicate, Result as RustResult, Ok, Err, IfOk, OnErr}
 use Rattle.std.proofs.Math.Option.{Option, some, none}
-use Rattle.layout.specs.Result.{Result, refused, ok}
+use Rattle.layout.specs.declared.refusal.Refusal.{Refusal}
+use Rattle.layout.specs.Refusals.{number_of}
+use Rattle.layout.specs.Result.{Result, refused, ok, answered}
 use Rattle.builder.specs.declared.ResultBuilder.{ResultBuilder}
-use Rattle.builder.specs.declared.BuilderAnswer.{BuilderAnswer}
 use Rattle.builder.specs.declared.Finished.{Finished}
 use Rattle.builder.specs.Builder.{Builder, new_builder, add_branch_result, finish}
 
@@ -41,9 +42,9 @@ builder_of b = record { part = b.part; whole = b.whole; held = held_in (count_of
 abbrev pub empty_builder : ℕ → ResultBuilder
 empty_builder rows = record { rows = rows; part = false; whole = false; held = replicate 512 0; values = replicate 512 0 }
 
--- a builder for more than 512 rows is refused with 10, and what stands beside the number has no rows (01, Where a call stops)
-unfoldable pub new_answer : ℕ → BuilderAnswer
-new_answer rows = cond (leb rows 512) (record { refused = 0; builder = empty_builder rows }) (record { refused = 10; builder = empty_builder 0 })
+-- a builder for more than 512 rows is refused with 10 (01, Where a call stops)
+unfoldable pub new_answer : ℕ → RustResult ResultBuilder Refusal
+new_answer rows = answered (λ (b : Builder ℕ). empty_builder rows) (new_builder rows)
 
 -- the marks of the rows set to 1, one after the other
 unfoldable pub marks_after : List ℕ → List ℕ → List ℕ
@@ -60,17 +61,18 @@ values_after values (r ∷ rows) (v ∷ given) = values_after (set values r v) r
 abbrev pub holding : ResultBuilder → List ℕ → List ℕ → ResultBuilder
 holding b rows values = record { rows = b.rows; part = b.part; whole = b.whole; held = marks_after b.held rows; values = values_after b.values rows values }
 
--- 18 to 21 return the builder unchanged; else the rows hold their values (01, Where a call stops)
-abbrev pub answered : ResultBuilder → List ℕ → List ℕ → Result (Builder ℕ) → BuilderAnswer
-answered b rows values (refused n) = record { refused = n; builder = b }
-answered b rows values (ok x) = record {
-  refused = 0;
-  builder = record { rows = b.rows; part = x.part; whole = x.whole; held = marks_after b.held rows; values = values_after b.values rows values };
-}
-
 -- the answer by the definition's refusals
-unfoldable pub add_answer : ResultBuilder → List ℕ → List ℕ → BuilderAnswer
-add_answer b rows values = answered b rows values (add_branch_result (builder_of b) rows values)
+unfoldable pub add_answer : ResultBuilder → List ℕ → List ℕ → RustResult (Unit {0}) Refusal
+add_answer b rows values = answered (λ (x : Builder ℕ). tt {0}) (add_branch_result (builder_of b) rows values)
+
+-- 18 to 21 leave the builder as it was; else the rows hold their values (01, Where a call stops)
+abbrev pub left_by : ResultBuilder → List ℕ → List ℕ → Result (Builder ℕ) → ResultBuilder
+left_by b rows values (refused n) = b
+left_by b rows values (ok x) = record { rows = b.rows; part = x.part; whole = x.whole; held = marks_after b.held rows; values = values_after b.values rows values }
+
+-- the builder that the definition's refusals leave
+unfoldable pub add_after : ResultBuilder → List ℕ → List ℕ → ResultBuilder
+add_after b rows values = left_by b rows values (add_branch_result (builder_of b) rows values)
 
 -- each row's value, 0 where it holds none and behind the rows
 unfoldable pub finish_answer : ResultBuilder → Finished
@@ -78,21 +80,21 @@ finish_answer b = record { count = count_of b; values = finish 0 (builder_of b) 
 
 -- ---- what the outcomes mean
 
--- 0 is a builder, any other number a refusal
-abbrev pub answer_of : ℕ → ResultBuilder → Result (Builder ℕ)
-answer_of zero b = ok (builder_of b)
-answer_of (suc n) b = refused (suc n)
+-- an answer in the definition's words: its refusal's number, or the builder of what it gives
+abbrev pub answer_of : {A : Type 0} → (A → Builder ℕ) → RustResult A Refusal → Result (Builder ℕ)
+answer_of builder (Err e) = refused (number_of e)
+answer_of builder (Ok a) = ok (builder a)
 
 -- a new builder is the definition's
-pub record NewGives (rows : ℕ) (r : BuilderAnswer) : Type 0 where
-  pub says : answer_of r.refused r.builder ≡ new_builder rows
-  pub same_rows : rows ≤ 512 → r.builder.rows ≡ rows
+pub record NewGives (rows : ℕ) (r : RustResult ResultBuilder Refusal) : Type 0 where
+  pub says : answer_of builder_of r ≡ new_builder rows
+  pub same_rows : IfOk r (λ b. b.rows ≡ rows)
 
--- a branch's answer is the definition's; 18 to 21 return the builder unchanged
-pub record AddGives (b : ResultBuilder) (rows values : List ℕ) (r : BuilderAnswer) : Type 0 where
-  pub says : answer_of r.refused r.builder ≡ add_branch_result (builder_of b) rows values
-  pub same_rows : r.builder.rows ≡ b.rows
-  pub unchanged : (r.refused ≡ 0 → ⊥) → r.builder ≡ b
+-- a branch's answer, and the builder that it leaves, are the definition's; 18 to 21 leave the builder as it was
+pub record AddGives (b : ResultBuilder) (rows values : List ℕ) (r : RustResult (Unit {0}) Refusal) (b' : ResultBuilder) : Type 0 where
+  pub says : answer_of (λ _. builder_of b') r ≡ add_branch_result (builder_of b) rows values
+  pub same_rows : b'.rows ≡ b.rows
+  pub unchanged : OnErr r (b' ≡ b)
 
 -- the end's first values are the definition's
 pub record FinishGives (b : ResultBuilder) (r : Finished) : Type 0 where

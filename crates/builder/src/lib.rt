@@ -4,13 +4,15 @@
 
 ghost use Rattle.std.specs.Prelude.{◌≡◌, true, not, ◌&&◌, ◌||◌, ◌≤◌, min, length};
 ghost use Rattle.builder.specs.Builder.{rising_below, or_else};
-ghost use Rattle.builder.specs.BuilderStruct.{marked, some_marked, count_of, holding, empty_builder, new_answer, add_answer, finish_answer};
+ghost use Rattle.builder.specs.BuilderStruct.{marked, some_marked, count_of, holding, empty_builder, new_answer, add_answer, add_after, finish_answer};
+
+use layout::refusal::Refusal;
 
 // Most rows of a result.
 const ROWS_MOST: usize = 512;
 
 // `held` is 1 where a row holds its value of `values`, and 0 where it holds none.
-#[derive(Clone, Copy)]
+#[derive(Clone, Copy, Debug, PartialEq, Eq)]
 pub struct ResultBuilder {
     pub rows: usize,
     pub part: bool,
@@ -19,15 +21,8 @@ pub struct ResultBuilder {
     pub values: [u16; 512],
 }
 
-// A builder, or the number with which it is refused (0: none).
-#[derive(Drop)]
-pub struct BuilderAnswer {
-    pub refused: u8,
-    pub builder: ResultBuilder,
-}
-
 // The value of each row, 0 where it holds none: the first `count` of `values`. Behind them stand zeros.
-#[derive(Drop)]
+#[derive(Clone, Copy, Debug, PartialEq, Eq)]
 pub struct Finished {
     pub count: usize,
     pub values: [u16; 512],
@@ -51,23 +46,7 @@ fn kept(mark: u8, value: u16) -> u16
 fn clashes(whole: bool, part: bool, all: bool) -> bool
     ensures { result ≡ not (not whole && not (part && all)) }
 {
-    if whole {
-        return true;
-    }
-    if part {
-        return all;
-    }
-    false
-}
-
-// Whether a part was added, after a list of all rows or of some.
-fn part_after(part: bool, all: bool) -> bool
-    ensures { result ≡ (part || not all) }
-{
-    if part {
-        return true;
-    }
-    !all
+    whole || (part && all)
 }
 
 // Whether the rows rise and lie below a count.
@@ -75,51 +54,27 @@ fn rising_below(rows: &[u16], count: usize) -> bool
     ensures { result ≡ rising_below 0 count rows.now }
 {
     let mut from: usize = 0;
-    let mut i = 0;
-    while i < rows.len() {
-        let row = rows[i] as usize;
-        if row < from {
-            return false;
-        }
-        if count <= row {
+    for &row in rows {
+        let row = row as usize;
+        if row < from || count <= row {
             return false;
         }
         from = row + 1;
-        i += 1;
     }
     true
 }
 
 // Whether one of the rows is marked.
-fn some_marked(held: [u8; 512], rows: &[u16], count: usize) -> bool
+fn some_marked(held: &[u8; 512], rows: &[u16], count: usize) -> bool
     requires { (count ≤ 512) × (rising_below 0 count rows.now ≡ true) }
-    ensures { result ≡ some_marked held rows.now }
+    ensures { result ≡ some_marked held.now rows.now }
 {
-    let mut i = 0;
-    while i < rows.len() {
-        let row = rows[i] as usize;
-        if held[row] != 0 {
+    for &row in rows {
+        if held[row as usize] != 0 {
             return true;
         }
-        i += 1;
     }
     false
-}
-
-// The builder with a value for each of the rows.
-fn hold(b: ResultBuilder, rows: &[u16], values: &[u16], count: usize) -> ResultBuilder
-    requires { (count ≡ count_of b) × (rising_below 0 count rows.now ≡ true) × (length rows.now ≡ length values.now) }
-    ensures { result ≡ holding b rows.now values.now }
-{
-    let mut out = b;
-    let mut i = 0;
-    while i < rows.len() {
-        let row = rows[i] as usize;
-        out.held[row] = 1;
-        out.values[row] = values[i];
-        i += 1;
-    }
-    out
 }
 
 // A builder for so many rows, none of which is held.
@@ -136,74 +91,60 @@ fn empty(rows: usize) -> ResultBuilder
 }
 
 impl ResultBuilder {
-    // A builder for so many rows, none of which is held; above 512 it is refused with 10, and the builder given has no rows.
-    pub fn new(rows: usize) -> BuilderAnswer
+    // A builder for so many rows, none of which is held; above 512 rows there is none.
+    pub fn new(rows: usize) -> Result<ResultBuilder, Refusal>
         ensures { result ≡ new_answer rows }
     {
         if ROWS_MOST < rows {
-            let none = empty(0);
-            return BuilderAnswer {
-                refused: 10,
-                builder: none,
-            };
+            return Err(Refusal::TableSize);
         }
-        let builder = empty(rows);
-        BuilderAnswer {
-            refused: 0,
-            builder,
+        Ok(empty(rows))
+    }
+
+    // A value for each of the rows.
+    fn hold(&mut self, rows: &[u16], values: &[u16], count: usize)
+        requires { (count ≡ count_of self.old) × (rising_below 0 count rows.now ≡ true) × (length rows.now ≡ length values.now) }
+        ensures { self.new ≡ holding self.old rows.now values.now }
+    {
+        for (&row, &value) in rows.iter().zip(values) {
+            let row = row as usize;
+            self.held[row] = 1;
+            self.values[row] = value;
         }
     }
 
-    // The values of the rows of a branch: 19, 18, 21 or 20, and the builder is unchanged; or the builder with them.
-    pub fn add_branch_result(self, rows: &[u16], values: &[u16]) -> BuilderAnswer
-        ensures { result ≡ add_answer self rows.now values.now }
+    // The values of the rows of a branch. A refusal (19, 18, 21 or 20) leaves the builder as it was.
+    pub fn add_branch_result(&mut self, rows: &[u16], values: &[u16]) -> Result<(), Refusal>
+        ensures { (result ≡ add_answer self.old rows.now values.now) × (self.new ≡ add_after self.old rows.now values.now) }
     {
         let count = count_of(self.rows);
         if rows.len() != values.len() {
-            return BuilderAnswer {
-                refused: 19,
-                builder: self,
-            };
+            return Err(Refusal::BuilderLength);
         }
         if !rising_below(rows, count) {
-            return BuilderAnswer {
-                refused: 18,
-                builder: self,
-            };
+            return Err(Refusal::BuilderRow);
         }
         let all = rows.len() == count;
         if clashes(self.whole, self.part, all) {
-            return BuilderAnswer {
-                refused: 21,
-                builder: self,
-            };
+            return Err(Refusal::BuilderWhole);
         }
-        let held = self.held;
-        if some_marked(held, rows, count) {
-            return BuilderAnswer {
-                refused: 20,
-                builder: self,
-            };
+        if some_marked(&self.held, rows, count) {
+            return Err(Refusal::BuilderHeld);
         }
-        let mut out = hold(self, rows, values, count);
-        out.part = part_after(self.part, all);
-        out.whole = all;
-        BuilderAnswer {
-            refused: 0,
-            builder: out,
-        }
+        self.hold(rows, values, count);
+        self.part = self.part || !all;
+        self.whole = all;
+        Ok(())
     }
 
     // The value of each row; a row that no part holds is 0, null.
-    pub fn finish(self) -> Finished
-        ensures { result ≡ finish_answer self }
+    pub fn finish(&self) -> Finished
+        ensures { result ≡ finish_answer self.now }
     {
         let count = count_of(self.rows);
         let mut out = [0u16; 512];
-        let mut i = 0;
-        while i < count {
+        for i in 0..count {
             out[i] = kept(self.held[i], self.values[i]);
-            i += 1;
         }
         Finished { count, values: out }
     }

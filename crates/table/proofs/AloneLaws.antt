@@ -9,86 +9,79 @@ use lib.ListN.{length, drop, length-take, length-drop}
 use borrow.Author.Tests.{eq-eqb, ne_eqb, le-leb, lt-leb, leb-true}
 use Rattle.layout.specs.Bytes.{Bytes, byte, number_at}
 use Rattle.layout.specs.Field.{Field, content_length, field_at, header}
-use Rattle.layout.specs.Result.{Result, refused, ok, ◌>>=◌, require}
+use Rattle.layout.specs.Result.{Result, ok, ◌>>=◌, require}
 use Rattle.layout.proofs.FieldLaws.{header_ok}
 use Rattle.layout.proofs.ResultLaws.{ok_injective, bind_ok, require_then}
 use Rattle.scalar.specs.declared.types.DataType.{DataType}
 use Rattle.scalar.specs.Types.{type_numbered, mark_numbered}
-use Rattle.table.specs.declared.column.ColumnAnswer.{ColumnAnswer}
-use Rattle.table.specs.declared.places.ColumnPlace.{ColumnPlace}
-use Rattle.table.specs.declared.places.PlaceAnswer.{PlaceAnswer}
+use Rattle.std.specs.Prelude.{Ok, Err}
+use Rattle.layout.specs.declared.refusal.Refusal.{Refusal}
+use Rattle.layout.specs.declared.refusal.Refusal.TheVariants.{TableFields, TableSize, NullCount}
+use Rattle.table.specs.declared.column.ColumnRead.{ColumnRead}
 use Rattle.table.specs.Column.{TableColumn}
 use Rattle.table.specs.Reading.{Part, tagged, tagged_pair, read_count, read_validity, read_offsets, values_length, read_values, read_body, read_parts, count_right, read_alone}
-use Rattle.table.specs.Places.{no_place, values_end, validity_start, alone_answer}
-use Rattle.table.specs.Parts.{head_answer, place_count_right}
+use Rattle.table.specs.Places.{place_from, values_end, validity_start, alone_answer}
+use Rattle.table.specs.Parts.{column_from, head_answer, place_count_right}
+use Rattle.table.proofs.AnswerLaws.{answered_refused}
 use Rattle.table.proofs.StandLaws.{column_stands}
-use Rattle.table.proofs.ColumnLaws.{answer_refused, found, right_is}
+use Rattle.table.proofs.ColumnLaws.{found, right_is}
 use Rattle.table.proofs.TableTyped.{number_at_below, pair_bytes, count_rest, validity_rest, offsets_rest}
 
--- a refusal
-pub alone_refused : (n : ℕ) {p : ColumnPlace} → p ≡ no_place → record { refused = n; place = p } ≡ alone_answer 0 (refused n)
-unfolding alone_answer
-alone_refused n e = λ i. record { refused = n; place = e i }
-
--- it is the same of any number of rows
-refusal_of : (rows n : ℕ) → alone_answer 0 (refused n) ≡ alone_answer rows (refused n)
-unfolding alone_answer
-refusal_of rows n = refl
-
 -- too many rows
-pub alone_rows : (l : List ℕ) (rows : ℕ) (r : PlaceAnswer) → 512 < rows → r ≡ alone_answer 0 (refused 10) → r ≡ alone_answer rows (read_alone rows l)
-unfolding read_alone
-alone_rows l rows r h u = u ∙ refusal_of rows 10 ∙ ap (alone_answer rows) (sym (simp (lt-leb rows 512 h)))
+pub alone_rows : (l : List ℕ) (rows : ℕ) → 512 < rows → Err TableSize ≡ alone_answer rows (read_alone rows l)
+unfolding read_alone alone_answer
+alone_rows l rows h = simp (lt-leb rows 512 h)
 
 -- what is done with the column
 abbrev whole_of : ℕ → Part TableColumn → Result TableColumn
 whole_of rows c = require (count_right c.part rows) 25 >>= λ _. require (eqb (length c.rest) 0) 9 >>= λ _. ok c.part
 
-module _ (l : List ℕ) (rows : ℕ) (few : rows ≤ 512) (c : ColumnAnswer) (g : c ≡ head_answer rows 5 (read_parts rows l)) where
+module _ (l : List ℕ) (rows : ℕ) (few : rows ≤ 512) where
   -- what is read goes on to its null count and the bytes behind it
-  alone_step : read_alone rows l ≡ (read_parts rows l >>= whole_of rows)
+  alone_step : (read_parts rows l >>= whole_of rows) ≡ read_alone rows l
   unfolding read_alone
-  alone_step = ap (λ (t : Bool). require t 10 >>= λ _. read_parts rows l >>= whole_of rows) (le-leb rows 512 few)
+  alone_step = sym (ap (λ (t : Bool). require t 10 >>= λ _. read_parts rows l >>= whole_of rows) (le-leb rows 512 few))
 
   -- the column is refused
-  pub alone_cut : (r : PlaceAnswer) → (c.refused ≡ 0 → ⊥) → r ≡ alone_answer 0 (refused c.refused) → r ≡ alone_answer rows (read_alone rows l)
-  alone_cut r h u =
-      u ∙ refusal_of rows c.refused
-      ∙ sym (ap (alone_answer rows) (alone_step ∙ ap (λ (d : Result (Part TableColumn)). d >>= whole_of rows) (answer_refused rows 5 (read_parts rows l) c g h).0))
+  pub alone_cut : {e : Refusal} → Err e ≡ head_answer rows 5 (read_parts rows l) → Err e ≡ alone_answer rows (read_alone rows l)
+  unfolding alone_answer
+  alone_cut g = answered_refused (column_from rows 5) (read_parts rows l) g (whole_of rows) (place_from rows 0) ∙ ap (alone_answer rows) alone_step
 
-  module _ (z : c.refused ≡ 0) where
+  module _ {c : ColumnRead} (g : Ok c ≡ head_answer rows 5 (read_parts rows l)) where
     abbrev column : Part TableColumn
-    column = (found l 0 rows c g z).0
+    column = (found l 0 rows g).0
 
     -- its null count and the bytes behind it decide
     found_whole : (a b : Bool) → place_count_right l 0 c.place ≡ a → eqb (length column.rest) 0 ≡ b
-        → read_alone rows l ≡ (require a 25 >>= λ _. require b 9 >>= λ _. ok column.part)
+        → (require a 25 >>= λ _. require b 9 >>= λ _. ok column.part) ≡ read_alone rows l
     found_whole a b p e =
-        alone_step ∙ ap (λ (d : Result (Part TableColumn)). d >>= whole_of rows) (found l 0 rows c g z).1
-        ∙ (λ i. require ((sym (right_is l 0 rows c g z) ∙ p) i) 25 >>= λ _. require (e i) 9 >>= λ _. ok column.part)
+        sym (ap (λ (d : Result (Part TableColumn)). d >>= whole_of rows) (found l 0 rows g).1
+        ∙ (λ i. require ((sym (right_is l 0 rows g) ∙ p) i) 25 >>= λ _. require (e i) 9 >>= λ _. ok column.part))
+        ∙ alone_step
 
     -- which are those behind its values
     rest_is : length column.rest ≡ length l - c.next
     rest_is =
-        sym (ap length (column_stands rows l 0 column (found l 0 rows c g z).1).column.behind) ∙ length-drop (values_end (validity_start 5 column.part) column.part) l
-        ∙ ap (λ (k : ℕ). length l - k) (sym (ap (λ (x : ColumnAnswer). x.next) (found l 0 rows c g z).2))
+        sym (ap length (column_stands rows l 0 column (found l 0 rows g).1).column.behind) ∙ length-drop (values_end (validity_start 5 column.part) column.part) l
+        ∙ ap (λ (k : ℕ). length l - k) (sym (ap (λ (x : ColumnRead). x.next) (found l 0 rows g).2))
 
     -- its null count is wrong
-    pub alone_miscounted : (r : PlaceAnswer) → place_count_right l 0 c.place ≡ false → r ≡ alone_answer 0 (refused 25) → r ≡ alone_answer rows (read_alone rows l)
-    alone_miscounted r p u = u ∙ refusal_of rows 25 ∙ sym (ap (alone_answer rows) (found_whole false (eqb (length column.rest) 0) p refl))
+    pub alone_miscounted : place_count_right l 0 c.place ≡ false → Err NullCount ≡ alone_answer rows (read_alone rows l)
+    unfolding alone_answer
+    alone_miscounted p = ap (alone_answer rows) (found_whole false (eqb (length column.rest) 0) p refl)
 
     module _ (p : place_count_right l 0 c.place ≡ true) where
       -- bytes are left behind it
-      pub alone_over : (r : PlaceAnswer) → c.next < length l → r ≡ alone_answer 0 (refused 9) → r ≡ alone_answer rows (read_alone rows l)
-      alone_over r h u =
-          u ∙ refusal_of rows 9 ∙ sym (ap (alone_answer rows) (found_whole true false p (ne_eqb _ 0 (λ (q : length column.rest ≡ 0). omega (arith, q, rest_is)))))
+      pub alone_over : c.next < length l → Err TableFields ≡ alone_answer rows (read_alone rows l)
+      unfolding alone_answer
+      alone_over h = ap (alone_answer rows) (found_whole true false p (ne_eqb _ 0 (λ (q : length column.rest ≡ 0). omega (arith, q, rest_is))))
 
       -- it is the whole
-      pub alone_whole : length l ≤ c.next → record { refused = 0; place = c.place } ≡ alone_answer rows (read_alone rows l)
+      pub alone_whole : length l ≤ c.next → Ok c.place ≡ alone_answer rows (read_alone rows l)
       unfolding alone_answer
       alone_whole h =
           let none : length column.rest ≡ 0 = omega (arith, rest_is) in
-          ap (λ (x : ColumnAnswer). record { refused = 0; place = x.place }) (found l 0 rows c g z).2 ∙ sym (ap (alone_answer rows) (found_whole true true p (eq-eqb _ 0 none)))
+          ap (λ (x : ColumnRead). Ok x.place) (found l 0 rows g).2 ∙ ap (alone_answer rows) (found_whole true true p (eq-eqb _ 0 none))
 
 -- ---- how long the values are
 

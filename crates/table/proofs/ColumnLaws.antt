@@ -1,5 +1,5 @@
 -- A column by its places, beside its definition: the steps of reading it, and its nulls. Assumes nothing.
-use mathlib.Core.Path.{◌≡◌, refl, sym, ap, subst, ◌∙◌}
+use mathlib.Core.Path.{◌≡◌, refl, sym, ap, ◌∙◌}
 use mathlib.Core.Bool.{Bool, true, false, cond, not, ◌&&◌, ◌||◌}
 use mathlib.Core.List.{List}
 use mathlib.Core.Option.{Option, some, none}
@@ -10,157 +10,34 @@ use lib.Dec.{eqb, leb}
 use lib.ListN.{length, drop}
 use lib.Seq.{get_or-drop}
 use borrow.Author.Tests.{eq-eqb, ne_eqb, le-leb}
-use Rattle.layout.specs.Result.{Result, refused, ok, ◌>>=◌, require}
+use Rattle.std.specs.Prelude.{Result as RustResult, Ok, Err, Option as RustOption, Some, None}
+use Rattle.std.specs.Option.{ok_or}
+use Rattle.layout.specs.declared.refusal.Refusal.{Refusal}
+use Rattle.layout.specs.declared.refusal.Refusal.TheVariants.{TableContent}
+use Rattle.layout.specs.Result.{Result, refused, ok, ◌>>=◌, require, answered}
 use Rattle.layout.specs.Bytes.{byte, part}
 use Rattle.layout.specs.Field.{Field}
-use Rattle.layout.proofs.ResultLaws.{bind_ok, ok_injective}
 use Rattle.scalar.specs.declared.types.DataType.{DataType}
-use Rattle.scalar.specs.declared.types.TypeAnswer.{TypeAnswer}
-use Rattle.scalar.specs.declared.types.TypeAnswer.TheVariants.{Known, Unknown}
 use Rattle.scalar.proofs.TypeLaws.{type_means_lem}
 use Rattle.scalar.specs.Types.{type_numbered, type_answer, type_means, mark_numbered}
-use Rattle.table.specs.declared.part.PartAnswer.{PartAnswer}
-use Rattle.table.specs.declared.part.PartAnswer.TheVariants.{At, Refused}
-use Rattle.table.specs.declared.places.ColumnPlace.{ColumnPlace}
-use Rattle.table.specs.declared.column.ColumnAnswer.{ColumnAnswer}
+use Rattle.table.specs.declared.places.Part.{Part as PartPlace}
+use Rattle.table.specs.declared.column.ColumnRead.{ColumnRead}
 use Rattle.table.specs.Column.{TableColumn, null_count}
 use Rattle.table.specs.Reading.{Part, tagged, tagged_pair, read_count, read_validity, read_offsets, read_body, read_values, values_length, read_parts, no_null, count_says, count_right, read_column}
-use Rattle.table.specs.Places.{Inside, no_place, offsets_start, is_counted, count_size, validity_start}
-use Rattle.table.specs.Parts.{part_means, field_means, FieldGives, PartGives, PartInside, refused_column, column_answer, count_at, count_means, CountEnds, CountGives, head_answer, CountedAs, place_nulls_fit, place_count_right, end_number, values_of_length, values_step, offsets_step, validity_step, count_step, head_step}
-use Rattle.table.proofs.PartsLaws.{behind_refused, behind_field, inside_length, field_inside, field_some}
+use Rattle.table.specs.Places.{offsets_start, is_counted, count_size}
+use Rattle.table.specs.Parts.{FieldGives, PartGives, count_at, CountGives, column_from, head_answer, place_nulls_fit, place_count_right, end_answer, values_of_length}
+use Rattle.table.proofs.AnswerLaws.{answered_ok, answered_refused, number_refused}
+use Rattle.table.proofs.PartsLaws.{behind_refused, behind_field}
 use Rattle.table.proofs.StandLaws.{stands_at, pair_stands, tagged_stands, CountStands, validity_stands, offsets_stand, values_stand, column_stands}
 use Rattle.table.proofs.NullLaws.{no_null_count}
-use Rattle.table.proofs.RefusalLaws.{Numbered, parts_numbered}
-
--- ---- a refusal
-
-pub column_refused : (n : ℕ) {p : ColumnPlace} → p ≡ no_place → record { refused = n; place = p; next = 0 } ≡ refused_column n
-column_refused n e = λ i. record { refused = n; place = e i; next = 0 }
-
--- ---- a step behind a part
-
-module _ (l : List ℕ) (definition : Result (Part (List ℕ))) (r : PartAnswer) (g : PartGives l definition r) where
-  pub part_inside : (start end : ℕ) → r ≡ At start end → Inside (length l) start end
-  part_inside start end e = subst (PartInside (length l)) e g.inside
-
-  -- what the definition reads at a place
-  part_read : (start end : ℕ) → r ≡ At start end → definition ≡ ok (record { part = part l start end; rest = drop end l })
-  part_read start end e = sym g.says ∙ ap (part_means l) e
-
-  step_refused : (rows vs : ℕ) (step : Part (List ℕ) → Result (Part TableColumn)) (n : ℕ) (a : ColumnAnswer) → r ≡ Refused n → a ≡ refused_column n
-      → a ≡ column_answer rows vs (definition >>= step)
-  step_refused rows vs step n a e u = u ∙ sym (ap (λ (d : Result (Part (List ℕ))). column_answer rows vs (d >>= step)) (sym g.says ∙ ap (part_means l) e))
-
-  step_on : (rows vs : ℕ) (step : Part (List ℕ) → Result (Part TableColumn)) (start end : ℕ) (a : ColumnAnswer) → r ≡ At start end
-      → a ≡ column_answer rows vs (step (record { part = part l start end; rest = drop end l })) → a ≡ column_answer rows vs (definition >>= step)
-  step_on rows vs step start end a e c = c ∙ sym (ap (λ (d : Result (Part (List ℕ))). column_answer rows vs (d >>= step)) (part_read start end e))
-
--- ---- the values
-
--- values of the length of their type
-values_of : (t : DataType) (rows : ℕ) (offsets bytes : List ℕ) (size : ℕ) → size ≡ values_length t rows offsets → read_values t rows offsets bytes ≡ values_of_length size bytes
-unfolding read_values values_of_length
-values_of t rows offsets bytes size e = sym (ap (λ (k : ℕ). values_of_length k bytes) e)
-
-abbrev values_behind : DataType → Bool → Option (List ℕ) → List ℕ → List ℕ → Part (List ℕ) → Result (Part TableColumn)
-values_behind t n k validity offsets values =
-    ok (record { part = record { type = t; nullable = n; nulls = k; validity = validity; offsets = offsets; values = values.part }; rest = values.rest })
-
-module _ (l : List ℕ) (t : DataType) (n : Bool) (vs ve os oe rows size : ℕ) (is : size ≡ values_length t rows (part l os oe))
-    (r : PartAnswer) (g : PartGives l (values_of_length size (drop oe l)) r) where
-  values_step_lem : (k : Option (List ℕ)) → (values_of_length size (drop oe l) >>= values_behind t n k (part l vs ve) (part l os oe)) ≡ values_step t n k (part l vs ve) (part l os oe) rows (drop oe l)
-  unfolding values_step
-  values_step_lem k = ap (λ (x : ℕ). values_of_length x (drop oe l) >>= values_behind t n k (part l vs ve) (part l os oe)) is
-
-  pub whole_refused : (counted : Bool) (x : ℕ) (a : ColumnAnswer) → r ≡ Refused x → a ≡ refused_column x
-      → CountedAs counted (λ k. a ≡ column_answer rows vs (values_step t n k (part l vs ve) (part l os oe) rows (drop oe l)))
-  whole_refused counted x a e u k q = step_refused l (values_of_length size (drop oe l)) r g rows vs _ x a e u ∙ ap (column_answer rows vs) (values_step_lem k)
-
-  pub whole_column : (counted : Bool) (nulls : ℕ) → nulls ≡ null_count (part l vs ve) rows
-      → Inside (length l) vs ve → Inside (length l) os oe → os ≡ offsets_start t ve → (begin end : ℕ) → r ≡ At begin end
-      → CountedAs counted (λ k. record { refused = 0; place = record { data_type = t; nullable = n; counted = counted; null_count = nulls; validity_start = vs; validity_end = ve; offsets_start = os; offsets_end = oe; values_start = begin; values_end = end }; next = end }
-      ≡ column_answer rows vs (values_step t n k (part l vs ve) (part l os oe) rows (drop oe l)))
-  whole_column counted nulls m v o at begin end e k q =
-      let i = part_inside l (values_of_length size (drop oe l)) r g begin end e in
-      let reads = values_of t rows (part l os oe) (drop oe l) size is ∙ part_read l (values_of_length size (drop oe l)) r g begin end e in
-      let w = stands_at l (oe + 3) begin end (values_stand t rows (part l os oe) l oe _ reads) i in
-      let first : ve ≡ vs + length (part l vs ve) = omega (arith, inside_length l vs ve v, v.ordered) in
-      let start : os ≡ offsets_start t (vs + length (part l vs ve)) = at ∙ ap (offsets_start t) first in
-      let behind : oe ≡ os + length (part l os oe) = omega (arith, inside_length l os oe o, o.ordered) in
-      let middle : oe ≡ offsets_start t (vs + length (part l vs ve)) + length (part l os oe) = behind ∙ ap (λ (x : ℕ). x + length (part l os oe)) start in
-      let third : begin ≡ offsets_start t (vs + length (part l vs ve)) + length (part l os oe) + 3 = w.0 ∙ ap (λ (x : ℕ). x + 3) middle in
-      let last = w.1 ∙ ap (λ (x : ℕ). x + length (part l begin end)) third in
-      step_on l (values_of_length size (drop oe l)) r g rows vs _ begin end _ e
-      (λ j. record {
-        refused = 0;
-        place = record { data_type = t; nullable = n; counted = q j; null_count = m j; validity_start = vs; validity_end = first j; offsets_start = start j; offsets_end = middle j; values_start = third j; values_end = last j };
-        next = last j;
-      })
-      ∙ ap (column_answer rows vs) (values_step_lem k)
-
--- ---- the offsets
-
-module _ (l : List ℕ) (t : DataType) (n : Bool) (vs ve rows : ℕ) (r : PartAnswer) (g : PartGives l (read_offsets t rows (drop ve l)) r) where
-  offsets_step_lem : (k : Option (List ℕ)) → (read_offsets t rows (drop ve l) >>= λ o. values_step t n k (part l vs ve) o.part rows o.rest) ≡ offsets_step t n k (part l vs ve) rows (drop ve l)
-  unfolding offsets_step
-  offsets_step_lem k = refl
-
-  -- where the offsets start
-  pub offsets_at : (os oe : ℕ) → r ≡ At os oe → ve ≤ length l → os ≡ offsets_start t ve
-  offsets_at os oe e h =
-      (stands_at l (offsets_start t ve) os oe (offsets_stand t rows l ve _ h (part_read l (read_offsets t rows (drop ve l)) r g os oe e))
-      (part_inside l (read_offsets t rows (drop ve l)) r g os oe e)).0
-
-  pub behind_validity_refused : (counted : Bool) (x : ℕ) (a : ColumnAnswer) → r ≡ Refused x → a ≡ refused_column x
-      → CountedAs counted (λ k. a ≡ column_answer rows vs (offsets_step t n k (part l vs ve) rows (drop ve l)))
-  behind_validity_refused counted x a e u k q = step_refused l (read_offsets t rows (drop ve l)) r g rows vs _ x a e u ∙ ap (column_answer rows vs) (offsets_step_lem k)
-
-  pub behind_validity : (counted : Bool) (os oe : ℕ) (a : ColumnAnswer) → r ≡ At os oe
-      → CountedAs counted (λ k. a ≡ column_answer rows vs (values_step t n k (part l vs ve) (part l os oe) rows (drop oe l)))
-      → CountedAs counted (λ k. a ≡ column_answer rows vs (offsets_step t n k (part l vs ve) rows (drop ve l)))
-  behind_validity counted os oe a e c k q = step_on l (read_offsets t rows (drop ve l)) r g rows vs _ os oe a e (c k q) ∙ ap (column_answer rows vs) (offsets_step_lem k)
-
--- ---- the validity
-
-module _ (l : List ℕ) (t : DataType) (n : Bool) (at rows : ℕ) (r : PartAnswer) (g : PartGives l (read_validity rows (drop at l)) r) where
-  validity_step_lem : (k : Option (List ℕ)) → (read_validity rows (drop at l) >>= λ v. offsets_step t n k v.part rows v.rest) ≡ validity_step t n k rows (drop at l)
-  unfolding validity_step
-  validity_step_lem k = refl
-
-  pub behind_count_refused : (counted : Bool) (x : ℕ) (a : ColumnAnswer) → r ≡ Refused x → a ≡ refused_column x
-      → CountedAs counted (λ k. a ≡ column_answer rows (at + 3) (validity_step t n k rows (drop at l)))
-  behind_count_refused counted x a e u k q = step_refused l (read_validity rows (drop at l)) r g rows (at + 3) _ x a e u ∙ ap (column_answer rows (at + 3)) (validity_step_lem k)
-
-  pub behind_count_lem : (counted : Bool) (vs ve : ℕ) (a : ColumnAnswer) → r ≡ At vs ve
-      → CountedAs counted (λ k. a ≡ column_answer rows vs (offsets_step t n k (part l vs ve) rows (drop ve l)))
-      → CountedAs counted (λ k. a ≡ column_answer rows (at + 3) (validity_step t n k rows (drop at l)))
-  behind_count_lem counted vs ve a e c k q =
-      let start = (stands_at l (at + 3) vs ve (validity_stands rows l at _ (part_read l (read_validity rows (drop at l)) r g vs ve e)) (part_inside l (read_validity rows (drop at l)) r g vs ve e)).0 in
-      step_on l (read_validity rows (drop at l)) r g rows (at + 3) _ vs ve a e
-      (c k q ∙ ap (λ (x : ℕ). column_answer rows x (offsets_step t n k (part l vs ve) rows (drop ve l))) start)
-      ∙ ap (column_answer rows (at + 3)) (validity_step_lem k)
 
 -- ---- the null count
 
--- a column keeps the null count that was read before its other parts
-nulls_kept : (t : DataType) (n : Bool) (k : Option (List ℕ)) (rows : ℕ) (bytes : List ℕ) (c : Part TableColumn) → validity_step t n k rows bytes ≡ ok c → c.part.nulls ≡ k
-unfolding validity_step offsets_step values_step
-nulls_kept t n k rows bytes c p =
-    let y = bind_ok (read_validity rows bytes) _ c p in
-    let o = bind_ok (read_offsets t rows y.0.rest) _ c y.2 in
-    let v = bind_ok (values_of_length (values_length t rows o.0.part) o.0.rest) _ c o.2 in
-    sym (ap (λ (x : Part TableColumn). x.part.nulls) (ok_injective v.2))
-
--- an answer by where the validity starts is one by where tag 2 ends
-head_answer_lem : (rows at vs : ℕ) (d : Result (Part TableColumn)) → ((c : Part TableColumn) → d ≡ ok c → vs ≡ validity_start at c.part) → column_answer rows vs d ≡ head_answer rows at d
-head_answer_lem rows at vs (refused n) h = refl
-head_answer_lem rows at vs (ok c) h = ap (λ (x : ℕ). column_answer rows x (ok c)) (h c refl)
-
 -- it isn't written
-pub count_absent : (l : List ℕ) (at : ℕ) → (byte l at ≡ 6 → ⊥) → CountGives l at (read_count (drop at l)) (At at at)
+pub count_absent : (l : List ℕ) (at : ℕ) → (byte l at ≡ 6 → ⊥) → CountGives l at (read_count (drop at l)) (Ok (record { start = at; end = at }))
 unfolding read_count
 count_absent l at h =
-    let none_there : count_at l at at at ≡ none = ap (λ (b : Bool). cond b none (some (part l at at))) (eq-eqb at at refl) in
+    let none_there : count_at l at (record { start = at; end = at }) ≡ none = ap (λ (b : Bool). cond b none (some (part l at at))) (eq-eqb at at refl) in
     let here : byte (drop at l) 0 ≡ byte l at = get_or-drop at l 0 0 ∙ ap (byte l) (add-zero at) in
     let other : eqb (byte (drop at l) 0) 6 ≡ false = ne_eqb _ 6 (λ (e : byte (drop at l) 0 ≡ 6). h (sym here ∙ e)) in
     record {
@@ -177,118 +54,175 @@ module _ (l : List ℕ) (at : ℕ) (h : byte l at ≡ 6) where
       let here : byte (drop at l) 0 ≡ byte l at = get_or-drop at l 0 0 ∙ ap (byte l) (add-zero at) in
       ap (λ (b : Bool). cond b (tagged 6 (drop at l) >>= λ f. ok (record { part = some f.content; rest = f.rest })) (ok (record { part = none; rest = drop at l }))) (eq-eqb _ 6 (here ∙ h))
 
-  pub count_tagged : (r : PartAnswer) → FieldGives l 6 (tagged 6 (drop at l)) r → CountGives l at (read_count (drop at l)) r
-  count_tagged r g = go r refl
-    where
-      go : (x : PartAnswer) → r ≡ x → CountGives l at (read_count (drop at l)) x
-      go (Refused n) e = record { says = sym (count_is ∙ behind_refused l 6 (tagged 6 (drop at l)) r g _ n e); ends = field_some l 6 (tagged 6 (drop at l)) r g n e }
-      go (At begin end) e =
-          let w = stands_at l (at + 3) begin end (tagged_stands l at 6 _ (sym g.says ∙ ap (field_means l 6) e)) (field_inside l 6 (tagged 6 (drop at l)) r g begin end e) in
-          let there : count_at l at begin end ≡ some (part l begin end) = ap (λ (b : Bool). cond b none (some (part l begin end))) (ne_eqb begin at (λ (q : begin ≡ at). omega (arith, q, w.0))) in
-          let ends : end ≡ at + (3 + length (part l begin end)) = omega (arith, w.0, w.1) in
-          record {
-            says = ap (λ (k : Option (List ℕ)). ok (record { part = k; rest = drop end l })) there ∙ sym (count_is ∙ behind_field l 6 (tagged 6 (drop at l)) r g _ begin end e);
-            ends = ends ∙ sym (ap (λ (k : Option (List ℕ)). at + count_size k) there);
-          }
+  pub count_tagged : (r : RustResult PartPlace Refusal) → FieldGives l 6 (tagged 6 (drop at l)) r → CountGives l at (read_count (drop at l)) r
+  count_tagged (Err e) g = record { says = sym (count_is ∙ behind_refused g _); ends = tt }
+  count_tagged (Ok p) g =
+      let w = stands_at l (at + 3) p.start p.end (tagged_stands l at 6 _ (sym g.says)) g.inside in
+      let there : count_at l at p ≡ some (part l p.start p.end) = ap (λ (b : Bool). cond b none (some (part l p.start p.end))) (ne_eqb p.start at (λ (q : p.start ≡ at). omega (arith, q, w.0))) in
+      let ends : p.end ≡ at + (3 + length (part l p.start p.end)) = omega (arith, w.0, w.1) in
+      record {
+        says = ap (λ (k : Option (List ℕ)). ok (record { part = k; rest = drop p.end l })) there ∙ sym (count_is ∙ behind_field g _);
+        ends = ends ∙ sym (ap (λ (k : Option (List ℕ)). at + count_size k) there);
+      }
 
-module _ (l : List ℕ) (t : DataType) (n : Bool) (at rows : ℕ) (a : ColumnAnswer) (r : PartAnswer) (g : CountGives l at (read_count (drop at l)) r) where
-  count_step_lem : (x : PartAnswer) → r ≡ x → (count_means l at x >>= λ k. validity_step t n k.part rows k.rest) ≡ count_step t n rows (drop at l)
-  unfolding count_step
-  count_step_lem x e = ap (λ (d : Result (Part (Option (List ℕ)))). d >>= λ k. validity_step t n k.part rows k.rest) (ap (count_means l at) (sym e) ∙ g.says)
+-- ---- the steps behind one another
 
-  pub behind_type_refused : (x : ℕ) → r ≡ Refused x → a ≡ refused_column x → a ≡ head_answer rows at (count_step t n rows (drop at l))
-  behind_type_refused x e u = u ∙ ap (head_answer rows at) (count_step_lem (Refused x) e)
+abbrev values_step : DataType → Bool → Option (List ℕ) → List ℕ → List ℕ → ℕ → List ℕ → Result (Part TableColumn)
+values_step t n k validity offsets rows bytes =
+    values_of_length (values_length t rows offsets) bytes
+    >>= λ w. ok (record { part = record { type = t; nullable = n; nulls = k; validity = validity; offsets = offsets; values = w.part }; rest = w.rest })
 
-  -- whether it is written
-  counted_is : (b : Bool) (content : List ℕ) → not b ≡ is_counted (cond b none (some content))
-  counted_is true content = refl
-  counted_is false content = refl
+abbrev offsets_step : DataType → Bool → Option (List ℕ) → List ℕ → ℕ → List ℕ → Result (Part TableColumn)
+offsets_step t n k validity rows bytes = read_offsets t rows bytes >>= λ o. values_step t n k validity o.part rows o.rest
 
-  pub behind_type : (begin end : ℕ) (counted : Bool) → r ≡ At begin end → counted ≡ not (eqb begin at)
-      → CountedAs counted (λ k. a ≡ column_answer rows (end + 3) (validity_step t n k rows (drop end l)))
-      → a ≡ head_answer rows at (count_step t n rows (drop at l))
-  behind_type begin end counted e m c =
-      let k = count_at l at begin end in
-      let ends : end ≡ at + count_size k = subst (CountEnds l at) e g.ends in
-      c k (m ∙ counted_is (eqb begin at) (part l begin end))
-      ∙ head_answer_lem rows at (end + 3) (validity_step t n k rows (drop end l))
-      (λ x p. ap (λ (y : ℕ). y + 3) (ends ∙ ap (λ (y : Option (List ℕ)). at + count_size y) (sym (nulls_kept t n k rows (drop end l) x p))))
-      ∙ ap (head_answer rows at) (count_step_lem (At begin end) e)
+abbrev validity_step : DataType → Bool → Option (List ℕ) → ℕ → List ℕ → Result (Part TableColumn)
+validity_step t n k rows bytes = read_validity rows bytes >>= λ v. offsets_step t n k v.part rows v.rest
 
--- ---- the type and the nullable mark
+abbrev count_step : DataType → ℕ → List ℕ → Bool → Result (Part TableColumn)
+count_step t rows bytes n = read_count bytes >>= λ k. validity_step t n k.part rows k.rest
 
-abbrev mark_behind : ℕ → ℕ → List ℕ → DataType → Result (Part TableColumn)
-mark_behind mark rows bytes t = mark_numbered 11 mark >>= λ n. count_step t n rows bytes
+abbrev mark_step : ℕ → ℕ → List ℕ → DataType → Result (Part TableColumn)
+mark_step mark rows bytes t = mark_numbered 11 mark >>= count_step t rows bytes
+
+-- the parts behind a field are read step by step
+body_is : (rows : ℕ) (f : Field) → read_body rows f ≡ (type_numbered 11 (byte f.content 0) >>= mark_step (byte f.content 1) rows f.rest)
+unfolding read_body read_values values_of_length
+body_is rows f = refl
+
+-- values of the length of their type
+values_of : (t : DataType) (rows : ℕ) (offsets bytes : List ℕ) → read_values t rows offsets bytes ≡ values_of_length (values_length t rows offsets) bytes
+unfolding read_values values_of_length
+values_of t rows offsets bytes = refl
+
+-- a type by its number, else 11
+type_or : (r : RustOption DataType) → ok_or r TableContent ≡ answered (λ t. t) (type_means 11 r)
+type_or (Some t) = refl
+type_or None = refl
+
+pub typed_is : (kind : ℕ) {r : RustOption DataType} → r ≡ type_answer (type_numbered 0 kind) → ok_or r TableContent ≡ answered (λ t. t) (type_numbered 11 kind)
+typed_is kind {r} e = type_or r ∙ ap (answered (λ t. t)) (type_means_lem 11 kind e)
 
 -- a mark above 1 is refused
-mark_above : (mark : ℕ) → 1 < mark → mark_numbered 11 mark ≡ refused 11
+pub mark_above : (mark : ℕ) → 1 < mark → mark_numbered 11 mark ≡ refused 11
 unfolding mark_numbered
 mark_above zero h = absurd (omega arith)
 mark_above (suc zero) h = absurd (omega arith)
 mark_above (suc (suc k)) h = refl
 
 -- any other is read
-mark_below : (mark : ℕ) → mark ≤ 1 → mark_numbered 11 mark ≡ ok (eqb mark 1)
+pub mark_below : (mark : ℕ) → mark ≤ 1 → mark_numbered 11 mark ≡ ok (eqb mark 1)
 unfolding mark_numbered
 mark_below zero h = refl
 mark_below (suc zero) h = refl
 mark_below (suc (suc k)) h = absurd (omega arith)
 
-module _ (l : List ℕ) (kind mark at rows : ℕ) (r : TypeAnswer) (g : r ≡ type_answer (type_numbered 0 kind)) (a : ColumnAnswer) (vs : ℕ) where
-  head_step_lem : (t : TypeAnswer) → r ≡ t → (type_means 11 t >>= mark_behind mark rows (drop at l)) ≡ head_step kind mark rows (drop at l)
-  unfolding head_step
-  head_step_lem t e = ap (λ (d : Result DataType). d >>= mark_behind mark rows (drop at l)) (sym (ap (type_means 11) e) ∙ type_means_lem 11 kind g)
+-- ---- a column, by its places
 
-  pub type_unknown : r ≡ Unknown → a ≡ refused_column 11 → a ≡ head_answer rows vs (head_step kind mark rows (drop at l))
-  type_unknown e u = u ∙ ap (head_answer rows vs) (head_step_lem Unknown e)
-
-  pub mark_unknown : (t : DataType) → r ≡ Known t → 1 < mark → a ≡ refused_column 11 → a ≡ head_answer rows vs (head_step kind mark rows (drop at l))
-  mark_unknown t e h u =
-      u ∙ sym (ap (λ (d : Result Bool). head_answer rows vs (d >>= λ n. count_step t n rows (drop at l))) (mark_above mark h)) ∙ ap (head_answer rows vs) (head_step_lem (Known t) e)
-
-  pub head_known : (t : DataType) → r ≡ Known t → mark ≤ 1 → a ≡ head_answer rows vs (count_step t (eqb mark 1) rows (drop at l))
-      → a ≡ head_answer rows vs (head_step kind mark rows (drop at l))
-  head_known t e h c =
-      c ∙ sym (ap (λ (d : Result Bool). head_answer rows vs (d >>= λ n. count_step t n rows (drop at l))) (mark_below mark h)) ∙ ap (head_answer rows vs) (head_step_lem (Known t) e)
-
--- ---- tag 2
-
--- the parts behind a field are read step by step
-body_is : (rows : ℕ) (f : Field) → head_step (byte f.content 0) (byte f.content 1) rows f.rest ≡ read_body rows f
-unfolding head_step count_step validity_step offsets_step values_step values_of_length read_body read_values
-body_is rows f = refl
-
-module _ (l : List ℕ) (at rows : ℕ) (r : PartAnswer) (g : FieldGives l 2 (tagged_pair 2 (drop at l)) r) (a : ColumnAnswer) where
-  pub parts_refused : (n : ℕ) → r ≡ Refused n → a ≡ refused_column n → a ≡ head_answer rows (at + 5) (read_parts rows (drop at l))
+-- tag 2
+module _ {l : List ℕ} (at rows : ℕ) where
+  pub head_refused : {e : Refusal} → FieldGives l 2 (tagged_pair 2 (drop at l)) (Err e) → Err e ≡ head_answer rows (at + 5) (read_parts rows (drop at l))
   unfolding read_parts
-  parts_refused n e u = u ∙ sym (ap (head_answer rows (at + 5)) (behind_refused l 2 (tagged_pair 2 (drop at l)) r g (read_body rows) n e))
+  head_refused g = number_refused g.says (read_body rows) (column_from rows (at + 5))
 
-  pub parts_behind : (begin end kind mark : ℕ) → r ≡ At begin end → kind ≡ byte (part l begin end) 0 → mark ≡ byte (part l begin end) 1
-      → a ≡ head_answer rows end (head_step kind mark rows (drop end l)) → a ≡ head_answer rows (at + 5) (read_parts rows (drop at l))
-  unfolding read_parts
-  parts_behind begin end kind mark e p q c =
-      let s = pair_stands l at 2 _ (sym g.says ∙ ap (field_means l 2) e) in
-      let w = stands_at l (at + 3) begin end s.0 (field_inside l 2 (tagged_pair 2 (drop at l)) r g begin end e) in
-      let five : end ≡ at + 5 = omega (arith, s.1, w.0, w.1) in
-      c ∙ (λ i. head_answer rows (five i) (head_step (p i) (q i) rows (drop end l)))
-      ∙ ap (head_answer rows (at + 5)) (body_is rows (record { tag = 2; content = part l begin end; rest = drop end l })
-      ∙ sym (behind_field l 2 (tagged_pair 2 (drop at l)) r g (read_body rows) begin end e))
+  module _ {h : PartPlace} (head : FieldGives l 2 (tagged_pair 2 (drop at l)) (Ok h)) (kind mark : ℕ) (first : kind ≡ byte (part l h.start h.end) 0) (second : mark ≡ byte (part l h.start h.end) 1) where
+    -- it ends five bytes behind its start
+    head_ends : h.end ≡ at + 5
+    head_ends =
+        let s = pair_stands l at 2 _ (sym head.says) in
+        let w = stands_at l (at + 3) h.start h.end s.0 head.inside in
+        omega (arith, s.1, w.0, w.1)
+
+    after_head : read_parts rows (drop at l) ≡ (type_numbered 11 kind >>= mark_step mark rows (drop h.end l))
+    unfolding read_parts
+    after_head =
+        behind_field head (read_body rows) ∙ body_is rows (record { tag = 2; content = part l h.start h.end; rest = drop h.end l })
+        ∙ sym (λ i. type_numbered 11 (first i) >>= mark_step (second i) rows (drop h.end l))
+
+    -- the type
+    pub type_refused : {e : Refusal} → Err e ≡ answered (λ t. t) (type_numbered 11 kind) → Err e ≡ head_answer rows (at + 5) (read_parts rows (drop at l))
+    type_refused p = answered_refused (λ t. t) (type_numbered 11 kind) p (mark_step mark rows (drop h.end l)) (column_from rows (at + 5)) ∙ sym (ap (head_answer rows (at + 5)) after_head)
+
+    module _ {t : DataType} (typed : Ok t ≡ answered (λ t. t) (type_numbered 11 kind)) where
+      after_type : read_parts rows (drop at l) ≡ mark_step mark rows (drop h.end l) t
+      after_type =
+          let m = answered_ok (λ t. t) (type_numbered 11 kind) typed in
+          after_head ∙ ap (λ d. d >>= mark_step mark rows (drop h.end l)) (m.1 ∙ ap ok (sym m.2))
+
+      -- the nullable mark
+      pub mark_refused : {e : Refusal} → Err e ≡ answered (λ b. b) (mark_numbered 11 mark) → Err e ≡ head_answer rows (at + 5) (read_parts rows (drop at l))
+      mark_refused p = answered_refused (λ b. b) (mark_numbered 11 mark) p (count_step t rows (drop h.end l)) (column_from rows (at + 5)) ∙ sym (ap (head_answer rows (at + 5)) after_type)
+
+      module _ {n : Bool} (marked : Ok n ≡ answered (λ b. b) (mark_numbered 11 mark)) where
+        after_mark : read_parts rows (drop at l) ≡ count_step t rows (drop h.end l) n
+        after_mark =
+            let m = answered_ok (λ b. b) (mark_numbered 11 mark) marked in
+            after_type ∙ ap (λ d. d >>= count_step t rows (drop h.end l)) (m.1 ∙ ap ok (sym m.2))
+
+        -- the null count
+        pub count_refused : {e : Refusal} → CountGives l h.end (read_count (drop h.end l)) (Err e) → Err e ≡ head_answer rows (at + 5) (read_parts rows (drop at l))
+        count_refused g = number_refused g.says (λ k. validity_step t n k.part rows k.rest) (column_from rows (at + 5)) ∙ sym (ap (head_answer rows (at + 5)) after_mark)
+
+        module _ {c : PartPlace} (count : CountGives l h.end (read_count (drop h.end l)) (Ok c)) where
+          after_count : read_parts rows (drop at l) ≡ validity_step t n (count_at l h.end c) rows (drop c.end l)
+          after_count = after_mark ∙ ap (λ d. d >>= λ k. validity_step t n k.part rows k.rest) (sym count.says)
+
+          -- the validity
+          pub validity_refuses : {e : Refusal} → PartGives l (read_validity rows (drop c.end l)) (Err e) → Err e ≡ head_answer rows (at + 5) (read_parts rows (drop at l))
+          validity_refuses g = number_refused g.says (λ v. offsets_step t n (count_at l h.end c) v.part rows v.rest) (column_from rows (at + 5)) ∙ sym (ap (head_answer rows (at + 5)) after_count)
+
+          module _ {v : PartPlace} (validity : PartGives l (read_validity rows (drop c.end l)) (Ok v)) where
+            after_validity : read_parts rows (drop at l) ≡ offsets_step t n (count_at l h.end c) (part l v.start v.end) rows (drop v.end l)
+            after_validity = after_count ∙ ap (λ d. d >>= λ v. offsets_step t n (count_at l h.end c) v.part rows v.rest) (sym validity.says)
+
+            -- the offsets
+            pub offsets_refuse : {e : Refusal} → PartGives l (read_offsets t rows (drop v.end l)) (Err e) → Err e ≡ head_answer rows (at + 5) (read_parts rows (drop at l))
+            offsets_refuse g = number_refused g.says (λ o. values_step t n (count_at l h.end c) (part l v.start v.end) o.part rows o.rest) (column_from rows (at + 5)) ∙ sym (ap (head_answer rows (at + 5)) after_validity)
+
+            module _ {o : PartPlace} (offsets : PartGives l (read_offsets t rows (drop v.end l)) (Ok o)) {size : ℕ} (long : size ≡ values_length t rows (part l o.start o.end)) where
+              after_offsets : read_parts rows (drop at l) ≡ values_step t n (count_at l h.end c) (part l v.start v.end) (part l o.start o.end) rows (drop o.end l)
+              after_offsets = after_validity ∙ ap (λ d. d >>= λ o. values_step t n (count_at l h.end c) (part l v.start v.end) o.part rows o.rest) (sym offsets.says)
+
+              -- the values
+              pub values_refuse : {e : Refusal} → PartGives l (values_of_length size (drop o.end l)) (Err e) → Err e ≡ head_answer rows (at + 5) (read_parts rows (drop at l))
+              values_refuse g =
+                  number_refused (g.says ∙ ap (λ k. values_of_length k (drop o.end l)) long) (λ w. ok _) (column_from rows (at + 5)) ∙ sym (ap (head_answer rows (at + 5)) after_offsets)
+
+              -- whether the null count is written
+              counted_is : (b : Bool) (content : List ℕ) → not b ≡ is_counted (cond b none (some content))
+              counted_is true content = refl
+              counted_is false content = refl
+
+              pub whole_column : {w : PartPlace} → PartGives l (values_of_length size (drop o.end l)) (Ok w) → {nulls : ℕ} → nulls ≡ null_count (part l v.start v.end) rows
+                  → Ok (record { place = record { data_type = t; nullable = n; counted = not (eqb c.start h.end); null_count = nulls; validity = v; offsets = o; values = w }; next = w.end })
+                  ≡ head_answer rows (at + 5) (read_parts rows (drop at l))
+              whole_column {w} g {nulls} m =
+                  let k = count_at l h.end c in
+                  let values = g.says ∙ ap (λ x. values_of_length x (drop o.end l)) long in
+                  let reads = after_offsets ∙ ap (λ d. d >>= λ w. ok (record { part = record { type = t; nullable = n; nulls = k; validity = part l v.start v.end; offsets = part l o.start o.end; values = w.part }; rest = w.rest })) (sym values) in
+                  let a = stands_at l (c.end + 3) v.start v.end (validity_stands rows l c.end _ (sym validity.says)) validity.inside in
+                  let b = stands_at l (offsets_start t v.end) o.start o.end (offsets_stand t rows l v.end _ validity.inside.in_bytes (sym offsets.says)) offsets.inside in
+                  let d = stands_at l (o.end + 3) w.start w.end (values_stand t rows (part l o.start o.end) l o.end _ (values_of t rows (part l o.start o.end) (drop o.end l) ∙ sym values)) g.inside in
+                  let vs : v.start ≡ at + 5 + count_size k + 3 = omega (arith, a.0, count.ends, head_ends) in
+                  let ve : v.end ≡ at + 5 + count_size k + 3 + length (part l v.start v.end) = omega (arith, vs, a.1) in
+                  let os : o.start ≡ offsets_start t (at + 5 + count_size k + 3 + length (part l v.start v.end)) = b.0 ∙ ap (offsets_start t) ve in
+                  let oe : o.end ≡ offsets_start t (at + 5 + count_size k + 3 + length (part l v.start v.end)) + length (part l o.start o.end) = b.1 ∙ ap (λ (x : ℕ). x + length (part l o.start o.end)) os in
+                  let ws : w.start ≡ offsets_start t (at + 5 + count_size k + 3 + length (part l v.start v.end)) + length (part l o.start o.end) + 3 = d.0 ∙ ap (λ (x : ℕ). x + 3) oe in
+                  let we = d.1 ∙ ap (λ (x : ℕ). x + length (part l w.start w.end)) ws in
+                  (λ i. Ok (record {
+                    place = record {
+                      data_type = t;
+                      nullable = n;
+                      counted = counted_is (eqb c.start h.end) (part l c.start c.end) i;
+                      null_count = m i;
+                      validity = record { start = vs i; end = ve i };
+                      offsets = record { start = os i; end = oe i };
+                      values = record { start = ws i; end = we i };
+                    };
+                    next = we i;
+                  }))
+                  ∙ sym (ap (head_answer rows (at + 5)) reads)
 
 -- ---- a column and its nulls
-
--- an answer that is no refusal is a column's
-pub answer_found : (rows at : ℕ) (d : Result (Part TableColumn)) (r : ColumnAnswer) → Numbered d → r ≡ head_answer rows at d → r.refused ≡ 0
-    → (c : Part TableColumn) × (d ≡ ok c) × (r ≡ head_answer rows at (ok c))
-answer_found rows at (refused n) r h g z = absurd (omega (arith, h.numbers n refl, z, ap (λ (x : ColumnAnswer). x.refused) g))
-answer_found rows at (ok c) r h g z = (c, refl, g)
-
--- and any other is a refusal
-pub answer_refused : (rows at : ℕ) (d : Result (Part TableColumn)) (r : ColumnAnswer) → r ≡ head_answer rows at d → (r.refused ≡ 0 → ⊥)
-    → (d ≡ refused r.refused) × (r ≡ refused_column r.refused)
-answer_refused rows at (refused n) r g h =
-    let e = ap (λ (x : ColumnAnswer). x.refused) g in
-    (sym (ap refused e), g ∙ sym (ap refused_column e))
-answer_refused rows at (ok c) r g h = absurd (h (ap (λ (x : ColumnAnswer). x.refused) g))
 
 -- a null count is right just where its bytes, between its header and that of tag 3, say the number
 count_at_lem : (l : List ℕ) (at : ℕ) (nulls : Option (List ℕ)) (rest : List ℕ) (n : ℕ) → CountStands l (at + 5) nulls rest
@@ -302,9 +236,9 @@ count_at_lem l at (some content) rest n s =
     (λ i. low i && count_says (some (there i)) n)
 
 -- the column that an answer is, beside its place
-module _ (l : List ℕ) (at rows : ℕ) (r : ColumnAnswer) (g : r ≡ head_answer rows (at + 5) (read_parts rows (drop at l))) (z : r.refused ≡ 0) where
-  abbrev pub found : (c : Part TableColumn) × (read_parts rows (drop at l) ≡ ok c) × (r ≡ head_answer rows (at + 5) (ok c))
-  found = answer_found rows (at + 5) (read_parts rows (drop at l)) r (parts_numbered rows (drop at l)) g z
+module _ (l : List ℕ) (at rows : ℕ) {r : ColumnRead} (g : Ok r ≡ head_answer rows (at + 5) (read_parts rows (drop at l))) where
+  abbrev pub found : (c : Part TableColumn) × (read_parts rows (drop at l) ≡ ok c) × (r ≡ column_from rows (at + 5) c)
+  found = answered_ok (column_from rows (at + 5)) (read_parts rows (drop at l)) g
 
   -- tag 2 and the header of tag 3 take eight bytes
   pub column_room : at + 8 ≤ length l
@@ -315,52 +249,45 @@ module _ (l : List ℕ) (at rows : ℕ) (r : ColumnAnswer) (g : r ≡ head_answe
   -- its null count is right just where its place says so
   pub right_is : place_count_right l at r.place ≡ count_right found.0.part rows
   right_is =
-      ap (λ (x : ColumnAnswer). place_count_right l at x.place) found.2
+      ap (λ (x : ColumnRead). place_count_right l at x.place) found.2
       ∙ count_at_lem l at found.0.part.nulls _ (null_count found.0.part.validity rows) (column_stands rows l at found.0 found.1).count
 
 abbrev nulls_behind : ℕ → Part TableColumn → Result (Part TableColumn)
 nulls_behind rows c = require (c.part.nullable || no_null c.part.validity rows) 12 >>= λ _. require (count_right c.part rows) 25 >>= λ _. ok c
 
--- by the number at its end a column is refused
-end_refuses : (a b : Bool) (n : ℕ) (c : Part TableColumn) → n ≡ end_number a b → (n ≡ 0 → ⊥) → (require a 12 >>= λ _. require b 25 >>= λ _. ok c) ≡ refused n
-end_refuses true true n c e h = absurd (h e)
-end_refuses true false n c e h = ap refused (sym e)
-end_refuses false b n c e h = ap refused (sym e)
-
--- or taken
-end_takes : (a b : Bool) (n : ℕ) (c : Part TableColumn) → n ≡ end_number a b → n ≡ 0 → (require a 12 >>= λ _. require b 25 >>= λ _. ok c) ≡ ok c
-end_takes true true n c e h = refl
-end_takes true false n c e h = absurd (omega (arith, e, h))
-end_takes false b n c e h = absurd (omega (arith, e, h))
-
-module _ (l : List ℕ) (at rows : ℕ) (r : ColumnAnswer) (g : r ≡ head_answer rows (at + 5) (read_parts rows (drop at l))) where
-  pub column_left : (r.refused ≡ 0 → ⊥) → r ≡ head_answer rows (at + 5) (read_column rows (drop at l))
+module _ (l : List ℕ) (at rows : ℕ) where
+  pub column_left : {e : Refusal} → Err e ≡ head_answer rows (at + 5) (read_parts rows (drop at l)) → Err e ≡ head_answer rows (at + 5) (read_column rows (drop at l))
   unfolding read_column
-  column_left h =
-      let e = answer_refused rows (at + 5) (read_parts rows (drop at l)) r g h in
-      e.1 ∙ sym (ap (λ (d : Result (Part TableColumn)). head_answer rows (at + 5) (d >>= nulls_behind rows)) e.0)
+  column_left g = answered_refused (column_from rows (at + 5)) (read_parts rows (drop at l)) g (nulls_behind rows) (column_from rows (at + 5))
 
-  module _ (z : r.refused ≡ 0) where
+  module _ {r : ColumnRead} (g : Ok r ≡ head_answer rows (at + 5) (read_parts rows (drop at l))) where
     abbrev column : Part TableColumn
-    column = (found l at rows r g z).0
+    column = (found l at rows g).0
 
     -- its nulls and its null count decide
-    found_is : (a b : Bool) → place_nulls_fit r.place ≡ a → place_count_right l at r.place ≡ b
-        → read_column rows (drop at l) ≡ (require a 12 >>= λ _. require b 25 >>= λ _. ok column)
+    ended_is : (fits right : Bool) → fits ≡ place_nulls_fit r.place → right ≡ place_count_right l at r.place
+        → (require fits 12 >>= λ _. require right 25 >>= λ _. ok column) ≡ read_column rows (drop at l)
     unfolding read_column
-    found_is a b p q =
-        let is = (found l at rows r g z).2 in
-        let fits : (column.part.nullable || no_null column.part.validity rows) ≡ a =
-        ap (λ (x : Bool). column.part.nullable || x) (no_null_count column.part.validity rows) ∙ sym (ap (λ (x : ColumnAnswer). place_nulls_fit x.place) is) ∙ p in
-        ap (λ (d : Result (Part TableColumn)). d >>= nulls_behind rows) (found l at rows r g z).1
-        ∙ (λ i. require (fits i) 12 >>= λ _. require ((sym (right_is l at rows r g z) ∙ q) i) 25 >>= λ _. ok column)
+    ended_is fits right p q =
+        let is = (found l at rows g).2 in
+        let nulls : fits ≡ (column.part.nullable || no_null column.part.validity rows) =
+        p ∙ ap (λ (x : ColumnRead). place_nulls_fit x.place) is ∙ sym (ap (λ (x : Bool). column.part.nullable || x) (no_null_count column.part.validity rows)) in
+        (λ i. require (nulls i) 12 >>= λ _. require ((q ∙ right_is l at rows g) i) 25 >>= λ _. ok column)
+        ∙ sym (ap (λ (d : Result (Part TableColumn)). d >>= nulls_behind rows) (found l at rows g).1)
 
-    module _ (n : ℕ) (e : n ≡ end_number (place_nulls_fit r.place) (place_count_right l at r.place)) where
-      ended : read_column rows (drop at l) ≡ (require (place_nulls_fit r.place) 12 >>= λ _. require (place_count_right l at r.place) 25 >>= λ _. ok column)
-      ended = found_is (place_nulls_fit r.place) (place_count_right l at r.place) refl refl
+    module _ (fits right : Bool) (p : fits ≡ place_nulls_fit r.place) (q : right ≡ place_count_right l at r.place) where
+      pub column_ends : {e : Refusal} → Err e ≡ end_answer fits right → Err e ≡ head_answer rows (at + 5) (read_column rows (drop at l))
+      column_ends u = go fits right u ∙ ap (head_answer rows (at + 5)) (ended_is fits right p q)
+        where
+          go : (a b : Bool) {e : Refusal} → Err e ≡ end_answer a b → Err e ≡ head_answer rows (at + 5) (require a 12 >>= λ _. require b 25 >>= λ _. ok column)
+          go true true u = let z : ◌≡◌ {A = ℕ} 0 1 = cc in absurd (omega arith)
+          go true false u = ap Err cc
+          go false b u = ap Err cc
 
-      pub column_ends : (a : ColumnAnswer) → (n ≡ 0 → ⊥) → a ≡ refused_column n → a ≡ head_answer rows (at + 5) (read_column rows (drop at l))
-      column_ends a h u = u ∙ sym (ap (head_answer rows (at + 5)) (ended ∙ end_refuses (place_nulls_fit r.place) (place_count_right l at r.place) n column e h))
-
-      pub column_right : n ≡ 0 → r ≡ head_answer rows (at + 5) (read_column rows (drop at l))
-      column_right h = (found l at rows r g z).2 ∙ sym (ap (head_answer rows (at + 5)) (ended ∙ end_takes (place_nulls_fit r.place) (place_count_right l at r.place) n column e h))
+      pub column_right : Ok tt ≡ end_answer fits right → Ok r ≡ head_answer rows (at + 5) (read_column rows (drop at l))
+      column_right u = ap Ok (found l at rows g).2 ∙ go fits right u ∙ ap (head_answer rows (at + 5)) (ended_is fits right p q)
+        where
+          go : (a b : Bool) → Ok tt ≡ end_answer a b → Ok (column_from rows (at + 5) column) ≡ head_answer rows (at + 5) (require a 12 >>= λ _. require b 25 >>= λ _. ok column)
+          go true true u = refl
+          go true false u = let z : ◌≡◌ {A = ℕ} 0 1 = cc in absurd (omega arith)
+          go false b u = let z : ◌≡◌ {A = ℕ} 0 1 = cc in absurd (omega arith)

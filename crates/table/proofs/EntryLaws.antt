@@ -9,6 +9,8 @@ use lib.Dec.{leb, ltb}
 use lib.ListN.{length, get_or, get_elem?, take, drop, length-take, length-drop, length-map}
 use lib.Seq.{get_or-take, get_or-drop, ext_get_or}
 use borrow.Author.Tests.{lt-ltb, le-ltb, le-leb, lt-leb, leb-true, leb-false}
+use Rattle.std.specs.Prelude.{Result as RustResult, Ok, Err}
+use Rattle.layout.specs.declared.refusal.Refusal.{Refusal}
 use Rattle.layout.specs.Result.{Result, refused, ok}
 use Rattle.layout.specs.Bytes.{Bytes, byte, number_at, bit_at, part}
 use Rattle.layout.proofs.BytesLaws.{bytes_take, bytes_drop}
@@ -23,16 +25,16 @@ use Rattle.scalar.specs.Value.{float_value}
 use Rattle.scalar.proofs.FloatLaws.{float_stores, float_means}
 use Rattle.table.specs.declared.places.ColumnPlace.{ColumnPlace}
 use Rattle.table.specs.declared.places.Table.{Table}
-use Rattle.table.specs.declared.places.TableAnswer.{TableAnswer}
-use Rattle.table.specs.declared.answer.EntryAnswer.{EntryAnswer}
-use Rattle.table.specs.declared.answer.EntryAnswer.TheVariants.{Entry as AnEntry, NoColumn, NoRow, Refused}
+use Rattle.table.specs.declared.entry.EntryError.{EntryError}
+use Rattle.table.specs.declared.entry.EntryError.TheVariants.{NoColumn, NoRow, Refused}
 use Rattle.table.specs.Column.{TableColumn, valid_in, offset_at, text_between, value_at, entry_at}
 use Rattle.table.specs.Reading.{Table as TableOf, read_table}
-use Rattle.table.specs.Answers.{has, no_row, entry_of_column, entry_of_table, text_from, text_between_value, value_in, entry_value, entry_of_place, entry_at_places, entry_of_reading, entry_of_bytes, EntryGives}
-use Rattle.table.specs.Places.{column_in, table_in, no_place, table_answer}
+use Rattle.table.specs.Answers.{table_refused, has, no_row, entry_of_column, entry_of_table, text_from, text_between_value, value_in, entry_value, entry_of_place, entry_at_places, entry_of_reading, entry_of_bytes, EntryGives}
+use Rattle.table.specs.Places.{column_in, table_in, no_place, table_from, table_answer_from, table_answer}
 use Rattle.table.specs.Parts.{ValueGives}
 use Rattle.table.proofs.TableTyped.{number_at_below}
-use Rattle.table.proofs.RefusalLaws.{table_numbered}
+use Rattle.table.proofs.AnswerLaws.{answered_ok, answered_err}
+use Rattle.table.proofs.RefusalLaws.{table_number}
 use Rattle.table.proofs.StandLaws.{table_read}
 
 -- no validity means no null
@@ -109,7 +111,7 @@ text_row l offsets values row from to p q v =
 module _ (l : List ℕ) (h : Bytes l) (p : ColumnPlace) (row : ℕ) where
   -- the bytes of the values are bytes
   part_bytes : Bytes (column_in l p).values
-  part_bytes = bytes_take (p.values_end - p.values_start) (drop p.values_start l) (bytes_drop p.values_start l h)
+  part_bytes = bytes_take (p.values.end - p.values.start) (drop p.values.start l) (bytes_drop p.values.start l h)
 
   -- the value of a row, type by type
   value_means : (t : DataType) → ValueGives l (value_at t (column_in l p).offsets (column_in l p).values row) (value_in t l p row)
@@ -120,7 +122,7 @@ module _ (l : List ℕ) (h : Bytes l) (p : ColumnPlace) (row : ℕ) where
   value_means types.Float64 =
       let b = number_at_below 8 (column_in l p).values (8 * row) part_bytes in
       record { says = λ rule. float_means _ b rule l; stores = λ _. float_stores _ b }
-  value_means types.Utf8 = text_between_gives l p.values_start p.values_end _ _ refl
+  value_means types.Utf8 = text_between_gives l p.values.start p.values.end _ _ refl
 
   -- the entry of a row
   pub entry_in_gives : {v : Value} → v ≡ entry_value l p row → ValueGives l (entry_at (column_in l p) row) v
@@ -153,27 +155,27 @@ module _ (l : List ℕ) (h : Bytes l) (column row : ℕ) where
       is : (b : Bool) → ltb row t.rows ≡ b → entry_of_table (ok (table_in l t)) column row ≡ cond b (has (entry (entry_at (column_in l p) row))) no_row
       is b q = ap (λ (c : Option TableColumn). entry_of_column c t.rows row) e ∙ ap (λ (x : Bool). cond x (has (entry (entry_at (column_in l p) row))) no_row) q
 
-      go : (b : Bool) → ltb row t.rows ≡ b → EntryGives l (ok (table_in l t)) column row (cond b (AnEntry (entry_value l p row)) NoRow)
+      go : (b : Bool) → ltb row t.rows ≡ b → EntryGives l (ok (table_in l t)) column row (cond b (Ok (entry_value l p row)) (Err NoRow))
       go true q =
           let g = entry_in_gives l h p row refl in
           record { says = λ rule. ap has (g.says rule) ∙ sym (is true q); stores = g.stores }
       go false q = record { says = λ _. sym (is false q); stores = λ _. tt }
 
-  pub entry_at_gives : (t : Table) {r : EntryAnswer} → r ≡ entry_at_places l t column row → EntryGives l (ok (table_in l t)) column row r
+  pub entry_at_gives : (t : Table) {r : RustResult Value EntryError} → r ≡ entry_at_places l t column row → EntryGives l (ok (table_in l t)) column row r
   unfolding entry_at_places
   entry_at_gives t e =
       let places = take t.count t.columns in
       subst (EntryGives l (ok (table_in l t)) column row) (sym e) (place_means t (get_elem? places column) (elem_column l places column))
 
-  pub entry_gives : {r : EntryAnswer} → r ≡ entry_of_bytes l column row → EntryGives l (read_table l) column row r
+  pub entry_gives : {r : RustResult Value EntryError} → r ≡ entry_of_bytes l column row → EntryGives l (read_table l) column row r
   unfolding entry_of_bytes table_answer
   entry_gives e = subst (EntryGives l (read_table l) column row) (sym e) (go (read_table l) refl)
     where
       go : (d : Result TableOf) → read_table l ≡ d → EntryGives l (read_table l) column row (entry_of_reading l d column row)
-      go (refused n) p = record { says = λ _. sym (ap (λ (d : Result TableOf). entry_of_table d column row) p); stores = λ _. tt }
+      go (refused n) p = record { says = λ _. ap table_refused (table_number l n p) ∙ sym (ap (λ (d : Result TableOf). entry_of_table d column row) p); stores = λ _. tt }
       go (ok t) p =
-          subst (λ (d : Result TableOf). EntryGives l d column row (entry_at_places l (table_answer (ok t)).table column row))
-          (table_read {r = table_answer (ok t)} (ap table_answer (sym p))).says (entry_at_gives (table_answer (ok t)).table refl)
+          subst (λ (d : Result TableOf). EntryGives l d column row (entry_at_places l (table_from 5 t) column row))
+          (table_read {r = Ok (table_from 5 t)} (ap (table_answer_from 5) (sym p))).says (entry_at_gives (table_from 5 t) refl)
 
 -- ---- a text, in the code's terms
 
@@ -203,8 +205,8 @@ module _ (l : List ℕ) (p : ColumnPlace) (row : ℕ) where
     pub text_behind : length m / 4 < row → TableText 0 0 ≡ value_in types.Utf8 l p row
     unfolding value_in
     text_behind h =
-        text_empty l p.values_start p.values_end 0 0 0 _ refl (omega arith) (omega arith)
-        ∙ (λ i. text_between_value l p.values_start p.values_end (first i) (next i))
+        text_empty l p.values.start p.values.end 0 0 0 _ refl (omega arith) (omega arith)
+        ∙ (λ i. text_between_value l p.values.start p.values.end (first i) (next i))
       where
         first : 0 ≡ offset_at (column_in l p).offsets row
         first = sym (number_behind 4 (column_in l p).offsets (4 * row) (omega (arith, ap length e)))
@@ -213,9 +215,9 @@ module _ (l : List ℕ) (p : ColumnPlace) (row : ℕ) where
         next = sym (number_behind 4 (column_in l p).offsets (4 * suc row) (omega (arith, ap length e)))
 
     pub text_by_offsets : (from to : ℕ) → from ≡ number_at 4 m (4 * row) → to ≡ number_at 4 m (4 * (row + 1)) → (v : Value)
-        → v ≡ text_between_value l p.values_start p.values_end from to → v ≡ value_in types.Utf8 l p row
+        → v ≡ text_between_value l p.values.start p.values.end from to → v ≡ value_in types.Utf8 l p row
     unfolding value_in
-    text_by_offsets from to a b v g = g ∙ (λ i. text_between_value l p.values_start p.values_end (first i) (next i))
+    text_by_offsets from to a b v g = g ∙ (λ i. text_between_value l p.values.start p.values.end (first i) (next i))
       where
         one : 4 * (row + 1) ≡ 4 * suc row
         one = omega arith
@@ -285,7 +287,7 @@ module _ {A : Type 0} (f : ColumnPlace → A) (l : List ℕ) (t : Table) (long :
     pub column_missing : get_elem? (map (column_in l) (take t.count t.columns)) column ≡ none
     column_missing = elem_column l (take t.count t.columns) column ∙ ap (column_of_place l) place_missing
 
-    pub no_column_lem : NoColumn ≡ entry_at_places l t column row
+    pub no_column_lem : Err NoColumn ≡ entry_at_places l t column row
     unfolding entry_at_places
     no_column_lem = sym (ap (λ (o : Option ColumnPlace). entry_of_place l o t.rows row) place_missing)
 
@@ -300,33 +302,29 @@ module _ {A : Type 0} (f : ColumnPlace → A) (l : List ℕ) (t : Table) (long :
     column_there = elem_column l (take t.count t.columns) column ∙ ap (column_of_place l) place_there
 
     -- by its row
-    row_is : (b : Bool) → ltb row t.rows ≡ b → cond b (AnEntry (entry_value l (get_or t.columns column no_place) row)) NoRow ≡ entry_at_places l t column row
+    row_is : (b : Bool) → ltb row t.rows ≡ b → cond b (Ok (entry_value l (get_or t.columns column no_place) row)) (Err NoRow) ≡ entry_at_places l t column row
     unfolding entry_at_places
     row_is b q =
-        ap (λ (x : Bool). cond x (AnEntry (entry_value l (get_or t.columns column no_place) row)) NoRow) (sym q)
+        ap (λ (x : Bool). cond x (Ok (entry_value l (get_or t.columns column no_place) row)) (Err NoRow)) (sym q)
         ∙ sym (ap (λ (o : Option ColumnPlace). entry_of_place l o t.rows row) place_there)
 
-    pub no_row_lem : t.rows ≤ row → NoRow ≡ entry_at_places l t column row
+    pub no_row_lem : t.rows ≤ row → Err NoRow ≡ entry_at_places l t column row
     no_row_lem m = row_is false (le-ltb row t.rows m)
 
-    pub has_entry : row < t.rows → (v : Value) → v ≡ entry_value l (get_or t.columns column no_place) row → AnEntry v ≡ entry_at_places l t column row
-    has_entry m v g = ap AnEntry g ∙ row_is true (lt-ltb row t.rows m)
+    pub has_entry : row < t.rows → (v : Value) → v ≡ entry_value l (get_or t.columns column no_place) row → Ok v ≡ entry_at_places l t column row
+    has_entry m v g = ap Ok g ∙ row_is true (lt-ltb row t.rows m)
 
 -- ---- in the bytes of a table
 
-module _ (l : List ℕ) (r : TableAnswer) (g : r ≡ table_answer (read_table l)) (column row : ℕ) where
-  pub table_no : (r.refused ≡ 0 → ⊥) → Refused r.refused ≡ entry_of_bytes l column row
+module _ (l : List ℕ) (column row : ℕ) where
+  pub table_no : {e : Refusal} → Err e ≡ table_answer (read_table l) → Err (Refused e) ≡ entry_of_bytes l column row
   unfolding entry_of_bytes table_answer
-  table_no h = go (read_table l) g
-    where
-      go : (d : Result TableOf) → r ≡ table_answer d → Refused r.refused ≡ entry_of_reading l d column row
-      go (refused n) e = ap (λ (x : TableAnswer). Refused x.refused) e
-      go (ok t) e = absurd (h (ap (λ (x : TableAnswer). x.refused) e))
+  table_no g =
+      let d = answered_err (table_from 5) (read_table l) g in
+      ap (λ x. Err (Refused x)) d.2 ∙ sym (ap (λ (x : Result TableOf). entry_of_reading l x column row) d.1)
 
-  pub table_yes : r.refused ≡ 0 → (a : EntryAnswer) → a ≡ entry_at_places l r.table column row → a ≡ entry_of_bytes l column row
+  pub table_yes : {t : Table} → Ok t ≡ table_answer (read_table l) → (a : RustResult Value EntryError) → a ≡ entry_at_places l t column row → a ≡ entry_of_bytes l column row
   unfolding entry_of_bytes table_answer
-  table_yes z a u = u ∙ go (read_table l) refl g
-    where
-      go : (d : Result TableOf) → read_table l ≡ d → r ≡ table_answer d → entry_at_places l r.table column row ≡ entry_of_reading l d column row
-      go (refused n) p e = absurd (omega (arith, (table_numbered l).numbers n p, z, ap (λ (x : TableAnswer). x.refused) e))
-      go (ok t) p e = ap (λ (x : TableAnswer). entry_at_places l x.table column row) e
+  table_yes g a u =
+      let d = answered_ok (table_from 5) (read_table l) g in
+      u ∙ ap (λ (x : Table). entry_at_places l x column row) d.2 ∙ sym (ap (λ (x : Result TableOf). entry_of_reading l x column row) d.1)

@@ -13,4 +13,5 @@ pub mod WholeBytes
 pub mod PlaceLaws
 pub mod EntryLaws
 pub mod RefusalLaws
+pub mod AnswerLaws
 pub mod CountExamples

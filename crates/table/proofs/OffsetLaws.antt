@@ -1,5 +1,5 @@
 -- Offsets that never fall, from one of them on. Assumes nothing.
-use mathlib.Core.Path.{◌≡◌, refl, sym, ap, ◌∙◌}
+use mathlib.Core.Path.{◌≡◌, sym, ap, ◌∙◌}
 use mathlib.Core.Bool.{Bool, true, false, ◌&&◌}
 use mathlib.Core.List.{List}
 use Prim.Native.Nat.{ℕ, suc, ◌+◌, ◌-◌, ◌*◌, ◌<◌, ◌≤◌}
@@ -66,28 +66,25 @@ falls_end l count i h = ap (λ (k : ℕ). never_falls k (drop (4 * i) l)) none
     none = omega arith
 
 -- where a loop over the offsets stands: the first i + 1 never fall, and `last` is the i-th
-pub record FallsSoFar (l : List ℕ) (count last at i : ℕ) : Type 0 where
+pub record FallsSoFar (l : List ℕ) (count last i : ℕ) : Type 0 where
   pub few : i ≤ count
-  pub place : at ≡ 4 * i
   pub last_is : last ≡ offset_at l i
   pub same : never_falls count l ≡ Left l count i
 
-pub falls_none : (l : List ℕ) (count last : ℕ) → last ≡ number_at 4 l 0 → FallsSoFar l count last 0 0
-falls_none l count last e = record { few = omega arith; place = refl; last_is = e; same = falls_start l count }
+pub falls_none : (l : List ℕ) (count last : ℕ) → last ≡ number_at 4 l 0 → FallsSoFar l count last 0
+falls_none l count last e = record { few = omega arith; last_is = e; same = falls_start l count }
 
-pub falls_more : (l : List ℕ) (count last at i next : ℕ) → FallsSoFar l count last at i → i < count → next ≡ number_at 4 l (at + 4) → last ≤ next
-    → FallsSoFar l count next (at + 4) (i + 1)
-falls_more l count last at i next f h e p =
-    let four : at + 4 ≡ 4 * (i + 1) = omega (arith, f.place) in
-    let is : next ≡ offset_at l (i + 1) = e ∙ ap (number_at 4 l) four in
-    record { few = omega arith; place = four; last_is = is; same = f.same ∙ falls_next l count i h (omega (arith, f.last_is, is)) }
+-- the next offset stands four bytes behind
+next_offset : (l : List ℕ) (i next : ℕ) → next ≡ number_at 4 l (4 * i + 4) → next ≡ offset_at l (i + 1)
+next_offset l i next e = let four : 4 * i + 4 ≡ 4 * (i + 1) = omega arith in e ∙ ap (number_at 4 l) four
 
-pub falls_found : (l : List ℕ) (count last at i next : ℕ) → FallsSoFar l count last at i → i < count → next ≡ number_at 4 l (at + 4) → next < last
-    → false ≡ never_falls count l
-falls_found l count last at i next f h e p =
-    let four : at + 4 ≡ 4 * (i + 1) = omega (arith, f.place) in
-    let is : next ≡ offset_at l (i + 1) = e ∙ ap (number_at 4 l) four in
-    sym (f.same ∙ falls_here l count i h (omega (arith, f.last_is, is)))
+pub falls_more : (l : List ℕ) (count last i next : ℕ) → FallsSoFar l count last i → i < count → next ≡ number_at 4 l (4 * i + 4) → last ≤ next → FallsSoFar l count next (i + 1)
+falls_more l count last i next f h e p =
+    let is = next_offset l i next e in
+    record { few = omega arith; last_is = is; same = f.same ∙ falls_next l count i h (omega (arith, f.last_is, is)) }
 
-pub falls_all : (l : List ℕ) (count last at i : ℕ) → FallsSoFar l count last at i → count ≤ i → true ≡ never_falls count l
-falls_all l count last at i f h = sym (f.same ∙ falls_end l count i h)
+pub falls_found : (l : List ℕ) (count last i next : ℕ) → FallsSoFar l count last i → i < count → next ≡ number_at 4 l (4 * i + 4) → next < last → false ≡ never_falls count l
+falls_found l count last i next f h e p = sym (f.same ∙ falls_here l count i h (omega (arith, f.last_is, next_offset l i next e)))
+
+pub falls_all : (l : List ℕ) (count last i : ℕ) → FallsSoFar l count last i → count ≤ i → true ≡ never_falls count l
+falls_all l count last i f h = sym (f.same ∙ falls_end l count i h)

@@ -8,44 +8,34 @@ use lib.Dec.{leb, ltb}
 use lib.ListN.{length, drop, set, replicate, length-append, length-drop}
 use lib.Seq.{take_all, set_at}
 use borrow.Author.Tests.{le-leb, lt-leb, lt-ltb, le-ltb}
+use Rattle.std.specs.Prelude.{Result as RustResult, Ok, Err}
+use Rattle.layout.specs.declared.refusal.Refusal.{Refusal}
+use Rattle.layout.specs.declared.refusal.Refusal.TheVariants.{TableFields, TableSize}
 use Rattle.layout.specs.Result.{Result, refused, ok, ◌>>=◌, require}
 use Rattle.layout.specs.Bytes.{number, number_at, part}
 use Rattle.layout.specs.Field.{Field}
-use Rattle.table.specs.declared.part.PartAnswer.{PartAnswer}
-use Rattle.table.specs.declared.part.PartAnswer.TheVariants.{At, Refused}
+use Rattle.table.specs.declared.places.Part.{Part as PartPlace}
 use Rattle.table.specs.declared.places.ColumnPlace.{ColumnPlace}
-use Rattle.table.specs.declared.places.TableAnswer.{TableAnswer}
-use Rattle.table.specs.declared.column.ColumnAnswer.{ColumnAnswer}
+use Rattle.table.specs.declared.places.Table.{Table as TablePlaces}
+use Rattle.table.specs.declared.column.ColumnRead.{ColumnRead}
 use Rattle.table.specs.Column.{TableColumn}
 use Rattle.table.specs.Reading.{Part, tagged_pair, read_column, read_columns, Table, read_table}
-use Rattle.table.specs.Places.{no_place, place_from, column_end, places_from, places_in16, table_answer_from, table_answer}
-use Rattle.table.specs.Parts.{field_means, FieldGives, head_answer, one_more, columns_step}
-use Rattle.table.proofs.PartsLaws.{behind_refused, behind_field, field_inside}
-use Rattle.table.proofs.RefusalLaws.{column_numbered}
+use Rattle.table.specs.Places.{no_place, place_from, column_end, places_from, places_in16, table_from, table_answer_from, table_answer}
+use Rattle.table.specs.Parts.{FieldGives, column_from, head_answer, one_more, columns_step}
+use Rattle.table.proofs.AnswerLaws.{answered_ok, answered_err, number_refused}
+use Rattle.table.proofs.PartsLaws.{behind_field}
 use Rattle.table.proofs.StandLaws.{pair_stands, stands_at, column_stands, column_parts, length_places}
-use Rattle.table.proofs.ColumnLaws.{answer_found, answer_refused}
-
--- ---- a refusal
-
-pub table_refused_lem : (n : ℕ) {p : ColumnPlace} → p ≡ no_place → record { refused = n; table = record { rows = 0; count = 0; columns = replicate 16 p } } ≡ table_answer (refused n)
-unfolding table_answer
-table_refused_lem n e = λ i. record { refused = n; table = record { rows = 0; count = 0; columns = replicate 16 (e i) } }
-
--- a refusal is the same wherever the columns start
-refusal_from : (at n : ℕ) → table_answer (refused n) ≡ table_answer_from at (refused n)
-unfolding table_answer
-refusal_from at n = refl
 
 -- ---- bytes behind the last column
 
-module _ (l : List ℕ) (at : ℕ) (r : PartAnswer) (g : FieldGives l 2 (tagged_pair 2 (drop at l)) r) (a : TableAnswer) where
-  pub more_refused : (n : ℕ) → r ≡ Refused n → a ≡ table_answer (refused n) → a ≡ table_answer (one_more (drop at l))
-  unfolding one_more
-  more_refused n e u = u ∙ sym (ap table_answer (behind_refused l 2 (tagged_pair 2 (drop at l)) r g (λ _. refused 10) n e))
+module _ {l : List ℕ} (at : ℕ) where
+  pub more_refused : {e : Refusal} → FieldGives l 2 (tagged_pair 2 (drop at l)) (Err e) → Err e ≡ table_answer (one_more (drop at l))
+  unfolding one_more table_answer
+  more_refused g = number_refused g.says (λ _. refused 10) (table_from 5)
 
-  pub more_found : (begin end : ℕ) → r ≡ At begin end → a ≡ table_answer (refused 10) → a ≡ table_answer (one_more (drop at l))
-  unfolding one_more
-  more_found begin end e u = u ∙ sym (ap table_answer (behind_field l 2 (tagged_pair 2 (drop at l)) r g (λ _. refused 10) begin end e))
+  pub more_found : {p : PartPlace} → FieldGives l 2 (tagged_pair 2 (drop at l)) (Ok p) → Err TableSize ≡ table_answer (one_more (drop at l))
+  unfolding one_more table_answer
+  more_found g = sym (ap (table_answer_from 5) (behind_field g (λ _. refused 10)))
 
 -- ---- the columns
 
@@ -137,9 +127,9 @@ module _ (l : List ℕ) (rows first : ℕ) (columns : List ColumnPlace) (count a
   unfolding columns_step
   columns_are rest e = ap (table_of rows) (ap (Behind s.front) (sym e) ∙ sym s.same)
 
-  pub columns_all : length l ≤ at → record { refused = 0; table = record { rows = rows; count = count; columns = columns } } ≡ table_answer_from first (columns_step rows (drop first l))
+  pub columns_all : length l ≤ at → Ok (record { rows = rows; count = count; columns = columns }) ≡ table_answer_from first (columns_step rows (drop first l))
   columns_all h =
-      (λ i. record { refused = 0; table = record { rows = rows; count = sym s.many i; columns = s.places i } })
+      (λ i. Ok (record { rows = rows; count = sym s.many i; columns = s.places i }))
       ∙ ap (λ (cs : List TableColumn). table_answer_from first (ok (record { rows = rows; columns = cs }))) (sym (append-nil s.front))
       ∙ ap (table_answer_from first) (columns_are (ok []) (columns_end_lem rows (16 - count) (drop at l) ended))
     where
@@ -150,8 +140,8 @@ module _ (l : List ℕ) (rows first : ℕ) (columns : List ColumnPlace) (count a
     some_left : 0 < length (drop at l)
     some_left = omega (arith, length-drop at l)
 
-    pub columns_many : count ≡ 16 → (a : TableAnswer) → a ≡ table_answer (one_more (drop at l)) → a ≡ table_answer_from first (columns_step rows (drop first l))
-    unfolding one_more
+    pub columns_many : count ≡ 16 → (a : RustResult TablePlaces Refusal) → a ≡ table_answer (one_more (drop at l)) → a ≡ table_answer_from first (columns_step rows (drop first l))
+    unfolding one_more table_answer
     columns_many e a u =
         u ∙ refuses (tagged_pair 2 (drop at l))
         ∙ ap (table_answer_from first) (columns_are _ (ap (λ (k : ℕ). read_columns rows k (drop at l)) none ∙ columns_over rows (drop at l) some_left))
@@ -159,11 +149,11 @@ module _ (l : List ℕ) (rows first : ℕ) (columns : List ColumnPlace) (count a
         none : 16 - count ≡ 0
         none = omega arith
 
-        refuses : (f : Result Field) → table_answer (f >>= λ _. refused 10) ≡ table_answer_from first (table_of rows (Behind s.front (f >>= λ _. refused 10)))
-        refuses (refused n) = refusal_from first n
-        refuses (ok f) = refusal_from first 10
+        refuses : (f : Result Field) → table_answer_from 5 (f >>= λ _. refused 10) ≡ table_answer_from first (table_of rows (Behind s.front (f >>= λ _. refused 10)))
+        refuses (refused n) = refl
+        refuses (ok f) = refl
 
-    module _ (n : count ≡ 16 → ⊥) (r : ColumnAnswer) (g : r ≡ head_answer rows (at + 5) (read_column rows (drop at l))) where
+    module _ (n : count ≡ 16 → ⊥) where
       -- the column at the place, then those behind it
       next_is : (d : Result (Part TableColumn)) → read_column rows (drop at l) ≡ d → read_columns rows (16 - count) (drop at l)
           ≡ (d >>= λ c. read_columns rows (16 - (count + 1)) c.rest >>= λ cs. ok (c.part ∷ cs))
@@ -174,13 +164,13 @@ module _ (l : List ℕ) (rows first : ℕ) (columns : List ColumnPlace) (count a
           fewer : 16 - count ≡ suc (16 - (count + 1))
           fewer = omega (arith, s.few, n)
 
-      pub columns_refused : (r.refused ≡ 0 → ⊥) → (a : TableAnswer) → a ≡ table_answer (refused r.refused) → a ≡ table_answer_from first (columns_step rows (drop first l))
-      columns_refused m a u =
-          u ∙ refusal_from first r.refused
-          ∙ ap (table_answer_from first) (columns_are _ (next_is _ (answer_refused rows (at + 5) (read_column rows (drop at l)) r g m).0))
+      pub columns_refused : {e : Refusal} → Err e ≡ head_answer rows (at + 5) (read_column rows (drop at l)) → Err e ≡ table_answer_from first (columns_step rows (drop first l))
+      columns_refused g =
+          let d = answered_err (column_from rows (at + 5)) (read_column rows (drop at l)) g in
+          ap Err d.2 ∙ ap (table_answer_from first) (columns_are _ (next_is _ d.1))
 
-      pub columns_more : r.refused ≡ 0 → ColumnsSoFar l rows first (set columns count r.place) (count + 1) r.next
-      columns_more z = record {
+      pub columns_more : {r : ColumnRead} → Ok r ≡ head_answer rows (at + 5) (read_column rows (drop at l)) → ColumnsSoFar l rows first (set columns count r.place) (count + 1) r.next
+      columns_more {r} g = record {
         front = s.front ++ (c ∷ []);
         few = omega (arith, s.few, n);
         many = length-append s.front (c ∷ []) ∙ ap (λ (k : ℕ). k + 1) s.many;
@@ -190,8 +180,8 @@ module _ (l : List ℕ) (rows first : ℕ) (columns : List ColumnPlace) (count a
         same = s.same ∙ ap (Behind s.front) (next_is _ found.1) ∙ behind_one s.front c rest ∙ ap (λ (m : List ℕ). Behind (s.front ++ (c ∷ [])) (read_columns rows (16 - (count + 1)) m)) rest_is;
       }
         where
-          found : (x : Part TableColumn) × (read_column rows (drop at l) ≡ ok x) × (r ≡ head_answer rows (at + 5) (ok x))
-          found = answer_found rows (at + 5) (read_column rows (drop at l)) r (column_numbered rows (drop at l)) g z
+          found : (x : Part TableColumn) × (read_column rows (drop at l) ≡ ok x) × (r ≡ column_from rows (at + 5) x)
+          found = answered_ok (column_from rows (at + 5)) (read_column rows (drop at l)) g
 
           c : TableColumn
           c = found.0.part
@@ -203,15 +193,15 @@ module _ (l : List ℕ) (rows first : ℕ) (columns : List ColumnPlace) (count a
           size = length_places rows first s.front ∙ s.many
 
           place_is : r.place ≡ place_from rows (columns_end first s.front) c
-          place_is = ap (λ (x : ColumnAnswer). x.place) found.2 ∙ ap (λ (k : ℕ). place_from rows k c) s.ends
+          place_is = ap (λ (x : ColumnRead). x.place) found.2 ∙ ap (λ (k : ℕ). place_from rows k c) s.ends
 
           end_is : r.next ≡ column_end (columns_end first s.front) c
-          end_is = ap (λ (x : ColumnAnswer). x.next) found.2 ∙ ap (λ (k : ℕ). column_end k c) s.ends
+          end_is = ap (λ (x : ColumnRead). x.next) found.2 ∙ ap (λ (k : ℕ). column_end k c) s.ends
 
           rest_is : found.0.rest ≡ drop r.next l
           rest_is =
               sym (column_stands rows l at found.0 (column_parts rows (drop at l) found.0 found.1).0).column.behind
-              ∙ ap (λ (k : ℕ). drop k l) (sym (ap (λ (x : ColumnAnswer). x.next) found.2))
+              ∙ ap (λ (k : ℕ). drop k l) (sym (ap (λ (x : ColumnRead). x.next) found.2))
 
 -- ---- the table
 
@@ -219,52 +209,56 @@ module _ (l : List ℕ) (rows first : ℕ) (columns : List ColumnPlace) (count a
 abbrev rows_behind : Field → Result Table
 rows_behind f = require (leb (number f.content) 512) 10 >>= λ _. columns_step (number f.content) f.rest
 
-module _ (l : List ℕ) (a : TableAnswer) where
+module _ (l : List ℕ) where
   -- by the test of the length
   read_is : (b : Bool) → (ltb 0 (length l) && leb (length l) 65536) ≡ b → (require b 9 >>= λ _. tagged_pair 1 l >>= rows_behind) ≡ read_table l
   unfolding read_table columns_step
   read_is b e = ap (λ (x : Bool). require x 9 >>= λ _. tagged_pair 1 l >>= rows_behind) (sym e)
 
-  pub read_none : length l ≡ 0 → a ≡ table_answer (refused 9) → a ≡ table_answer (read_table l)
-  read_none z u = u ∙ ap table_answer (read_is false (ap (λ (b : Bool). b && leb (length l) 65536) (le-ltb 0 (length l) (omega arith))))
+  pub read_none : length l ≡ 0 → Err TableFields ≡ table_answer (read_table l)
+  unfolding table_answer
+  read_none z = ap (table_answer_from 5) (read_is false (ap (λ (b : Bool). b && leb (length l) 65536) (le-ltb 0 (length l) (omega arith))))
 
   module _ (h : length l ≡ 0 → ⊥) where
     some_bytes : ltb 0 (length l) ≡ true
     some_bytes = lt-ltb 0 (length l) (omega (arith, h))
 
-    pub read_long : 65536 < length l → a ≡ table_answer (refused 9) → a ≡ table_answer (read_table l)
-    read_long m u = u ∙ ap table_answer (read_is false (simp (some_bytes, lt-leb (length l) 65536 m)))
+    pub read_long : 65536 < length l → Err TableFields ≡ table_answer (read_table l)
+    unfolding table_answer
+    read_long m = ap (table_answer_from 5) (read_is false (simp (some_bytes, lt-leb (length l) 65536 m)))
 
-    module _ (few : length l ≤ 65536) (r : PartAnswer) (g : FieldGives l 1 (tagged_pair 1 l) r) where
+    module _ (few : length l ≤ 65536) where
       first_is : (tagged_pair 1 l >>= rows_behind) ≡ read_table l
       first_is = read_is true (simp (some_bytes, le-leb (length l) 65536 few))
 
-      pub read_refused : (n : ℕ) → r ≡ Refused n → a ≡ table_answer (refused n) → a ≡ table_answer (read_table l)
-      read_refused n e u = u ∙ ap table_answer (sym (behind_refused l 1 (tagged_pair 1 l) r g rows_behind n e) ∙ first_is)
+      pub read_refused : {e : Refusal} → FieldGives l 1 (tagged_pair 1 l) (Err e) → Err e ≡ table_answer (read_table l)
+      unfolding table_answer
+      read_refused g = number_refused g.says rows_behind (table_from 5) ∙ ap (table_answer_from 5) first_is
 
-      module _ (begin end rows : ℕ) (e : r ≡ At begin end) (is : rows ≡ number_at 2 (part l begin end) 0) where
+      module _ {p : PartPlace} (g : FieldGives l 1 (tagged_pair 1 l) (Ok p)) {rows : ℕ} (is : rows ≡ number_at 2 (part l p.start p.end) 0) where
         -- tag 1 takes five bytes
-        first_five : (length (part l begin end) ≡ 2) × (end ≡ 5)
+        first_five : (length (part l p.start p.end) ≡ 2) × (p.end ≡ 5)
         first_five =
-            let s = pair_stands l 0 1 _ (sym g.says ∙ ap (field_means l 1) e) in
-            let w = stands_at l 3 begin end s.0 (field_inside l 1 (tagged_pair 1 l) r g begin end e) in
+            let s = pair_stands l 0 1 _ (sym g.says) in
+            let w = stands_at l 3 p.start p.end s.0 g.inside in
             (s.1, omega (arith, s.1, w.0, w.1))
 
-        rows_are : rows ≡ number (part l begin end)
-        rows_are = is ∙ ap number (take_all 2 (part l begin end) (omega (arith, first_five.0)))
+        rows_are : rows ≡ number (part l p.start p.end)
+        rows_are = is ∙ ap number (take_all 2 (part l p.start p.end) (omega (arith, first_five.0)))
 
         -- behind the row count
-        rows_step : (b : Bool) → leb rows 512 ≡ b → (require b 10 >>= λ _. columns_step rows (drop end l)) ≡ read_table l
+        rows_step : (b : Bool) → leb rows 512 ≡ b → (require b 10 >>= λ _. columns_step rows (drop p.end l)) ≡ read_table l
         rows_step b q =
-            ap (λ (x : Bool). require x 10 >>= λ _. columns_step rows (drop end l)) (sym q)
-            ∙ ap (λ (n : ℕ). require (leb n 512) 10 >>= λ _. columns_step n (drop end l)) rows_are
-            ∙ sym (behind_field l 1 (tagged_pair 1 l) r g rows_behind begin end e) ∙ first_is
+            ap (λ (x : Bool). require x 10 >>= λ _. columns_step rows (drop p.end l)) (sym q)
+            ∙ ap (λ (n : ℕ). require (leb n 512) 10 >>= λ _. columns_step n (drop p.end l)) rows_are
+            ∙ sym (behind_field g rows_behind) ∙ first_is
 
-        pub read_rows : 512 < rows → a ≡ table_answer (refused 10) → a ≡ table_answer (read_table l)
-        read_rows m u = u ∙ ap table_answer (rows_step false (lt-leb rows 512 m))
-
-        pub read_columns_lem : rows ≤ 512 → a ≡ table_answer_from end (columns_step rows (drop end l)) → a ≡ table_answer (read_table l)
+        pub read_rows : 512 < rows → Err TableSize ≡ table_answer (read_table l)
         unfolding table_answer
-        read_columns_lem m c =
-            c ∙ ap (λ (k : ℕ). table_answer_from k (columns_step rows (drop end l))) first_five.1
+        read_rows m = ap (table_answer_from 5) (rows_step false (lt-leb rows 512 m))
+
+        pub read_columns_lem : rows ≤ 512 → (a : RustResult TablePlaces Refusal) → a ≡ table_answer_from p.end (columns_step rows (drop p.end l)) → a ≡ table_answer (read_table l)
+        unfolding table_answer
+        read_columns_lem m a c =
+            c ∙ ap (λ (k : ℕ). table_answer_from k (columns_step rows (drop p.end l))) first_five.1
             ∙ ap (table_answer_from 5) (rows_step true (le-leb rows 512 m))

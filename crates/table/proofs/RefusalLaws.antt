@@ -2,12 +2,12 @@
 use mathlib.Core.Path.{◌≡◌, refl}
 use mathlib.Core.Bool.{true, false, ◌&&◌, ◌||◌}
 use mathlib.Core.List.{List, [], ◌∷◌}
-use Prim.Native.Nat.{ℕ, zero, suc, ◌*◌, ◌<◌, ◌≤◌}
-use native.Mathlib.Omega.{arith}
+use Prim.Native.Nat.{ℕ, zero, suc, ◌*◌, ◌≤◌}
 use lib.Dec.{eqb, leb, ltb}
 use lib.ListN.{length}
-use Rattle.layout.specs.Result.{Result, refused}
-use Rattle.layout.specs.Refusals.{table_refusals, late_refusals, among}
+use Rattle.layout.specs.Result.{refused}
+use Rattle.layout.specs.Refusals.{table_refusals, late_refusals, among, number_of, refusal_numbered}
+use Rattle.layout.proofs.RefusalLaws.{number_kept}
 use Rattle.layout.specs.Bytes.{byte, number, bitmap_length}
 use Rattle.layout.specs.Field.{Field}
 use Rattle.layout.proofs.ResultLaws.{RefusedAmong, ok_among, refused_among, bind_among, require_among_then, cond_among, among_between, among_apart}
@@ -134,21 +134,9 @@ alone_among rows bytes =
 pub alone_bounds : (rows : ℕ) (bytes : List ℕ) (n : ℕ) → read_alone rows bytes ≡ refused n → (9 ≤ n) × (n ≤ 25)
 alone_bounds rows bytes n e = among_between 9 25 table_refusals n refl ((alone_among rows bytes).one n e)
 
--- the number of every refusal isn't 0
-pub record Numbered {A : Type 0} (m : Result A) : Type 0 where
-  pub numbers : (n : ℕ) → m ≡ refused n → 0 < n
+-- both keep their numbers as refusals
+pub table_number : (bytes : List ℕ) (n : ℕ) → read_table bytes ≡ refused n → number_of (refusal_numbered n) ≡ n
+table_number bytes n e = number_kept table_refusals n refl ((table_among bytes).one n e)
 
-numbered : {A : Type 0} {m : Result A} → RefusedAmong table_refusals m → Numbered m
-numbered r = record { numbers = λ n e. omega (arith, (among_between 9 25 table_refusals n refl (r.one n e)).0) }
-
-pub table_numbered : (bytes : List ℕ) → Numbered (read_table bytes)
-table_numbered bytes = numbered (table_among bytes)
-
-pub parts_numbered : (rows : ℕ) (bytes : List ℕ) → Numbered (read_parts rows bytes)
-parts_numbered rows bytes = numbered (parts_among rows bytes)
-
-pub column_numbered : (rows : ℕ) (bytes : List ℕ) → Numbered (read_column rows bytes)
-column_numbered rows bytes = numbered (column_among rows bytes)
-
-pub alone_numbered : (rows : ℕ) (bytes : List ℕ) → Numbered (read_alone rows bytes)
-alone_numbered rows bytes = numbered (alone_among rows bytes)
+pub alone_number : (rows : ℕ) (bytes : List ℕ) (n : ℕ) → read_alone rows bytes ≡ refused n → number_of (refusal_numbered n) ≡ n
+alone_number rows bytes n e = number_kept table_refusals n refl ((alone_among rows bytes).one n e)

@@ -14,7 +14,8 @@ use Rattle.layout.specs.Result.{Result, refused, ok, ◌>>=◌}
 use Rattle.layout.specs.Bytes.{byte, part, bitmap_length}
 use Rattle.layout.specs.Field.{Field, header}
 use Rattle.layout.specs.Place.{placed, header_of, header_at}
-use Rattle.layout.specs.declared.field.Header.TheVariants.{Found}
+use Rattle.std.specs.Prelude.{Result as RustResult, Some}
+use Rattle.layout.specs.declared.refusal.Refusal.{Refusal}
 use Rattle.layout.proofs.ResultLaws.{refused_not_ok, ok_injective, bind_ok, require_then}
 use Rattle.layout.proofs.FieldLaws.{header_ok, header_fits}
 use Rattle.layout.proofs.PlaceLaws.{place_found}
@@ -23,13 +24,13 @@ use Rattle.layout.proofs.TestLaws.{both_hold}
 use Rattle.scalar.specs.declared.types.DataType.{DataType}
 use Rattle.scalar.specs.declared.types.DataType.TheVariants.{Boolean, Int32, Int64, Float64, Utf8}
 use Rattle.scalar.specs.Types.{type_numbered, mark_numbered}
-use Rattle.table.specs.declared.places.TableAnswer.{TableAnswer}
-use Rattle.table.specs.declared.places.PlaceAnswer.{PlaceAnswer}
+use Rattle.table.specs.declared.places.ColumnPlace.{ColumnPlace}
+use Rattle.table.specs.declared.places.Table.{Table as TablePlaces}
 use Rattle.table.specs.Column.{TableColumn, null_count, offset_at}
 use Rattle.table.specs.Reading.{Part, tagged, tagged_pair, read_count, read_validity, never_falls, read_text_offsets, read_offsets, values_length, read_values, read_body, read_parts, no_null, count_says, count_right, read_column, read_columns, rows_most, columns_most, Table, read_table, read_alone}
 use Rattle.table.specs.Places.{count_in, column_in, Inside, ColumnInside, no_place, offsets_start, is_counted, values_end, place_behind, count_size, validity_start, place_from, column_end, places_from, table_answer_from, table_answer, alone_answer, CountKept, TableRead, AloneRead}
 use Rattle.table.proofs.TableInversions.{table_inv}
-use Rattle.table.proofs.RefusalLaws.{table_numbered, alone_numbered}
+use Rattle.table.proofs.RefusalLaws.{table_number, alone_number}
 
 -- ---- a part
 
@@ -55,7 +56,7 @@ FieldStands l at f = Stands l (at + 3) f.content f.rest
 header_stands : (l : List ℕ) (at : ℕ) (f : Field) → header 9 (drop at l) ≡ ok f → FieldStands l at f
 header_stands l at f e =
     let i = header_ok 9 (drop at l) f e in
-    let found : header_at l at ≡ Found (placed at f) = ap (header_of at) (header_fits 2 (drop at l) i.0 i.1 ∙ ap ok (sym i.2)) in
+    let found : header_at l at ≡ Some (placed at f) = ap (header_of at) (header_fits 2 (drop at l) i.0 i.1 ∙ ap ok (sym i.2)) in
     let t = place_found l at (placed at f) found in
     let same = ok_injective (sym (t.reads 9) ∙ e) in
     record { there = ap (λ (g : Field). g.content) same; behind = ap (λ (g : Field). g.rest) same; inside = t.inside }
@@ -301,13 +302,12 @@ table_stands bytes t p =
     (columns_stand _ columns_most bytes 5 i.first.rest t.columns (sym (pair_rest bytes 0 1 i.first i.first_reads)) i.columns_read_lem)
 
 -- what the answer of a table's reading means
-pub table_read : {bytes : List ℕ} {r : TableAnswer} → r ≡ table_answer (read_table bytes) → TableRead bytes r
+pub table_read : {bytes : List ℕ} {r : RustResult TablePlaces Refusal} → r ≡ table_answer (read_table bytes) → TableRead bytes r
 unfolding table_answer
 table_read {bytes} {r} e = subst (TableRead bytes) (sym e) (go (read_table bytes) refl)
   where
     go : (d : Result Table) → read_table bytes ≡ d → TableRead bytes (table_answer_from 5 d)
-    go (refused zero) p = absurd (omega (arith, (table_numbered bytes).numbers 0 p))
-    go (refused (suc n)) p = record { says = sym p; few = omega arith; inside = λ z i h. absurd (omega arith); counts = λ z i h. absurd (omega arith) }
+    go (refused n) p = record { says = ap refused (table_number bytes n p) ∙ sym p; places = tt }
     go (ok t) p =
         let s = table_stands bytes t p in
         let places = places_from t.rows 5 t.columns in
@@ -317,9 +317,11 @@ table_read {bytes} {r} e = subst (TableRead bytes) (sym e) (go (read_table bytes
         ap (map (column_in bytes)) (take_at places empty (length t.columns) size) ∙ s.0.there in
         record {
           says = ap (λ (cs : List TableColumn). ok (record { rows = t.rows; columns = cs })) placed ∙ sym p;
-          few = s.1;
-          inside = λ _ i h. subst (ColumnInside (length bytes)) (sym (get_or-append places empty no_place i (omega (arith, size)))) (s.0.inside i h);
-          counts = λ _ i h. subst (CountKept bytes t.rows) (sym (get_or-append places empty no_place i (omega (arith, size)))) (s.0.counts i h);
+          places = record {
+            few = s.1;
+            inside = λ i h. subst (ColumnInside (length bytes)) (sym (get_or-append places empty no_place i (omega (arith, size)))) (s.0.inside i h);
+            counts = λ i h. subst (CountKept bytes t.rows) (sym (get_or-append places empty no_place i (omega (arith, size)))) (s.0.counts i h);
+          };
         }
 
 -- one column alone stands at the start
@@ -333,11 +335,10 @@ alone_stands bytes rows c p =
     subst (Placed bytes rows 0) (ok_injective e) (column_placed bytes rows 0 d.0 (column_stands rows bytes 0 d.0 d.1) k.0)
 
 -- what the answer of one column's reading means
-pub alone_read : {bytes : List ℕ} {rows : ℕ} {r : PlaceAnswer} → r ≡ alone_answer rows (read_alone rows bytes) → AloneRead bytes rows r
+pub alone_read : {bytes : List ℕ} {rows : ℕ} {r : RustResult ColumnPlace Refusal} → r ≡ alone_answer rows (read_alone rows bytes) → AloneRead bytes rows r
 unfolding alone_answer
 alone_read {bytes} {rows} {r} e = subst (AloneRead bytes rows) (sym e) (go (read_alone rows bytes) refl)
   where
     go : (d : Result TableColumn) → read_alone rows bytes ≡ d → AloneRead bytes rows (alone_answer rows d)
-    go (refused zero) p = absurd (omega (arith, (alone_numbered rows bytes).numbers 0 p))
-    go (refused (suc n)) p = record { says = sym p; inside = λ z. absurd (omega arith); counts = λ z. absurd (omega arith) }
-    go (ok c) p = let s = alone_stands bytes rows c p in record { says = ap ok s.there ∙ sym p; inside = λ _. s.inside; counts = λ _. s.counts }
+    go (refused n) p = record { says = ap refused (alone_number rows bytes n p) ∙ sym p; inside = tt; counts = tt }
+    go (ok c) p = let s = alone_stands bytes rows c p in record { says = ap ok s.there ∙ sym p; inside = s.inside; counts = s.counts }

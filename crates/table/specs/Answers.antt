@@ -1,7 +1,9 @@
 -- The value of an entry at its place, and the public answers about an entry and a null count: what a table's bytes have in a column.
-use Rattle.std.specs.Prelude.{◌≡◌, cond, List, ℕ, suc, ◌+◌, ◌-◌, ◌*◌, ◌^◌, ◌<◌, min, leb, ltb, length, take}
+use Rattle.std.specs.Prelude.{◌≡◌, cond, List, ℕ, suc, ◌+◌, ◌-◌, ◌*◌, ◌^◌, ◌<◌, min, leb, ltb, length, take, Result as RustResult, Ok, Err, Option as RustOption, Some, None, IfOk}
 use Rattle.std.proofs.Math.Option.{Option, some, none}
 use Rattle.std.proofs.Math.ListN.{get_elem?}
+use Rattle.layout.specs.declared.refusal.Refusal.{Refusal}
+use Rattle.layout.specs.Refusals.{number_of, refusal_numbered}
 use Rattle.layout.specs.Result.{Result, refused, ok}
 use Rattle.layout.specs.Bytes.{number_at, bit_at, part}
 use Rattle.scalar.specs.declared.types.DataType.{DataType}
@@ -10,15 +12,13 @@ use Rattle.scalar.specs.declared.value.Value.{Value}
 use Rattle.scalar.specs.declared.value.Value.TheVariants.{Null, Boolean, Int32, Int64, TableText}
 use Rattle.scalar.specs.Entry.{Outcome, entry}
 use Rattle.scalar.specs.Value.{meaning, float_value, Storable}
-use Rattle.table.specs.declared.answer.EntryAnswer.{EntryAnswer}
-use Rattle.table.specs.declared.answer.EntryAnswer.TheVariants.{Entry as AnEntry, NoColumn, NoRow, Refused}
-use Rattle.table.specs.declared.answer.NullCountAnswer.{NullCountAnswer}
-use Rattle.table.specs.declared.answer.NullCountAnswer.TheVariants.{Nulls, NoColumn as NoNulls, Refused as NullsRefused}
+use Rattle.table.specs.declared.entry.EntryError.{EntryError}
+use Rattle.table.specs.declared.entry.EntryError.TheVariants.{NoColumn, NoRow, Refused}
 use Rattle.table.specs.declared.places.ColumnPlace.{ColumnPlace}
 use Rattle.table.specs.declared.places.Table.{Table as TablePlaces}
 use Rattle.table.specs.Column.{TableColumn, valid_in, null_count, offset_at, entry_at}
 use Rattle.table.specs.Reading.{Table, read_table}
-use Rattle.table.specs.Places.{column_in, table_answer}
+use Rattle.table.specs.Places.{column_in, table_from}
 
 -- ---- what a table has
 
@@ -54,7 +54,7 @@ value_in types.Boolean bytes p row = Boolean (bit_at (column_in bytes p).values 
 value_in types.Int32 bytes p row = Int32 (number_at 4 (column_in bytes p).values (4 * row))
 value_in types.Int64 bytes p row = Int64 (number_at 8 (column_in bytes p).values (8 * row))
 value_in types.Float64 bytes p row = float_value (number_at 8 (column_in bytes p).values (8 * row))
-value_in types.Utf8 bytes p row = text_between_value bytes p.values_start p.values_end (offset_at (column_in bytes p).offsets row) (offset_at (column_in bytes p).offsets (suc row))
+value_in types.Utf8 bytes p row = text_between_value bytes p.values.start p.values.end (offset_at (column_in bytes p).offsets row) (offset_at (column_in bytes p).offsets (suc row))
 
 -- the value of a row's entry, null where the validity says so
 unfoldable pub entry_value : List ℕ → ColumnPlace → ℕ → Value
@@ -63,52 +63,49 @@ entry_value bytes p row = cond (valid_in (column_in bytes p).validity row) (valu
 -- ---- the answer
 
 -- the answer about a row of so many at a column's place
-abbrev pub entry_of_place : List ℕ → Option ColumnPlace → ℕ → ℕ → EntryAnswer
-entry_of_place bytes none rows row = NoColumn
-entry_of_place bytes (some p) rows row = cond (ltb row rows) (AnEntry (entry_value bytes p row)) NoRow
+abbrev pub entry_of_place : List ℕ → Option ColumnPlace → ℕ → ℕ → RustResult Value EntryError
+entry_of_place bytes none rows row = Err NoColumn
+entry_of_place bytes (some p) rows row = cond (ltb row rows) (Ok (entry_value bytes p row)) (Err NoRow)
 
 -- the answer about a column and a row of a table at its places
-unfoldable pub entry_at_places : List ℕ → TablePlaces → ℕ → ℕ → EntryAnswer
+unfoldable pub entry_at_places : List ℕ → TablePlaces → ℕ → ℕ → RustResult Value EntryError
 entry_at_places bytes t column row = entry_of_place bytes (get_elem? (take t.count t.columns) column) t.rows row
 
 -- the answer by the reading of a table: its refusal, or that of its places
-abbrev pub entry_of_reading : List ℕ → Result Table → ℕ → ℕ → EntryAnswer
-entry_of_reading bytes (refused n) column row = Refused n
-entry_of_reading bytes (ok t) column row = entry_at_places bytes (table_answer (ok t)).table column row
+abbrev pub entry_of_reading : List ℕ → Result Table → ℕ → ℕ → RustResult Value EntryError
+entry_of_reading bytes (refused n) column row = Err (Refused (refusal_numbered n))
+entry_of_reading bytes (ok t) column row = entry_at_places bytes (table_from 5 t) column row
 
 -- the answer about a column and a row of a table's bytes
-unfoldable pub entry_of_bytes : List ℕ → ℕ → ℕ → EntryAnswer
+unfoldable pub entry_of_bytes : List ℕ → ℕ → ℕ → RustResult Value EntryError
 entry_of_bytes bytes = entry_of_reading bytes (read_table bytes)
 
 -- ---- the null count of a column (02, Change 3)
 
--- of so many rows; of no column it says so
-abbrev pub null_count_of_column : Option TableColumn → ℕ → NullCountAnswer
-null_count_of_column none rows = NoNulls
-null_count_of_column (some c) rows = Nulls (null_count c.validity rows)
+-- of so many rows; no column has none
+abbrev pub null_count_of_column : Option TableColumn → ℕ → RustOption ℕ
+null_count_of_column none rows = None
+null_count_of_column (some c) rows = Some (null_count c.validity rows)
 
 -- by the reading of a table: its refusal, or that of a column
-abbrev pub null_count_of : Result Table → ℕ → NullCountAnswer
-null_count_of (refused n) column = NullsRefused n
-null_count_of (ok t) column = null_count_of_column (get_elem? t.columns column) t.rows
+abbrev pub null_count_of : Result Table → ℕ → RustResult (RustOption ℕ) Refusal
+null_count_of (refused n) column = Err (refusal_numbered n)
+null_count_of (ok t) column = Ok (null_count_of_column (get_elem? t.columns column) t.rows)
 
 -- ---- what an answer means
 
 -- what an answer says: its value is read with the rule's and the table's bytes
-abbrev pub entry_answer : List ℕ → List ℕ → EntryAnswer → ColumnEntry
-entry_answer rule table (AnEntry v) = has (meaning rule table v)
-entry_answer rule table NoColumn = no_column
-entry_answer rule table NoRow = no_row
-entry_answer rule table (Refused n) = table_refused n
+abbrev pub entry_answer : List ℕ → List ℕ → RustResult Value EntryError → ColumnEntry
+entry_answer rule table (Ok v) = has (meaning rule table v)
+entry_answer rule table (Err NoColumn) = no_column
+entry_answer rule table (Err NoRow) = no_row
+entry_answer rule table (Err (Refused e)) = table_refused (number_of e)
 
 -- the value of an answer keeps whole in a kind and a payload
-abbrev pub StorableAnswer : EntryAnswer → Type 0
-StorableAnswer (AnEntry v) = Storable v
-StorableAnswer NoColumn = Unit {0}
-StorableAnswer NoRow = Unit {0}
-StorableAnswer (Refused n) = Unit {0}
+abbrev pub StorableAnswer : RustResult Value EntryError → Type 0
+StorableAnswer r = IfOk r Storable
 
 -- what an answer about an entry means: whatever the rule's bytes, it says what the table has there, and its value can be stored where the table is shorter than 2 ^ 32 bytes
-pub record EntryGives (bytes : List ℕ) (t : Result Table) (column row : ℕ) (r : EntryAnswer) : Type 0 where
+pub record EntryGives (bytes : List ℕ) (t : Result Table) (column row : ℕ) (r : RustResult Value EntryError) : Type 0 where
   pub says : (rule : List ℕ) → entry_answer rule bytes r ≡ entry_of_table t column row
   pub stores : length bytes < 2 ^ 32 → StorableAnswer r

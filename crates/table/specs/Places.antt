@@ -1,13 +1,13 @@
 -- Where the parts of a table stand, and what the places say: the columns that its bytes hold there.
-use Rattle.std.specs.Prelude.{◌≡◌, Bool, true, false, cond, List, [], ◌∷◌, ◌++◌, map, ℕ, zero, suc, ◌+◌, ◌-◌, ◌≤◌, ◌<◌, length, get_or, take, replicate}
+use Rattle.std.specs.Prelude.{◌≡◌, Bool, true, false, cond, List, [], ◌∷◌, ◌++◌, map, ℕ, ◌+◌, ◌-◌, ◌≤◌, ◌<◌, length, get_or, take, replicate, Result as RustResult, Ok, Err, IfOk}
 use Rattle.std.proofs.Math.Option.{Option, some, none}
 use Rattle.std.proofs.Math.ListN.{get_elem?}
-use Rattle.layout.specs.Result.{Result, refused, ok}
+use Rattle.layout.specs.declared.refusal.Refusal.{Refusal}
+use Rattle.layout.specs.Refusals.{number_of}
+use Rattle.layout.specs.Result.{Result, refused, ok, answered}
 use Rattle.layout.specs.Bytes.{part}
 use Rattle.table.specs.declared.places.ColumnPlace.{ColumnPlace}
 use Rattle.table.specs.declared.places.Table.{Table as TablePlaces}
-use Rattle.table.specs.declared.places.TableAnswer.{TableAnswer}
-use Rattle.table.specs.declared.places.PlaceAnswer.{PlaceAnswer}
 use Rattle.scalar.specs.declared.types.DataType.{DataType}
 use Rattle.scalar.specs.declared.types.DataType.TheVariants.{Boolean, Int32, Int64, Float64, Utf8}
 use Rattle.table.specs.Column.{TableColumn, null_count}
@@ -22,20 +22,20 @@ abbrev pub column_in : List ℕ → ColumnPlace → TableColumn
 column_in bytes p = record {
   type = p.data_type;
   nullable = p.nullable;
-  nulls = count_in bytes p.counted p.validity_start;
-  validity = part bytes p.validity_start p.validity_end;
-  offsets = part bytes p.offsets_start p.offsets_end;
-  values = part bytes p.values_start p.values_end;
+  nulls = count_in bytes p.counted p.validity.start;
+  validity = part bytes p.validity.start p.validity.end;
+  offsets = part bytes p.offsets.start p.offsets.end;
+  values = part bytes p.values.start p.values.end;
 }
 
 -- the table that bytes hold at the places
 abbrev pub table_in : List ℕ → TablePlaces → Table
 table_in bytes t = record { rows = t.rows; columns = map (column_in bytes) (take t.count t.columns) }
 
--- 0 is accepted, any other number a refusal
-abbrev pub reading_in : List ℕ → ℕ → TablePlaces → Result Table
-reading_in bytes zero t = ok (table_in bytes t)
-reading_in bytes (suc n) t = refused (suc n)
+-- what the answer of a reading says: its refusal's number, or the table that bytes hold at its places
+abbrev pub reading_in : List ℕ → RustResult TablePlaces Refusal → Result Table
+reading_in bytes (Err e) = refused (number_of e)
+reading_in bytes (Ok t) = ok (table_in bytes t)
 
 -- a place lies in the bytes
 pub record Inside (size start end : ℕ) : Type 0 where
@@ -44,9 +44,9 @@ pub record Inside (size start end : ℕ) : Type 0 where
 
 -- a column's places lie in the bytes
 pub record ColumnInside (size : ℕ) (p : ColumnPlace) : Type 0 where
-  pub validity : Inside size p.validity_start p.validity_end
-  pub offsets : Inside size p.offsets_start p.offsets_end
-  pub values : Inside size p.values_start p.values_end
+  pub validity : Inside size p.validity.start p.validity.end
+  pub offsets : Inside size p.offsets.start p.offsets.end
+  pub values : Inside size p.values.start p.values.end
 
 -- what is behind the last column of a struct of places
 abbrev pub no_place : ColumnPlace
@@ -55,12 +55,9 @@ no_place = record {
   nullable = false;
   counted = false;
   null_count = 0;
-  validity_start = 0;
-  validity_end = 0;
-  offsets_start = 0;
-  offsets_end = 0;
-  values_start = 0;
-  values_end = 0;
+  validity = record { start = 0; end = 0 };
+  offsets = record { start = 0; end = 0 };
+  values = record { start = 0; end = 0 };
 }
 
 -- ---- where the parts stand (01, Bytes of a table)
@@ -93,12 +90,9 @@ place_behind rows at c = record {
   nullable = c.nullable;
   counted = is_counted c.nulls;
   null_count = null_count c.validity rows;
-  validity_start = at;
-  validity_end = at + length c.validity;
-  offsets_start = offsets_start c.type (at + length c.validity);
-  offsets_end = offsets_end at c;
-  values_start = offsets_end at c + 3;
-  values_end = values_end at c;
+  validity = record { start = at; end = at + length c.validity };
+  offsets = record { start = offsets_start c.type (at + length c.validity); end = offsets_end at c };
+  values = record { start = offsets_end at c + 3; end = values_end at c };
 }
 
 -- how many bytes tag 6 takes
@@ -127,43 +121,49 @@ places_from rows at (c ∷ cs) = place_from rows at c ∷ places_from rows (colu
 abbrev pub places_in16 : List ColumnPlace → List ColumnPlace
 places_in16 places = places ++ replicate (16 - length places) no_place
 
--- the answer of a reading whose columns start at a place: where the parts stand, or the number and nothing else (01, Where a call stops)
-abbrev pub table_answer_from : ℕ → Result Table → TableAnswer
-table_answer_from at (refused n) = record { refused = n; table = record { rows = 0; count = 0; columns = replicate 16 no_place } }
-table_answer_from at (ok t) = record { refused = 0; table = record { rows = t.rows; count = length t.columns; columns = places_in16 (places_from t.rows at t.columns) } }
+-- where the parts of a table stand whose columns start at a place
+abbrev pub table_from : ℕ → Table → TablePlaces
+table_from at t = record { rows = t.rows; count = length t.columns; columns = places_in16 (places_from t.rows at t.columns) }
+
+-- the answer of a reading whose columns start at a place: where the parts stand, or the refusal and nothing else (01, Where a call stops)
+abbrev pub table_answer_from : ℕ → Result Table → RustResult TablePlaces Refusal
+table_answer_from at = answered (table_from at)
 
 -- the answer of the reading of a table: its columns start behind tag 1, which takes five bytes
-unfoldable pub table_answer : Result Table → TableAnswer
+unfoldable pub table_answer : Result Table → RustResult TablePlaces Refusal
 table_answer = table_answer_from 5
 
--- the answer of the reading of one column of so many rows that is the whole of the bytes: where its parts stand, or the number and nothing else
-unfoldable pub alone_answer : ℕ → Result TableColumn → PlaceAnswer
-alone_answer rows (refused n) = record { refused = n; place = no_place }
-alone_answer rows (ok c) = record { refused = 0; place = place_from rows 0 c }
+-- the answer of the reading of one column of so many rows that is the whole of the bytes: where its parts stand, or the refusal and nothing else
+unfoldable pub alone_answer : ℕ → Result TableColumn → RustResult ColumnPlace Refusal
+alone_answer rows = answered (place_from rows 0)
 
 -- the count that a column's place holds is the number of nulls among so many rows (02, Change 3: every holder keeps it equal to the bits)
 abbrev pub CountKept : List ℕ → ℕ → ColumnPlace → Type 0
 CountKept bytes rows p = p.null_count ≡ null_count (column_in bytes p).validity rows
 
+-- the places of a table lie in its bytes and hold the counts of their nulls
+pub record TableInside (bytes : List ℕ) (t : TablePlaces) : Type 0 where
+  pub few : t.count ≤ 16
+  pub inside : (i : ℕ) → i < t.count → ColumnInside (length bytes) (get_or t.columns i no_place)
+  pub counts : (i : ℕ) → i < t.count → CountKept bytes t.rows (get_or t.columns i no_place)
+
 -- what the answer of a table's reading means: it says what the definition reads, and where it is accepted, its places lie in the bytes and
 -- hold the counts of their nulls
-pub record TableRead (bytes : List ℕ) (r : TableAnswer) : Type 0 where
-  pub says : reading_in bytes r.refused r.table ≡ read_table bytes
-  pub few : r.table.count ≤ 16
-  pub inside : r.refused ≡ 0 → (i : ℕ) → i < r.table.count → ColumnInside (length bytes) (get_or r.table.columns i no_place)
-  pub counts : r.refused ≡ 0 → (i : ℕ) → i < r.table.count → CountKept bytes r.table.rows (get_or r.table.columns i no_place)
+pub record TableRead (bytes : List ℕ) (r : RustResult TablePlaces Refusal) : Type 0 where
+  pub says : reading_in bytes r ≡ read_table bytes
+  pub places : IfOk r (TableInside bytes)
 
--- 0 is a column, any other number a refusal
-abbrev pub place_in : List ℕ → ℕ → ColumnPlace → Result TableColumn
-place_in bytes zero p = ok (column_in bytes p)
-place_in bytes (suc n) p = refused (suc n)
+-- what the answer of one column's reading says: its refusal's number, or the column that bytes hold at its place
+abbrev pub place_in : List ℕ → RustResult ColumnPlace Refusal → Result TableColumn
+place_in bytes (Err e) = refused (number_of e)
+place_in bytes (Ok p) = ok (column_in bytes p)
 
 -- what the answer of one column's reading means: it says what the definition reads, and where there is one, its places lie in the bytes and
 -- hold the count of its nulls
-pub record AloneRead (bytes : List ℕ) (rows : ℕ) (r : PlaceAnswer) : Type 0 where
-  pub says : place_in bytes r.refused r.place ≡ read_alone rows bytes
-  pub inside : r.refused ≡ 0 → ColumnInside (length bytes) r.place
-  pub counts : r.refused ≡ 0 → CountKept bytes rows r.place
+pub record AloneRead (bytes : List ℕ) (rows : ℕ) (r : RustResult ColumnPlace Refusal) : Type 0 where
+  pub says : place_in bytes r ≡ read_alone rows bytes
+  pub inside : IfOk r (ColumnInside (length bytes))
+  pub counts : IfOk r (CountKept bytes rows)
 
 -- a part of a column, of no column empty
 abbrev pub part_of_column : (TableColumn → List ℕ) → Option TableColumn → List ℕ

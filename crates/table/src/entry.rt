@@ -3,16 +3,33 @@ ghost use Rattle.std.specs.Prelude.{◌≡◌, ◌*◌};
 ghost use Rattle.layout.specs.Bytes.{number_at};
 ghost use Rattle.scalar.specs.declared.types.DataType.TheVariants.{Utf8};
 ghost use Rattle.table.specs.Column.{valid_in};
+ghost use Rattle.table.specs.declared.entry.EntryError.TheVariants.{Refused};
 ghost use Rattle.table.specs.Answers.{text_between_value, value_in, entry_value, entry_at_places, entry_of_bytes};
 
-use crate::answer::EntryAnswer;
 use crate::places::{ColumnPlace, Table};
 use crate::read::read;
 use layout::bits::bit_at;
 use layout::number::{read_u32, read_u64};
 use layout::part::part_of;
+use layout::refusal::Refusal;
 use scalar::types::DataType;
 use scalar::value::{Value, float_value};
+
+// Why a table has no entry: no such column, no such row, or the table itself is refused.
+#[derive(Clone, Copy, Debug, PartialEq, Eq)]
+pub enum EntryError {
+    NoColumn,
+    NoRow,
+    Refused(Refusal),
+}
+
+impl From<Refusal> for EntryError {
+    ghost from_gives = { λ r e. e ≡ Refused r };
+
+    fn from(refusal: Refusal) -> EntryError {
+        EntryError::Refused(refusal)
+    }
+}
 
 // Whether a row has a value: length 0 means no null.
 pub fn valid_at(validity: &[u8], row: usize) -> bool
@@ -60,20 +77,20 @@ pub fn text_between(bytes: &[u8], start: usize, end: usize, from: usize, to: usi
 fn text_at(bytes: &[u8], place: ColumnPlace, row: usize) -> Value
     ensures { result ≡ value_in Utf8 bytes.now place row }
 {
-    let offsets = part_of(bytes, place.offsets_start, place.offsets_end);
+    let offsets = part_of(bytes, place.offsets.start, place.offsets.end);
     if offsets.len() >> 2 < row {
         return Value::TableText(0, 0);
     }
     let from = row_u32(offsets, row) as usize;
     let to = row_u32(offsets, row + 1) as usize;
-    text_between(bytes, place.values_start, place.values_end, from, to)
+    text_between(bytes, place.values.start, place.values.end, from, to)
 }
 
 // The value of a row, whatever its validity.
 fn value_at(bytes: &[u8], place: ColumnPlace, row: usize) -> Value
     ensures { result ≡ value_in place.data_type bytes.now place row }
 {
-    let values = part_of(bytes, place.values_start, place.values_end);
+    let values = part_of(bytes, place.values.start, place.values.end);
     let kind = place.data_type;
     match kind {
         DataType::Boolean => Value::Boolean(bit_at(values, row)),
@@ -88,7 +105,7 @@ fn value_at(bytes: &[u8], place: ColumnPlace, row: usize) -> Value
 pub fn entry_in(bytes: &[u8], place: ColumnPlace, row: usize) -> Value
     ensures { result ≡ entry_value bytes.now place row }
 {
-    let validity = part_of(bytes, place.validity_start, place.validity_end);
+    let validity = part_of(bytes, place.validity.start, place.validity.end);
     if valid_at(validity, row) {
         value_at(bytes, place, row)
     } else {
@@ -97,30 +114,25 @@ pub fn entry_in(bytes: &[u8], place: ColumnPlace, row: usize) -> Value
 }
 
 // The entry of a column at a row of the table at the places, whether or not they lie in the bytes.
-pub fn entry_at(bytes: &[u8], t: Table, column: usize, row: usize) -> EntryAnswer
+pub fn entry_at(bytes: &[u8], t: Table, column: usize, row: usize) -> Result<Value, EntryError>
     ensures { result ≡ entry_at_places bytes.now t column row }
 {
     if t.count <= column {
-        return EntryAnswer::NoColumn;
+        return Err(EntryError::NoColumn);
     }
     if 16 <= column {
-        return EntryAnswer::NoColumn;
+        return Err(EntryError::NoColumn);
     }
     if t.rows <= row {
-        return EntryAnswer::NoRow;
+        return Err(EntryError::NoRow);
     }
-    let place = t.columns[column];
-    EntryAnswer::Entry(entry_in(bytes, place, row))
+    Ok(entry_in(bytes, t.columns[column], row))
 }
 
 // The entry of a column at a row of a table.
-pub fn entry(bytes: &[u8], column: usize, row: usize) -> EntryAnswer
+pub fn entry(bytes: &[u8], column: usize, row: usize) -> Result<Value, EntryError>
     ensures { result ≡ entry_of_bytes bytes.now column row }
 {
-    let answer = read(bytes);
-    if answer.refused != 0 {
-        return EntryAnswer::Refused(answer.refused);
-    }
-    let t = answer.table;
+    let t = read(bytes)?;
     entry_at(bytes, t, column, row)
 }

@@ -2,7 +2,6 @@
 #![tactic(auto)]
 
 pub mod alone;
-pub mod answer;
 pub mod column;
 pub mod entry;
 pub mod nulls;

@@ -5,17 +5,17 @@ ghost use Rattle.table.specs.Answers.{null_count_of};
 ghost use Rattle.table.specs.Column.{null_count};
 ghost use Rattle.table.specs.Reading.{count_says, read_table};
 
-use crate::answer::NullCountAnswer;
 use crate::read::read;
 use crate::slices::null_count_in;
 use layout::bits::set_bits;
 use layout::number::read_u16;
+use layout::refusal::Refusal;
 
 // How many of the first rows are null: length 0 means none.
 pub fn null_count(validity: &[u8], rows: usize) -> usize
     ensures { (result ≡ null_count validity.now rows) × (result ≤ rows) }
 {
-    if validity.len() == 0 {
+    if validity.is_empty() {
         return 0;
     }
     rows - set_bits(validity, rows)
@@ -31,17 +31,13 @@ pub(crate) fn count_says(content: &[u8], n: usize) -> bool
     read_u16(content, 0) as usize == n
 }
 
-// How many rows of a column of a table are null.
-pub fn column_null_count(bytes: &[u8], column: usize) -> NullCountAnswer
+// How many rows of a column of a table are null; of no column none says.
+pub fn column_null_count(bytes: &[u8], column: usize) -> Result<Option<usize>, Refusal>
     ensures { result ≡ null_count_of (read_table bytes.now) column }
 {
-    let answer = read(bytes);
-    if answer.refused != 0 {
-        return NullCountAnswer::Refused(answer.refused);
-    }
-    let t = answer.table;
+    let t = read(bytes)?;
     if t.count <= column {
-        return NullCountAnswer::NoColumn;
+        return Ok(None);
     }
-    NullCountAnswer::Nulls(null_count_in(t, column))
+    Ok(Some(null_count_in(t, column)))
 }

@@ -1,41 +1,32 @@
 // Reading a table: tag 1, the row count, then the columns.
 ghost use Rattle.std.specs.Prelude.{◌≡◌, ◌≤◌, length, drop};
-ghost use Rattle.layout.specs.Result.{refused};
 ghost use Rattle.table.specs.Reading.{read_table};
 ghost use Rattle.table.specs.Places.{table_answer_from, table_answer};
 ghost use Rattle.table.specs.Parts.{one_more, columns_step};
 
 use crate::column::{column_at, no_place};
-use crate::part::{PartAnswer, tagged_pair};
-use crate::places::{Table, TableAnswer};
+use crate::part::tagged_pair;
+use crate::places::Table;
 use layout::number::read_u16;
+use layout::refusal::Refusal;
 
-// A table that is refused.
-fn refuse_table(n: u8) -> TableAnswer
-    ensures { result ≡ table_answer (refused n) }
-{
-    TableAnswer {
-        refused: n,
-        table: Table {
-            rows: 0,
-            count: 0,
-            columns: [no_place(); 16],
-        },
-    }
-}
+// Most bytes of a table, its rows and its columns.
+const BYTES_MOST: usize = 65536;
+
+pub(crate) const ROWS_MOST: usize = 512;
+
+const COLUMNS_MOST: usize = 16;
 
 // Bytes behind the last column that a table may have: 10 if a column starts there, else 9.
-fn one_more(bytes: &[u8], at: usize) -> TableAnswer
+fn one_more(bytes: &[u8], at: usize) -> Result<Table, Refusal>
     ensures { result ≡ table_answer (one_more (drop at bytes.now)) }
 {
-    match tagged_pair(bytes, at, 2) {
-        PartAnswer::Refused(n) => refuse_table(n),
-        PartAnswer::At(_, _) => refuse_table(10),
-    }
+    tagged_pair(bytes, at, 2)?;
+    Err(Refusal::TableSize)
 }
 
 // The columns from a place to the end of the bytes, at most 16.
-fn columns_from(bytes: &[u8], first: usize, rows: usize) -> TableAnswer
+fn columns_from(bytes: &[u8], first: usize, rows: usize) -> Result<Table, Refusal>
     requires { (rows ≤ 512) × (first ≤ length bytes.now) }
     ensures { result ≡ table_answer_from first (columns_step rows (drop first bytes.now)) }
 {
@@ -43,46 +34,35 @@ fn columns_from(bytes: &[u8], first: usize, rows: usize) -> TableAnswer
     let mut count = 0;
     let mut at = first;
     while at < bytes.len() {
-        if count == 16 {
+        if count == COLUMNS_MOST {
             return one_more(bytes, at);
         }
-        let c = column_at(bytes, at, rows);
-        if c.refused != 0 {
-            return refuse_table(c.refused);
-        }
-        let place = c.place;
-        columns[count] = place;
+        let column = column_at(bytes, at, rows)?;
+        columns[count] = column.place;
         count += 1;
-        at = c.next;
+        at = column.next;
     }
-    TableAnswer {
-        refused: 0,
-        table: Table {
-            rows,
-            count,
-            columns,
-        },
-    }
+    Ok(Table {
+        rows,
+        count,
+        columns,
+    })
 }
 
-// Where the parts of a table stand, or the number with which it is refused.
-pub fn read(bytes: &[u8]) -> TableAnswer
+// Where the parts of a table stand, or the refusal of it.
+pub fn read(bytes: &[u8]) -> Result<Table, Refusal>
     ensures { result ≡ table_answer (read_table bytes.now) }
 {
-    if bytes.len() == 0 {
-        return refuse_table(9);
+    if bytes.is_empty() {
+        return Err(Refusal::TableFields);
     }
-    if 65536 < bytes.len() {
-        return refuse_table(9);
+    if BYTES_MOST < bytes.len() {
+        return Err(Refusal::TableFields);
     }
-    match tagged_pair(bytes, 0, 1) {
-        PartAnswer::Refused(n) => refuse_table(n),
-        PartAnswer::At(begin, end) => {
-            let rows = read_u16(&bytes[begin..end], 0) as usize;
-            if 512 < rows {
-                return refuse_table(10);
-            }
-            columns_from(bytes, end, rows)
-        },
+    let first = tagged_pair(bytes, 0, 1)?;
+    let rows = read_u16(&bytes[first.start..first.end], 0) as usize;
+    if ROWS_MOST < rows {
+        return Err(Refusal::TableSize);
     }
+    columns_from(bytes, first.end, rows)
 }

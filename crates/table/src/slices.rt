@@ -25,7 +25,7 @@ pub fn validity(bytes: &[u8], t: Table, column: usize) -> &[u8]
     ensures { result.now ≡ part_in (λ c. c.validity) bytes.now t column }
 {
     let place = place_of(t, column);
-    part_of(bytes, place.validity_start, place.validity_end)
+    part_of(bytes, place.validity.start, place.validity.end)
 }
 
 // The offsets of a column; empty where there is no such column or it isn't of text.
@@ -33,7 +33,7 @@ pub fn offsets(bytes: &[u8], t: Table, column: usize) -> &[u8]
     ensures { result.now ≡ part_in (λ c. c.offsets) bytes.now t column }
 {
     let place = place_of(t, column);
-    part_of(bytes, place.offsets_start, place.offsets_end)
+    part_of(bytes, place.offsets.start, place.offsets.end)
 }
 
 // The values of a column; empty where there is no such column.
@@ -41,7 +41,7 @@ pub fn values(bytes: &[u8], t: Table, column: usize) -> &[u8]
     ensures { result.now ≡ part_in (λ c. c.values) bytes.now t column }
 {
     let place = place_of(t, column);
-    part_of(bytes, place.values_start, place.values_end)
+    part_of(bytes, place.values.start, place.values.end)
 }
 
 // How many rows of a column are null; 0 where there is no such column.

@@ -1,23 +1,24 @@
--- One column: the test of its rows, its parts, its null count, and that nothing is behind it.
+-- One column alone: its rows, its parts, its null count and what stands behind it.
 use mathlib.Core.Path.{sym, ◌∙◌}
-use Rattle.table.proofs.AloneLaws.{alone_rows, alone_cut, alone_miscounted, alone_over, alone_whole}
+use Rattle.std.proofs.lemmas.Result.{err_from_is_err_and}
 use Rattle.table.proofs.ColumnLaws.{column_room}
+use Rattle.table.proofs.AloneLaws.{alone_rows, alone_cut, alone_miscounted, alone_over, alone_whole}
 use Rattle.table.proofs.alone.read_alone.Goals as goal
 
-pub returns-then-rows-gt512 : goal.returns-then-rows-gt512
-returns-then-rows-gt512 c = alone_rows c.args.bytes.now c.args.rows c.refuse_place.result c.if-rows-gt512.true c.refuse_place.ensures
+pub returns-then-rows-gt-ROWS_MOST : goal.returns-then-rows-gt-ROWS_MOST
+returns-then-rows-gt-ROWS_MOST c = alone_rows c.args.bytes.now c.args.rows c.if-rows-gt-ROWS_MOST.true
 
-pub returns-then-c-ne0 : goal.returns-then-c-ne0
-returns-then-c-ne0 c = alone_cut c.args.bytes.now c.args.rows c.if-rows-gt512.false c.column_parts-c.result c.column_parts-c.ensures c.refuse_place-then-c-ne0.result c.if-c-ne0.true c.refuse_place-then-c-ne0.ensures
+pub returns-in_err-column : goal.returns-in_err-column
+returns-in_err-column c = let p = err_from_is_err_and c.from_residual.result c.from_residual.ensures.1 in rw (p.1, p.2) (alone_cut c.args.bytes.now c.args.rows c.if-rows-gt-ROWS_MOST.false c.in_err-column.ensures)
 
 pub count_right-requires : goal.count_right-requires
-count_right-requires c = column_room c.args.bytes.now 0 c.args.rows c.column_parts-c.result c.column_parts-c.ensures c.if-c-ne0.false
+count_right-requires c = column_room c.args.bytes.now 0 c.args.rows c.in_ok-column.ensures
 
 pub returns-then-not-count_right : goal.returns-then-not-count_right
-returns-then-not-count_right c = alone_miscounted c.args.bytes.now c.args.rows c.if-rows-gt512.false c.column_parts-c.result c.column_parts-c.ensures c.if-c-ne0.false c.refuse_place-then-not-count_right.result (sym c.count_right.ensures ∙ c.if-not-count_right.true) c.refuse_place-then-not-count_right.ensures
+returns-then-not-count_right c = alone_miscounted c.args.bytes.now c.args.rows c.if-rows-gt-ROWS_MOST.false c.in_ok-column.ensures (sym c.count_right.ensures ∙ c.if-not-count_right.true)
 
-pub returns-then-c-bytes : goal.returns-then-c-bytes
-returns-then-c-bytes c = alone_over c.args.bytes.now c.args.rows c.if-rows-gt512.false c.column_parts-c.result c.column_parts-c.ensures c.if-c-ne0.false (sym c.count_right.ensures ∙ c.if-not-count_right.false) c.refuse_place-then-c-bytes.result c.if-c-bytes.true c.refuse_place-then-c-bytes.ensures
+pub returns-then-column-bytes : goal.returns-then-column-bytes
+returns-then-column-bytes c = alone_over c.args.bytes.now c.args.rows c.if-rows-gt-ROWS_MOST.false c.in_ok-column.ensures (sym c.count_right.ensures ∙ c.if-not-count_right.false) c.if-column-bytes.true
 
 pub returns : goal.returns
-returns c = alone_whole c.args.bytes.now c.args.rows c.if-rows-gt512.false c.column_parts-c.result c.column_parts-c.ensures c.if-c-ne0.false (sym c.count_right.ensures ∙ c.if-not-count_right.false) c.if-c-bytes.false
+returns c = alone_whole c.args.bytes.now c.args.rows c.if-rows-gt-ROWS_MOST.false c.in_ok-column.ensures (sym c.count_right.ensures ∙ c.if-not-count_right.false) c.if-column-bytes.false

@@ -1,17 +1,16 @@
 -- A column, with its nulls and its null count looked at.
-use mathlib.Core.Path.{ap₂, ◌∙◌}
-use Rattle.table.specs.Parts.{end_number}
+use Rattle.std.proofs.lemmas.Result.{err_from_is_err_and}
 use Rattle.table.proofs.ColumnLaws.{column_room, column_left, column_ends, column_right}
 use Rattle.table.proofs.column.column_at.Goals as goal
 
-pub returns-then-c-ne0 : goal.returns-then-c-ne0
-returns-then-c-ne0 c = column_left c.args.bytes.now c.args.at c.args.rows c.column_parts-c.result c.column_parts-c.ensures c.if-c-ne0.true
+pub returns-in_err-column : goal.returns-in_err-column
+returns-in_err-column c = let p = err_from_is_err_and c.from_residual.result c.from_residual.ensures.1 in rw (p.1, p.2) (column_left c.args.bytes.now c.args.at c.args.rows c.in_err-column.ensures)
 
 pub count_right-requires : goal.count_right-requires
-count_right-requires c = column_room c.args.bytes.now c.args.at c.args.rows c.column_parts-c.result c.column_parts-c.ensures c.if-c-ne0.false
+count_right-requires c = column_room c.args.bytes.now c.args.at c.args.rows c.in_ok-column.ensures
 
-pub returns-then-n-ne0 : goal.returns-then-n-ne0
-returns-then-n-ne0 c = column_ends c.args.bytes.now c.args.at c.args.rows c.column_parts-c.result c.column_parts-c.ensures c.if-c-ne0.false c.end_number-n.result (c.end_number-n.ensures ∙ ap₂ end_number c.nulls_fit.ensures c.count_right.ensures) c.refuse.result c.if-n-ne0.true c.refuse.ensures
+pub returns-in_err-ended : goal.returns-in_err-ended
+returns-in_err-ended c = let p = err_from_is_err_and c.from_residual-in_err-ended.result c.from_residual-in_err-ended.ensures.1 in rw (p.1, p.2) (column_ends c.args.bytes.now c.args.at c.args.rows c.in_ok-column.ensures c.nulls_fit.result c.count_right.result c.nulls_fit.ensures c.count_right.ensures c.in_err-ended.ensures)
 
 pub returns : goal.returns
-returns c = column_right c.args.bytes.now c.args.at c.args.rows c.column_parts-c.result c.column_parts-c.ensures c.if-c-ne0.false c.end_number-n.result (c.end_number-n.ensures ∙ ap₂ end_number c.nulls_fit.ensures c.count_right.ensures) c.if-n-ne0.false
+returns c = column_right c.args.bytes.now c.args.at c.args.rows c.in_ok-column.ensures c.nulls_fit.result c.count_right.result c.nulls_fit.ensures c.count_right.ensures c.in_ok-ended.ensures

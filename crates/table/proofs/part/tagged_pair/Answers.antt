@@ -1,12 +1,13 @@
 -- The field of a tag that has two bytes, else 9.
+use Rattle.std.proofs.lemmas.Result.{err_from_is_err_and}
 use Rattle.table.proofs.PartsLaws.{pair_refused, pair_two, pair_other}
 use Rattle.table.proofs.part.tagged_pair.Goals as goal
 
-pub returns-in-Refused : goal.returns-in-Refused
-returns-in-Refused c = pair_refused c.args.bytes.now c.args.at c.args.tag c.tagged_field.result c.tagged_field.ensures c.in-Refused.n c.in-Refused.is
+pub returns-in_err-pair : goal.returns-in_err-pair
+returns-in_err-pair c = let p = err_from_is_err_and c.from_residual.result c.from_residual.ensures.1 in rw (p.1, p.2) (pair_refused c.args.at c.in_err-pair.ensures)
 
-pub returns-then-end-begin-eq2 : goal.returns-then-end-begin-eq2
-returns-then-end-begin-eq2 c = pair_two c.args.bytes.now c.args.at c.args.tag c.tagged_field.result c.tagged_field.ensures c.in-At.begin c.in-At.end c.in-At.is c.if-end-begin-eq2.true
+pub returns-then-pair-ne2 : goal.returns-then-pair-ne2
+returns-then-pair-ne2 c = pair_other c.args.at c.in_ok-pair.ensures c.if-pair-ne2.true
 
-pub returns-else-end-begin-eq2 : goal.returns-else-end-begin-eq2
-returns-else-end-begin-eq2 c = pair_other c.args.bytes.now c.args.at c.args.tag c.tagged_field.result c.tagged_field.ensures c.in-At.begin c.in-At.end c.in-At.is c.if-end-begin-eq2.false
+pub returns : goal.returns
+returns c = pair_two c.args.at c.in_ok-pair.ensures c.if-pair-ne2.false

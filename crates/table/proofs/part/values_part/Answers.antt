@@ -1,12 +1,13 @@
 -- Tag 4, by its length.
+use Rattle.std.proofs.lemmas.Result.{err_from_is_err_and}
 use Rattle.table.proofs.PartsLaws.{values_refused, values_taken, values_other}
 use Rattle.table.proofs.part.values_part.Goals as goal
 
-pub returns-in-Refused : goal.returns-in-Refused
-returns-in-Refused c = values_refused c.args.bytes.now c.args.at c.args.size c.tagged_field.result c.tagged_field.ensures c.in-Refused.n c.in-Refused.is
+pub returns-in_err-values : goal.returns-in_err-values
+returns-in_err-values c = let p = err_from_is_err_and c.from_residual.result c.from_residual.ensures.1 in rw (p.1, p.2) (values_refused c.args.at c.args.size c.in_err-values.ensures)
 
-pub returns-then-end-begin : goal.returns-then-end-begin
-returns-then-end-begin c = values_taken c.args.bytes.now c.args.at c.args.size c.tagged_field.result c.tagged_field.ensures c.in-At.begin c.in-At.end c.in-At.is c.if-end-begin.true
+pub returns-then-values-size : goal.returns-then-values-size
+returns-then-values-size c = values_other c.args.at c.args.size c.in_ok-values.ensures c.if-values-size.true
 
-pub returns-else-end-begin : goal.returns-else-end-begin
-returns-else-end-begin c = values_other c.args.bytes.now c.args.at c.args.size c.tagged_field.result c.tagged_field.ensures c.in-At.begin c.in-At.end c.in-At.is c.if-end-begin.false
+pub returns : goal.returns
+returns c = values_taken c.args.at c.args.size c.in_ok-values.ensures c.if-values-size.false
