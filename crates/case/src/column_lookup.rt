@@ -18,7 +18,6 @@ use crate::rows::row_at;
 use crate::slot::word;
 use layout::number::byte_at;
 use layout::part::part_of;
-use rule::types::type_number;
 use rule::walk::field_end;
 use table::entry::{row_u32, valid_at};
 use table::places::{ColumnPlace, Table};
@@ -249,14 +248,14 @@ fn number_column(
     let kind = place.data_type;
     let mut numbers = [0u64; 32];
     let mut hints = [0u8; 256];
-    let code = type_number(kind);
+    let code = kind.number();
     if !read_numbers(kinds, keys, size, code, &mut numbers, &mut hints) {
         return false;
     }
-    let entries = part_of(table, place.values_start, place.values_end);
+    let entries = part_of(table, place.values.start, place.values.end);
     let mut column = [0u64; 512];
     column_keys(kind, entries, rows, &mut column);
-    let validity = part_of(table, place.validity_start, place.validity_end);
+    let validity = part_of(table, place.validity.start, place.validity.end);
     keyed_rows(
         validity, &column, &numbers, indices, &hints, size, otherwise, work, n, values,
     );
@@ -286,9 +285,9 @@ fn text_column(
     let mut sizes = [0u8; 32];
     let mut marks = [0u64; 32];
     read_marks(rule, kinds, keys, size, &mut sizes, &mut marks);
-    let validity = part_of(table, place.validity_start, place.validity_end);
-    let offsets = part_of(table, place.offsets_start, place.offsets_end);
-    let texts = part_of(table, place.values_start, place.values_end);
+    let validity = part_of(table, place.validity.start, place.validity.end);
+    let offsets = part_of(table, place.offsets.start, place.offsets.end);
+    let texts = part_of(table, place.values.start, place.values.end);
     text_rows(
         rule, table, validity, offsets, texts, kinds, keys, indices, &hints, &sizes, &marks, size,
         otherwise, work, n, values,
@@ -332,7 +331,7 @@ fn base_values(
         &mut indices,
     );
     let kind = place.data_type;
-    if type_number(kind) == 5 {
+    if kind.number() == 5 {
         text_column(
             rule, table, place, &kinds, &keys, &indices, size, otherwise, work, n, values,
         );

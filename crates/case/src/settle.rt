@@ -35,7 +35,7 @@ pub(crate) fn open_builder(rows: usize) -> ResultBuilder
     requires { rows ≤ 512 }
     ensures { ((w : List ℕ) (left : ℕ) → Rows w 5632 left rows → Open result w left rows) × ((q : ℕ) → held_by result q ≡ none) }
 {
-    ResultBuilder::new(rows).builder
+    ResultBuilder::new(rows).unwrap()
 }
 
 // The index with which each row is held, 0 where it is not.
@@ -183,15 +183,14 @@ fn fill_codes(rule: &[u8], table: &[u8], work: &[u8], left: usize, how: Leave, c
     }
 }
 
-// The builder with the indices of rows that it does not hold.
-fn add_part(b: ResultBuilder, rows: &[u16], values: &[u16]) -> ResultBuilder
-    requires { PartAsks b rows.now values.now }
-    ensures { PartGives b rows.now values.now result }
+// Gives the builder the indices of rows that it does not hold.
+fn add_part(b: &mut ResultBuilder, rows: &[u16], values: &[u16])
+    requires { PartAsks b.old rows.now values.now }
+    ensures { PartGives b.old rows.now values.now b.new }
 {
-    if rows.len() == 0 {
-        return b;
+    if !rows.is_empty() {
+        b.add_branch_result(rows, values).unwrap();
     }
-    b.add_branch_result(rows, values).builder
 }
 
 // The rows of the open list that leave are held with their indices, the others stay in it.
@@ -204,7 +203,8 @@ fn settle_rows<L: Leaving>(work: &mut [u8], left: usize, leaving: &L, b: ResultB
     let mut rows = [0u16; 512];
     let mut values = [0u16; 512];
     let m = split(work, left, leaving, &mut rows, &mut values);
-    let builder = add_part(b, &rows[..m], &values[..m]);
+    let mut builder = b;
+    add_part(&mut builder, &rows[..m], &values[..m]);
     Settled {
         left: left - m,
         builder,

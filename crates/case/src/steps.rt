@@ -11,7 +11,6 @@ use crate::rows::row_at;
 use layout::number::byte_at;
 use layout::part::part_of;
 use rule::literal::literal_value;
-use rule::types::type_number;
 use rule::walk::{children_at, field_end};
 use scalar::order::{Key, key_of};
 use table::entry::valid_at;
@@ -301,8 +300,8 @@ fn index_column(
     requires indices_len { length indices.old ≡ 512 }
     ensures { RowsIndexed (RowIndex place.data_type (column_in table.now place).values (column_in table.now place).validity tags.now keys.now count) work.now at n indices.new }
 {
-    let values = part_of(table, place.values_start, place.values_end);
-    let validity = part_of(table, place.validity_start, place.validity_end);
+    let values = part_of(table, place.values.start, place.values.end);
+    let validity = part_of(table, place.validity.start, place.validity.end);
     let mut numbers = [0u64; 512];
     let kind = place.data_type;
     column_keys(kind, values, 512, &mut numbers);
@@ -334,7 +333,7 @@ fn column_steps(
         return false;
     }
     let kind = place.data_type;
-    let code = type_number(kind);
+    let code = kind.number();
     if 4 < code {
         return false;
     }
@@ -393,7 +392,7 @@ fn column_step(
     ensures { StepRows s table.now place work.now at n result indices.new }
 {
     let kind = place.data_type;
-    let code = type_number(kind);
+    let code = kind.number();
     if 4 < code {
         return false;
     }
