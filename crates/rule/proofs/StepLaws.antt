@@ -1,5 +1,5 @@
 -- Steps of the reading beside their definitions. Assumes nothing.
-use Rattle.std.specs.Prelude.{Option, Some, None, ok_or, IsErrAnd, Result as RustResult, Ok, Err}
+use Rattle.std.specs.Prelude.{Option, None, ok_or, IsErrAnd, Result as RustResult, Ok, Err}
 use Rattle.std.proofs.lemmas.Result.{err_from_is_err_and}
 use mathlib.Core.Path.{◌≡◌, refl, ap, sym, subst, ◌∙◌}
 use mathlib.Core.Bool.{Bool, true, false, cond}
@@ -20,7 +20,6 @@ use Rattle.rule.specs.Tree.{Expr, is_null_literal}
 use Rattle.rule.specs.Typing.{type_of, node_typed}
 use Rattle.rule.specs.Constant.{is_empty}
 use Rattle.rule.specs.Reading.{Read, close_node}
-use Rattle.rule.specs.Seen.{Marked}
 use Rattle.rule.specs.Steps.{closed, Gives, Behind, ReadGives}
 
 ok_not_err : {A : Type 0} {e : Refusal} {x : A} → Ok x ≡ Err e → ⊥

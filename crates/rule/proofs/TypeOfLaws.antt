@@ -106,13 +106,14 @@ pub type_another : (rule : List ℕ) (at tag : ℕ) {t : DataType} {next r : ℕ
     → type_at rule r ≡ t
 type_another rule at tag same is source told = ap (type_at rule) told ∙ sym (ap (type_by (type_at rule)) source) ∙ sym (type_tagged rule at is) ∙ same
 
-abbrev NoType : ℕ → Type 0
-NoType tag = (((((Unit {0} × (tag ≡ 16 → ⊥)) × (tag ≡ 17 → ⊥)) × (tag ≡ 19 → ⊥)) × (tag ≡ 21 → ⊥)) × (tag ≡ 22 → ⊥)) × (tag ≡ 25 → ⊥)
-
-pub type_boolean : (rule : List ℕ) (at : ℕ) {t : DataType} {tag : ℕ} → type_at rule at ≡ t → byte rule at ≡ tag → NoType tag → Boolean ≡ t
-type_boolean rule at {tag = tag} same is ((((((u, a), b), c), d), e), f) =
-    let none : source_by tag rule at ≡ itself Boolean = rw (ne_eqb tag 16 a, ne_eqb tag 17 b, ne_eqb tag 19 c, ne_eqb tag 21 d, ne_eqb tag 22 e, ne_eqb tag 25 f) in
-    sym (type_tagged rule at is ∙ ap (type_by (type_at rule)) none) ∙ same
+pub type_boolean : (rule : List ℕ) (at : ℕ) {t : DataType} → type_at rule at ≡ t → (byte rule at ≡ 16 → ⊥) → (byte rule at ≡ 17 → ⊥) → (byte rule at ≡ 19 → ⊥)
+    → (byte rule at ≡ 21 → ⊥) → (byte rule at ≡ 22 → ⊥) → (byte rule at ≡ 25 → ⊥) → Boolean ≡ t
+type_boolean rule at {t} same = go (byte rule at) refl
+  where
+    go : (tag : ℕ) → byte rule at ≡ tag → (tag ≡ 16 → ⊥) → (tag ≡ 17 → ⊥) → (tag ≡ 19 → ⊥) → (tag ≡ 21 → ⊥) → (tag ≡ 22 → ⊥) → (tag ≡ 25 → ⊥) → Boolean ≡ t
+    go tag is a b c d e f =
+        let none : source_by tag rule at ≡ itself Boolean = rw (ne_eqb tag 16 a, ne_eqb tag 17 b, ne_eqb tag 19 c, ne_eqb tag 21 d, ne_eqb tag 22 e, ne_eqb tag 25 f) in
+        sym (type_tagged rule at is ∙ ap (type_by (type_at rule)) none) ∙ same
 
 -- and behind the rule's end
 pub type_behind : (rule : List ℕ) {at : ℕ} {t : DataType} → type_at rule at ≡ t → length rule ≤ at → Boolean ≡ t

@@ -3,6 +3,7 @@
 ghost use Rattle.rule.specs.ConstantWalks.{OneGives, TwoGives, PassGives, ConstantGives, WithinGives, CaseGives, BaseGives, ElseGives, BranchesGives, WithBaseGives};
 
 use crate::literal::literal_value;
+use crate::tag;
 use crate::type_of::{type_numbered, type_of};
 use crate::walk::{behind_fields, children_at, field_end};
 use layout::number::byte_at;
@@ -22,10 +23,10 @@ fn one(tag: u8, number: u8, v: Value) -> Value
     ensures { OneGives tag number v result }
 {
     match tag {
-        18 => not_value(v),
-        19 => negative(v),
-        20 => is_not_null(v),
-        21 => cast(type_numbered(number), v),
+        tag::NOT => not_value(v),
+        tag::NEGATIVE => negative(v),
+        tag::IS_NOT_NULL => is_not_null(v),
+        tag::CAST => cast(type_numbered(number), v),
         _ => try_cast(type_numbered(number), v),
     }
 }
@@ -34,7 +35,7 @@ fn one(tag: u8, number: u8, v: Value) -> Value
 fn two(rule: &[u8], tag: u8, a: Value, b: Value) -> Value
     ensures { TwoGives rule.now tag a b result }
 {
-    if tag == 23 {
+    if tag == tag::EQUAL {
         equal(rule, rule, a, b)
     } else {
         less(rule, rule, a, b)
@@ -76,25 +77,23 @@ fn constant_node(rule: &[u8], start: usize, end: usize, target: &[u8], depth: us
         return Value::Failed;
     }
     let tag = rule[start];
-    if tag == 16 {
-        return Value::Failed;
-    }
-    if tag == 17 {
-        return literal_value(rule, start, end);
-    }
-    if tag == 25 {
-        return constant_case(rule, start, end, target, depth);
-    }
     let at = children_at(rule, start);
-    if tag < 23 {
-        let number = byte_at(rule, start + 3);
-        let v = constant(rule, at, end, target, depth);
-        return one(tag, number, v);
+    match tag {
+        tag::LITERAL => literal_value(rule, start, end),
+        tag::NOT | tag::NEGATIVE | tag::IS_NOT_NULL | tag::CAST | tag::TRY_CAST => {
+            let number = byte_at(rule, start + 3);
+            let v = constant(rule, at, end, target, depth);
+            one(tag, number, v)
+        }
+        tag::EQUAL | tag::LESS => {
+            let middle = field_end(rule, at);
+            let a = constant(rule, at, middle, target, depth);
+            let b = constant(rule, middle, end, target, depth);
+            two(rule, tag, a, b)
+        }
+        tag::CASE => constant_case(rule, start, end, target, depth),
+        _ => Value::Failed,
     }
-    let middle = field_end(rule, at);
-    let a = constant(rule, at, middle, target, depth);
-    let b = constant(rule, middle, end, target, depth);
-    two(rule, tag, a, b)
 }
 
 // A CASE: its base, true where there is none, and then the branches.

@@ -2,6 +2,8 @@
 ghost use Rattle.rule.specs.ConstantWalks.{ColumnGives, FailsHereGives, FailsGives};
 
 use crate::constant::constant;
+use crate::limits::MOST_DEPTH;
+use crate::tag;
 use crate::walk::{children_at, field_end};
 use layout::part::part_of;
 use scalar::value::kind;
@@ -15,7 +17,7 @@ fn names_column(rule: &[u8], start: usize, end: usize) -> bool
     }
     let mut at = start;
     while at < end {
-        if rule[at] == 16 {
+        if rule[at] == tag::COLUMN {
             return true;
         }
         at = children_at(rule, at);
@@ -30,14 +32,14 @@ fn fails_here(rule: &[u8], start: usize) -> bool
     if rule.len() <= start {
         return false;
     }
-    if rule[start] != 21 {
+    if rule[start] != tag::CAST {
         return false;
     }
     let end = field_end(rule, start);
     if names_column(rule, start, end) {
         return false;
     }
-    let v = constant(rule, start, end, part_of(rule, 0, 0), 8);
+    let v = constant(rule, start, end, part_of(rule, 0, 0), MOST_DEPTH);
     kind(v) == 7
 }
 

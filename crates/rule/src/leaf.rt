@@ -38,7 +38,11 @@ pub(crate) fn meet_column(
 }
 
 // A column: index, type, nullable, a byte each.
-pub(crate) fn read_column(content: &[u8], end: usize, marks: &mut [u8; 256]) -> Result<FieldFound, Refusal>
+pub(crate) fn read_column(
+    content: &[u8],
+    end: usize,
+    marks: &mut [u8; 256],
+) -> Result<FieldFound, Refusal>
     ensures { NodeGives end marks.old (λ cols rest. read_column (record { tag = 16; content = content.now; rest = rest }) cols) result marks.new }
 {
     if content.len() != 3 {
@@ -74,7 +78,11 @@ pub(crate) fn value_fits(data_type: DataType, mark: u8, content: &[u8]) -> bool
 }
 
 // A literal: type, null mark, value.
-pub(crate) fn read_literal(content: &[u8], end: usize, marks: &mut [u8; 256]) -> Result<FieldFound, Refusal>
+pub(crate) fn read_literal(
+    content: &[u8],
+    end: usize,
+    marks: &mut [u8; 256],
+) -> Result<FieldFound, Refusal>
     ensures { NodeGives end marks.old (λ cols rest. read_literal (record { tag = 17; content = content.now; rest = rest }) cols) result marks.new }
 {
     if content.len() < 2 {

@@ -7,6 +7,7 @@ ghost use Rattle.rule.specs.Typing.{type_of, node_typed};
 ghost use Rattle.rule.specs.Steps.{closed, branched, unary_of};
 
 use crate::seen::Seen;
+use crate::tag;
 use crate::types::{is_listed, is_number, same_type};
 use layout::refusal::Refusal;
 use scalar::types::DataType;
@@ -61,10 +62,10 @@ pub(crate) fn close(
 pub(crate) fn unary_fits(tag: u8, child: DataType) -> bool
     ensures { (e : Expr) → child ≡ type_of e → result ≡ node_typed (unary_of tag e) }
 {
-    if tag == 18 {
+    if tag == tag::NOT {
         return same_type(child, DataType::Boolean);
     }
-    if tag == 19 {
+    if tag == tag::NEGATIVE {
         return is_number(child);
     }
     true
@@ -74,7 +75,11 @@ pub(crate) fn unary_fits(tag: u8, child: DataType) -> bool
 pub(crate) fn unary_type(tag: u8, child: DataType) -> DataType
     ensures { (e : Expr) → child ≡ type_of e → result ≡ type_of (unary_of tag e) }
 {
-    if tag == 19 { child } else { DataType::Boolean }
+    if tag == tag::NEGATIVE {
+        child
+    } else {
+        DataType::Boolean
+    }
 }
 
 // Whether a CASE's branches and its ELSE fit: a null literal fits any type.

@@ -6,6 +6,7 @@ ghost use Rattle.rule.specs.Steps.{TreeGives, RuleGives, RootGives, FieldGives, 
 
 use crate::fails::constant_fails;
 use crate::leaf::{read_column, read_literal};
+use crate::limits::{MOST_BRANCHES, MOST_BYTES, MOST_CASES, MOST_DEPTH};
 use crate::node::{
     BranchesRead, FieldFound, RuleFound, add_branch, case_fits, close, unary_fits, unary_type,
 };
@@ -28,7 +29,13 @@ pub struct RuleReading {
 
 // The field at a place of a slice; so much depth and so many CASEs are left on the path.
 #[cycle(read)]
-fn read_field(s: &[u8], at: usize, depth: usize, cases: usize, marks: &mut [u8; 256]) -> Result<FieldFound, Refusal>
+fn read_field(
+    s: &[u8],
+    at: usize,
+    depth: usize,
+    cases: usize,
+    marks: &mut [u8; 256],
+) -> Result<FieldFound, Refusal>
     ensures { FieldGives s.now marks.old (read_field depth cases (drop at s.now)) result marks.new }
 {
     let f = field_at(s, at).ok_or(Refusal::RuleCut)?;
@@ -161,7 +168,7 @@ fn read_case(
     if count == 0 {
         return Err(Refusal::CaseEmpty);
     }
-    if 32 < count {
+    if MOST_BRANCHES < count {
         return Err(Refusal::CaseBranches);
     }
     read_parts(content, flags, count, end, depth, cases - 1, marks)
@@ -272,7 +279,7 @@ fn read_root(rule: &[u8], marks: &mut [u8; 256]) -> Result<FieldFound, Refusal>
     if f.tag != tag::CASE {
         return Err(Refusal::RuleContent);
     }
-    read_field(rule, 0, 8, 3, marks)
+    read_field(rule, 0, MOST_DEPTH, MOST_CASES, marks)
 }
 
 // A rule but for its constant casts: one CASE field of at most 4,096 bytes, with no byte after it.
@@ -282,7 +289,7 @@ fn read_tree(rule: &[u8]) -> Result<RuleFound, Refusal>
     if rule.len() == 0 {
         return Err(Refusal::RuleSize);
     }
-    if 4096 < rule.len() {
+    if MOST_BYTES < rule.len() {
         return Err(Refusal::RuleSize);
     }
     let mut marks = [0u8; 256];

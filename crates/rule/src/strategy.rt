@@ -2,6 +2,7 @@
 ghost use Rattle.std.specs.Prelude.{◌≡◌};
 ghost use Rattle.rule.specs.WalkedStrategy.{null_there, else_there, literals_there, when_there, else_serves_at, table_serves_at, single_at, strategy_at};
 
+use crate::tag;
 use crate::type_of::type_of;
 use crate::walk::{behind_fields, field_end};
 use layout::number::byte_at;
@@ -20,7 +21,7 @@ pub enum Strategy {
 fn is_null_literal(rule: &[u8], at: usize) -> bool
     ensures { result ≡ null_there rule.now at }
 {
-    if byte_at(rule, at) != 17 {
+    if byte_at(rule, at) != tag::LITERAL {
         return false;
     }
     byte_at(rule, at + 4) == 1
@@ -42,7 +43,7 @@ fn all_literals(rule: &[u8], at: usize, count: usize) -> bool
 {
     let mut place = at;
     for _ in 0..count {
-        if byte_at(rule, place) != 17 {
+        if byte_at(rule, place) != tag::LITERAL {
             return false;
         }
         place = field_end(rule, place);
@@ -73,7 +74,7 @@ fn else_serves(rule: &[u8], at: usize, end: usize, then: usize) -> bool
     if !there {
         return true;
     }
-    if byte_at(rule, at) != 17 {
+    if byte_at(rule, at) != tag::LITERAL {
         return false;
     }
     type_of(rule, at).number() == type_of(rule, then).number()
@@ -109,15 +110,15 @@ fn single_branch(rule: &[u8], at: usize, end: usize) -> Strategy
     let tag = byte_at(rule, then);
     let there = else_there(rule, els, end);
     if there {
-        if tag != 17 {
+        if tag != tag::LITERAL {
             return Strategy::ExpressionOrExpression;
         }
-        if byte_at(rule, els) != 17 {
+        if byte_at(rule, els) != tag::LITERAL {
             return Strategy::ExpressionOrExpression;
         }
         return Strategy::ScalarOrScalar;
     }
-    if tag != 16 {
+    if tag != tag::COLUMN {
         return Strategy::ExpressionOrExpression;
     }
     Strategy::InfallibleExprOrNull
@@ -127,7 +128,7 @@ fn single_branch(rule: &[u8], at: usize, end: usize) -> Strategy
 pub fn strategy_at(rule: &[u8], start: usize, end: usize) -> Strategy
     ensures { result ≡ strategy_at rule.now start end }
 {
-    if byte_at(rule, start) != 25 {
+    if byte_at(rule, start) != tag::CASE {
         return Strategy::NoExpression;
     }
     let base = byte_at(rule, start + 3) % 2;

@@ -2,6 +2,7 @@
 ghost use Rattle.std.specs.Prelude.{◌≡◌};
 ghost use Rattle.rule.specs.Walked.{type_from, first_then, type_at};
 
+use crate::tag;
 use crate::walk::behind_fields;
 use layout::number::byte_at;
 use scalar::types::DataType;
@@ -37,27 +38,13 @@ pub fn type_of(rule: &[u8], start: usize) -> DataType
     let mut at = start;
     while at < rule.len() {
         match rule[at] {
-            16 => {
-                return type_numbered(byte_at(rule, at + 4));
-            }
-            17 => {
+            tag::COLUMN => return type_numbered(byte_at(rule, at + 4)),
+            tag::LITERAL | tag::CAST | tag::TRY_CAST => {
                 return type_numbered(byte_at(rule, at + 3));
             }
-            19 => {
-                at += 3;
-            }
-            21 => {
-                return type_numbered(byte_at(rule, at + 3));
-            }
-            22 => {
-                return type_numbered(byte_at(rule, at + 3));
-            }
-            25 => {
-                at = first_then(rule, at);
-            }
-            _ => {
-                return DataType::Boolean;
-            }
+            tag::NEGATIVE => at += 3,
+            tag::CASE => at = first_then(rule, at),
+            _ => return DataType::Boolean,
         }
     }
     DataType::Boolean

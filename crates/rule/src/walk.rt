@@ -2,6 +2,7 @@
 ghost use Rattle.std.specs.Prelude.{◌≡◌};
 ghost use Rattle.rule.specs.Walked.{field_end, children_at, behind_fields};
 
+use crate::tag;
 use layout::field::field_at;
 
 // Where the field at a place ends.
@@ -25,11 +26,9 @@ pub fn children_at(rule: &[u8], at: usize) -> usize
         return at;
     }
     match rule[at] {
-        16 => field_end(rule, at),
-        17 => field_end(rule, at),
-        21 => at + 4,
-        22 => at + 4,
-        25 => at + 5,
+        tag::COLUMN | tag::LITERAL => field_end(rule, at),
+        tag::CAST | tag::TRY_CAST => at + 4,
+        tag::CASE => at + 5,
         _ => at + 3,
     }
 }

@@ -2,11 +2,11 @@
 use Rattle.rule.proofs.LeafLaws.{unary_not, unary_negative, unary_any}
 use Rattle.rule.proofs.node.unary_fits.Goals as goal
 
-pub returns-then-tag-eq18 : goal.returns-then-tag-eq18
-returns-then-tag-eq18 c = λ e is. unary_not c.args.tag e is c.if-tag-eq18.true c.same_type.ensures
+pub returns-then-tag-eq-NOT : goal.returns-then-tag-eq-NOT
+returns-then-tag-eq-NOT c = λ e is. unary_not c.args.tag e is c.if-tag-eq-NOT.true c.same_type.ensures
 
-pub returns-then-tag-eq19 : goal.returns-then-tag-eq19
-returns-then-tag-eq19 c = λ e is. unary_negative c.args.tag e is c.if-tag-eq19.true c.is_number.ensures
+pub returns-then-tag-eq-NEGATIVE : goal.returns-then-tag-eq-NEGATIVE
+returns-then-tag-eq-NEGATIVE c = λ e is. unary_negative c.args.tag e is c.if-tag-eq-NEGATIVE.true c.is_number.ensures
 
 pub returns : goal.returns
-returns c = λ e is. unary_any c.args.tag e is c.if-tag-eq18.false c.if-tag-eq19.false
+returns c = λ e is. unary_any c.args.tag e is c.if-tag-eq-NOT.false c.if-tag-eq-NEGATIVE.false

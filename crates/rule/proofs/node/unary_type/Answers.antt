@@ -2,8 +2,8 @@
 use Rattle.rule.proofs.LeafLaws.{negative_type, boolean_type}
 use Rattle.rule.proofs.node.unary_type.Goals as goal
 
-pub returns-then-tag-eq19 : goal.returns-then-tag-eq19
-returns-then-tag-eq19 c = λ e is. negative_type c.args.tag e is c.if-tag-eq19.true
+pub returns-then-tag-eq-NEGATIVE : goal.returns-then-tag-eq-NEGATIVE
+returns-then-tag-eq-NEGATIVE c = λ e is. negative_type c.args.tag e is c.if-tag-eq-NEGATIVE.true
 
-pub returns-else-tag-eq19 : goal.returns-else-tag-eq19
-returns-else-tag-eq19 c = λ e is. boolean_type c.args.tag e c.if-tag-eq19.false
+pub returns-else-tag-eq-NEGATIVE : goal.returns-else-tag-eq-NEGATIVE
+returns-else-tag-eq-NEGATIVE c = λ e is. boolean_type c.args.tag e c.if-tag-eq-NEGATIVE.false

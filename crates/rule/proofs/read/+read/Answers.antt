@@ -40,11 +40,11 @@ read_case-returns-then-flags-gt3 t c = λ cols outer s. case_flags (read_field c
 pub read_case-returns-then-count-eq0 : goal.read_case-returns-then-count-eq0
 read_case-returns-then-count-eq0 t c = λ cols outer s. case_unbranched (read_field c.args.depth) cols outer c.args.end _ c.args.cases c.if-cases-eq0.false c.args.content.now c.if-content-lt2.false c.if-flags-gt3.false c.if-count-eq0.true
 
-pub read_case-returns-then-count-gt32 : goal.read_case-returns-then-count-gt32
-read_case-returns-then-count-gt32 t c = λ cols outer s. case_many (read_field c.args.depth) cols outer c.args.end _ c.args.cases c.if-cases-eq0.false c.args.content.now c.if-content-lt2.false c.if-flags-gt3.false c.if-count-eq0.false c.if-count-gt32.true
+pub read_case-returns-then-count-gt-MOST_BRANCHES : goal.read_case-returns-then-count-gt-MOST_BRANCHES
+read_case-returns-then-count-gt-MOST_BRANCHES t c = λ cols outer s. case_many (read_field c.args.depth) cols outer c.args.end _ c.args.cases c.if-cases-eq0.false c.args.content.now c.if-content-lt2.false c.if-flags-gt3.false c.if-count-eq0.false c.if-count-gt-MOST_BRANCHES.true
 
 pub read_case-returns : goal.read_case-returns
-read_case-returns t c = λ cols outer s. case_gives (read_field c.args.depth) cols outer c.args.end _ c.args.cases c.if-cases-eq0.false c.args.content.now c.if-content-lt2.false c.if-flags-gt3.false c.if-count-eq0.false c.if-count-gt32.false (c.read_parts.ensures cols outer s)
+read_case-returns t c = λ cols outer s. case_gives (read_field c.args.depth) cols outer c.args.end _ c.args.cases c.if-cases-eq0.false c.args.content.now c.if-content-lt2.false c.if-flags-gt3.false c.if-count-eq0.false c.if-count-gt-MOST_BRANCHES.false (c.read_parts.ensures cols outer s)
 
 pub read_cast-returns-then-content-eq0 : goal.read_cast-returns-then-content-eq0
 read_cast-returns-then-content-eq0 t c = λ cols outer s. cast_short (read_field c.args.depth c.args.cases) cols outer c.args.end c.args.tag _ c.args.content.now c.if-content-eq0.true
