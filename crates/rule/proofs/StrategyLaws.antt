@@ -9,7 +9,7 @@ use lib.ListN.{length}
 use borrow.Author.Tests.{eq-eqb, ne_eqb, le-ltb, lt-ltb}
 use Rattle.layout.specs.Bytes.{byte}
 use Rattle.scalar.specs.declared.types.DataType.{DataType}
-use Rattle.scalar.specs.Types.{type_number, same_type}
+use Rattle.scalar.specs.Types.{same_type}
 use Rattle.scalar.specs.Entry.{is_null}
 use Rattle.rule.specs.declared.strategy.Strategy.{Strategy}
 use Rattle.rule.specs.declared.strategy.Strategy.TheVariants.{NoExpression, WithExpression, InfallibleExprOrNull, ScalarOrScalar, ExpressionOrExpression, WithExprScalarLookupTable}
@@ -168,11 +168,11 @@ module _ (rule : List ℕ) (at end then : ℕ) {there : Bool} (is : there ≡ el
   unfolding else_serves_at
   serves_other some read other = rw (sym is ∙ some, ne_eqb (byte rule at) 17 (λ p. other (read ∙ p)))
 
-  pub serves_literal : {tag x y : ℕ} {a b : DataType} → there ≡ true → tag ≡ byte rule at → tag ≡ 17 → a ≡ type_at rule at → x ≡ type_number a → b ≡ type_at rule then → y ≡ type_number b
-      → eqb x y ≡ else_serves_at rule at end then
+  pub serves_literal : {tag : ℕ} {a b : DataType} {same : Bool} → there ≡ true → tag ≡ byte rule at → tag ≡ 17 → a ≡ type_at rule at → b ≡ type_at rule then → same ≡ same_type a b
+      → same ≡ else_serves_at rule at end then
   unfolding else_serves_at
-  serves_literal some read one typed x-is typed_then y-is =
-      rw (sym is ∙ some, eq-eqb (byte rule at) 17 (sym read ∙ one)) (ap₂ eqb (x-is ∙ ap type_number typed) (y-is ∙ ap type_number typed_then))
+  serves_literal some read one typed typed_then told =
+      rw (sym is ∙ some, eq-eqb (byte rule at) 17 (sym read ∙ one)) (told ∙ ap₂ same_type typed typed_then)
 
 serves_at : {rule : List ℕ} {at end depth then m d : ℕ} (els : Optional) {t : Expr} → TreesAt rule at end (optional_trees els) depth → NodeAt rule then m t d
     → else_serves_at rule at end then ≡ else_serves (type_of t) (drop_null els)

@@ -8,7 +8,7 @@ ghost use Rattle.rule.specs.Steps.{closed, branched, unary_of};
 
 use crate::seen::Seen;
 use crate::tag;
-use crate::types::{is_listed, is_number, same_type};
+use crate::types::{is_listed, is_number};
 use layout::refusal::Refusal;
 use scalar::types::DataType;
 
@@ -63,7 +63,7 @@ pub(crate) fn unary_fits(tag: u8, child: DataType) -> bool
     ensures { (e : Expr) → child ≡ type_of e → result ≡ node_typed (unary_of tag e) }
 {
     if tag == tag::NOT {
-        return same_type(child, DataType::Boolean);
+        return child == DataType::Boolean;
     }
     if tag == tag::NEGATIVE {
         return is_number(child);
@@ -99,12 +99,7 @@ pub(crate) fn case_fits(branches: bool, null: bool, from: DataType, to: DataType
 fn branch_fits(w: DataType, when: DataType, t: DataType, res: DataType, later: bool) -> bool
     ensures { result ≡ (same_type w when && same_type t res && later) }
 {
-    if same_type(w, when) {
-        if same_type(t, res) {
-            return later;
-        }
-    }
-    false
+    w == when && t == res && later
 }
 
 // A branch before later ones.

@@ -13,7 +13,7 @@ use crate::node::{
 use crate::nullable::nullable_of;
 use crate::seen::Seen;
 use crate::tag;
-use crate::types::{is_listed, same_type};
+use crate::types::is_listed;
 use layout::field::field_at;
 use layout::part::part_of;
 use layout::refusal::Refusal;
@@ -137,7 +137,7 @@ fn read_binary(
     close(
         b.next,
         content.len(),
-        same_type(first, second),
+        first == second,
         DataType::Boolean,
         end,
     )

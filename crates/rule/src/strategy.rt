@@ -1,5 +1,6 @@
 // How a CASE is evaluated, named as in the Rust.
 ghost use Rattle.std.specs.Prelude.{◌≡◌};
+ghost use Rattle.rule.specs.Strategy.{strategy_number};
 ghost use Rattle.rule.specs.WalkedStrategy.{null_there, else_there, literals_there, when_there, else_serves_at, table_serves_at, single_at, strategy_at};
 
 use crate::tag;
@@ -7,7 +8,7 @@ use crate::type_of::type_of;
 use crate::walk::{behind_fields, field_end};
 use layout::number::byte_at;
 
-#[derive(Clone, Copy)]
+#[derive(Clone, Copy, Debug, PartialEq, Eq)]
 pub enum Strategy {
     NoExpression,
     WithExpression,
@@ -15,6 +16,22 @@ pub enum Strategy {
     ScalarOrScalar,
     ExpressionOrExpression,
     WithExprScalarLookupTable,
+}
+
+impl Strategy {
+    // The number of a strategy.
+    pub fn number(self) -> u8
+        ensures { result ≡ strategy_number self }
+    {
+        match self {
+            Strategy::NoExpression => 1,
+            Strategy::WithExpression => 2,
+            Strategy::InfallibleExprOrNull => 3,
+            Strategy::ScalarOrScalar => 4,
+            Strategy::ExpressionOrExpression => 5,
+            Strategy::WithExprScalarLookupTable => 6,
+        }
+    }
 }
 
 // Whether the node at a place is a null literal.
@@ -77,7 +94,7 @@ fn else_serves(rule: &[u8], at: usize, end: usize, then: usize) -> bool
     if byte_at(rule, at) != tag::LITERAL {
         return false;
     }
-    type_of(rule, at).number() == type_of(rule, then).number()
+    type_of(rule, at) == type_of(rule, then)
 }
 
 // Whether a lookup table serves: at least two branches, all literals, some WHEN not null, and an ELSE that serves.

@@ -11,13 +11,7 @@ use scalar::types::DataType;
 pub fn type_numbered(n: u8) -> DataType
     ensures { result ≡ type_from n }
 {
-    match n {
-        1 => DataType::Boolean,
-        2 => DataType::Int32,
-        3 => DataType::Int64,
-        4 => DataType::Float64,
-        _ => DataType::Utf8,
-    }
+    DataType::numbered(n).unwrap_or(DataType::Utf8)
 }
 
 // Where the first THEN of the CASE at a place stands: behind the base, if there is one, and a WHEN.

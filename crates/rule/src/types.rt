@@ -1,16 +1,9 @@
 // Which types fit.
 ghost use Rattle.std.specs.Prelude.{◌≡◌};
-ghost use Rattle.scalar.specs.Types.{same_type, is_number};
+ghost use Rattle.scalar.specs.Types.{is_number};
 ghost use Rattle.scalar.specs.Cast.{whole, listed};
 
 use scalar::types::DataType;
-
-// Whether two types are the same.
-pub(crate) fn same_type(a: DataType, b: DataType) -> bool
-    ensures { result ≡ same_type a b }
-{
-    a.number() == b.number()
-}
 
 // Whether a type is one of the numbers'.
 pub(crate) fn is_number(t: DataType) -> bool
@@ -44,9 +37,9 @@ pub(crate) fn is_listed(from: DataType, to: DataType) -> bool
 {
     match from {
         DataType::Boolean => is_whole(to),
-        DataType::Int32 => is_whole(to) || same_type(to, DataType::Float64),
-        DataType::Int64 => is_whole(to) || same_type(to, DataType::Float64),
+        DataType::Int32 => is_whole(to) || to == DataType::Float64,
+        DataType::Int64 => is_whole(to) || to == DataType::Float64,
         DataType::Float64 => is_number(to),
-        DataType::Utf8 => same_type(to, DataType::Utf8),
+        DataType::Utf8 => to == DataType::Utf8,
     }
 }

@@ -2,6 +2,7 @@
 use mathlib.Core.Path.{ap, sym, ◌∙◌}
 use mathlib.Core.Logic.{inl, inr}
 use native.Mathlib.Omega.{arith}
+use borrow.Author.Rules.{rules}
 use Rattle.rule.specs.Reading.{read_field}
 use Rattle.scalar.specs.Types.{type_means}
 use Rattle.scalar.proofs.TypeLaws.{type_means_lem}
@@ -17,7 +18,7 @@ pub read_binary-returns-in_err-b : goal.read_binary-returns-in_err-b
 read_binary-returns-in_err-b t c = λ cols outer s. rw (passed_on c.from_residual-in_err-b.result c.from_residual-in_err-b.ensures.1) (second_refused (read_field c.args.depth c.args.cases) c.args.content.now cols outer c.args.end c.args.tag c.in_ok-a.a (c.read_field.ensures cols s) c.in_ok-a.was c.read_field-2.ensures c.in_err-b.was)
 
 pub read_binary-returns : goal.read_binary-returns
-read_binary-returns t c = λ cols outer s. binary_gives (read_field c.args.depth c.args.cases) c.args.content.now cols outer c.args.end c.args.tag c.in_ok-a.a (c.read_field.ensures cols s) c.in_ok-a.was c.read_field-2.ensures c.in_ok-b.b _ c.in_ok-b.was c.same_type.ensures c.close.ensures
+read_binary-returns t c = λ cols outer s. binary_gives (read_field c.args.depth c.args.cases) c.args.content.now cols outer c.args.end c.args.tag c.in_ok-a.a (c.read_field.ensures cols s) c.in_ok-a.was c.read_field-2.ensures c.in_ok-b.b _ c.in_ok-b.was (search rules) c.close.ensures
 
 pub read_branches-returns-then-count-eq0 : goal.read_branches-returns-then-count-eq0
 read_branches-returns-then-count-eq0 t c = λ cols s. branches_none (read_field c.args.depth c.args.cases) c.args.s.now c.args.when c.args.earlier c.args.at c.args.count cols c.if-count-eq0.true s c.unwrap_or.ensures
