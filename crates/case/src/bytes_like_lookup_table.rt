@@ -1,6 +1,6 @@
 // Text keys, by their bytes.
 ghost use Rattle.std.specs.Prelude.{◌≡◌, ℕ, ◌+◌, ◌-◌, ◌<◌, ◌≤◌, true, length, slice_index};
-ghost use Rattle.layout.specs.Bytes.{number_at};
+ghost use Rattle.layout.specs.Bytes.{Bytes, number_at};
 ghost use Rattle.scalar.specs.Entry.{entry, utf8};
 ghost use Rattle.scalar.specs.Text.{same_bytes};
 ghost use Rattle.scalar.specs.Value.{meaning, place_text, value_of};
@@ -8,6 +8,7 @@ ghost use Rattle.case.specs.LookUpTables.{Keys, EachOnce, bytes_of, same_key, ke
 ghost use Rattle.case.specs.LookUpColumns.{text_hint, outcome_hint, Hinted, rule_text, text_mark, KeySize, Marked, MarkIs, TextTable};
 
 use crate::slot::word;
+use crate::when_literal_index_map::WhenLiteralIndexMap;
 use scalar::text::place_text;
 
 // How many bytes of a text's place are there. Kind 5 is text in the rule, any other in the table.
@@ -91,26 +92,18 @@ fn is_text(rule: &[u8], table: &[u8], text: &[u8], kind: u8, payload: u64) -> bo
     same_in(rule, table, kind, start, text)
 }
 
-// The index of the first key that is a text of these bytes, or the ELSE index.
-pub(crate) fn find_text(
-    rule: &[u8],
-    table: &[u8],
-    kinds: &[u8],
-    keys: &[u64],
-    indices: &[u16],
-    size: usize,
-    otherwise: usize,
-    text: &[u8],
-) -> usize
-    requires { Keys kinds.now keys.now indices.now size otherwise }
-    ensures { result ≡ key_index rule.now table.now kinds.now keys.now indices.now size otherwise (entry (utf8 text.now)) }
-{
-    for k in 0..size {
-        if is_text(rule, table, text, kinds[k], keys[k]) {
-            return indices[k] as usize;
+impl WhenLiteralIndexMap {
+    // The index of the first key that is a text of these bytes, or the ELSE index.
+    pub(crate) fn find_text(&self, rule: &[u8], table: &[u8], text: &[u8]) -> usize
+        ensures { result ≡ key_index rule.now table.now self.now.kinds self.now.keys self.now.indices self.now.size self.now.else_index (entry (utf8 text.now)) }
+    {
+        for k in 0..self.size {
+            if is_text(rule, table, text, self.kinds[k], self.keys[k]) {
+                return self.indices[k] as usize;
+            }
         }
+        self.else_index
     }
-    otherwise
 }
 
 // A text's place among the hints.
@@ -138,22 +131,15 @@ fn key_hint(rule: &[u8], table: &[u8], kind: u8, payload: u64) -> usize
 }
 
 // At each key's hint one more than the place of a key.
-pub(crate) fn read_hints(
-    rule: &[u8],
-    table: &[u8],
-    kinds: &[u8],
-    keys: &[u64],
-    size: usize,
-    hints: &mut [u8],
-)
-    requires kinds_len { (length kinds.now ≡ 32) × (length keys.now ≡ 32) × (size ≤ 32) }
-    requires hints_len { (length hints.old ≡ 256) × ((h : ℕ) → slice_index hints.old h ≡ 0) }
-    ensures { Hinted (λ k. outcome_hint (meaning rule.now table.now (value_at kinds.now keys.now k))) size hints.new }
+fn read_hints(rule: &[u8], table: &[u8], whens: &WhenLiteralIndexMap) -> [u8; 256]
+    ensures { Hinted (λ k. outcome_hint (meaning rule.now table.now (value_at whens.now.kinds whens.now.keys k))) whens.now.size result }
 {
-    for k in 0..size {
-        let h = key_hint(rule, table, kinds[k], keys[k]);
+    let mut hints = [0u8; 256];
+    for k in 0..whens.size {
+        let h = key_hint(rule, table, whens.kinds[k], whens.keys[k]);
         hints[h] = (k + 1) as u8;
     }
+    hints
 }
 
 // The mark of a text of four bytes or more.
@@ -198,92 +184,99 @@ fn key_size(rule: &[u8], kind: u8, payload: u64) -> usize
 }
 
 // The size and the mark of each key of four to eight bytes in the rule; of any other key the size 0.
-pub(crate) fn read_marks(
-    rule: &[u8],
-    kinds: &[u8],
-    keys: &[u64],
-    size: usize,
-    sizes: &mut [u8],
-    marks: &mut [u64],
-)
-    requires kinds_len { (length kinds.now ≡ 32) × (length keys.now ≡ 32) × (size ≤ 32) }
-    requires sizes_len { (length sizes.old ≡ 32) × (length marks.old ≡ 32) × ((k : ℕ) → slice_index sizes.old k ≡ 0) }
-    ensures { Marked rule.now kinds.now keys.now sizes.new marks.new }
-{
-    for k in 0..size {
-        sizes[k] = key_size(rule, kinds[k], keys[k]) as u8;
-        marks[k] = key_mark(rule, keys[k]);
+#[derive(Drop)]
+pub(crate) struct TextMarks {
+    pub(crate) sizes: [u8; 32],
+    pub(crate) marks: [u64; 32],
+}
+
+impl TextMarks {
+    // The sizes and the marks of the keys.
+    fn read(rule: &[u8], whens: &WhenLiteralIndexMap) -> TextMarks
+        ensures { Marked rule.now whens.now.kinds whens.now.keys result.sizes result.marks }
+    {
+        let mut sizes = [0u8; 32];
+        let mut marks = [0u64; 32];
+        for k in 0..whens.size {
+            sizes[k] = key_size(rule, whens.kinds[k], whens.keys[k]) as u8;
+            marks[k] = key_mark(rule, whens.keys[k]);
+        }
+        TextMarks { sizes, marks }
+    }
+
+    // Whether a text of four bytes or more has the size and the mark of a key.
+    fn is_marked(&self, k: usize, text: &[u8]) -> bool
+        requires { k < 32 }
+        ensures { result ≡ true → MarkIs (slice_index self.now.sizes k) (slice_index self.now.marks k) text.now }
+    {
+        if text.len() < 4 {
+            return false;
+        }
+        if (self.sizes[k] as usize) != text.len() {
+            return false;
+        }
+        self.marks[k] == text_mark(text)
     }
 }
 
-// Whether a text of four bytes or more has the size and the mark of a key.
-fn is_marked(sizes: &[u8], marks: &[u64], k: usize, text: &[u8]) -> bool
-    requires { (length sizes.now ≡ 32) × (length marks.now ≡ 32) × (k < 32) }
-    ensures { result ≡ true → MarkIs (slice_index sizes.now k) (slice_index marks.now k) text.now }
-{
-    if text.len() < 4 {
-        return false;
-    }
-    if (sizes[k] as usize) != text.len() {
-        return false;
-    }
-    marks[k] == text_mark(text)
+// The keys of a table that is searched for texts, their hints and their marks.
+#[derive(Drop)]
+pub(crate) struct BytesLikeIndexMap<'a> {
+    pub(crate) rule: &'a [u8],
+    pub(crate) table: &'a [u8],
+    pub(crate) whens: &'a WhenLiteralIndexMap,
+    pub(crate) hints: [u8; 256],
+    pub(crate) marks: TextMarks,
+    ghost bytes: { Bytes rule.now },
+    ghost texts: { TextTable rule.now table.now whens.now.kinds whens.now.keys whens.now.indices hints whens.now.size whens.now.else_index },
+    ghost marked: { Marked rule.now whens.now.kinds whens.now.keys marks.sizes marks.marks },
 }
 
-// The index of the first key that is a text of these bytes, or the ELSE index, by one of the keys first.
-fn likely_index(
-    rule: &[u8],
-    table: &[u8],
-    kinds: &[u8],
-    keys: &[u64],
-    indices: &[u16],
-    size: usize,
-    otherwise: usize,
-    k: usize,
-    text: &[u8],
-) -> usize
-    requires { Keys kinds.now keys.now indices.now size otherwise × EachOnce rule.now table.now kinds.now keys.now size × (k < size) }
-    ensures { result ≡ key_index rule.now table.now kinds.now keys.now indices.now size otherwise (entry (utf8 text.now)) }
-{
-    if is_text(rule, table, text, kinds[k], keys[k]) {
-        return indices[k] as usize;
+impl<'a> BytesLikeIndexMap<'a> {
+    // The hints and the marks of the keys.
+    pub(crate) fn new(rule: &'a [u8], table: &'a [u8], whens: &'a WhenLiteralIndexMap) -> Self
+        requires { EachOnce rule.now table.now whens.now.kinds whens.now.keys whens.now.size }
+        ensures { (result.rule.now ≡ rule.now) × (result.table.now ≡ table.now) × (result.whens.now ≡ whens.now) }
+    {
+        let hints = read_hints(rule, table, whens);
+        let marks = TextMarks::read(rule, whens);
+        BytesLikeIndexMap {
+            rule,
+            table,
+            whens,
+            hints,
+            marks,
+        }
     }
-    find_text(rule, table, kinds, keys, indices, size, otherwise, text)
-}
 
-// The index of the first key that is a text of these bytes, or the ELSE index, by the hint first.
-pub(crate) fn text_index(
-    rule: &[u8],
-    table: &[u8],
-    kinds: &[u8],
-    keys: &[u64],
-    indices: &[u16],
-    hints: &[u8],
-    sizes: &[u8],
-    marks: &[u64],
-    size: usize,
-    otherwise: usize,
-    text: &[u8],
-) -> usize
-    requires { TextTable rule.now table.now kinds.now keys.now indices.now hints.now size otherwise × Marked rule.now kinds.now keys.now sizes.now marks.now }
-    ensures { result ≡ key_index rule.now table.now kinds.now keys.now indices.now size otherwise (entry (utf8 text.now)) }
-{
-    let h = hints[text_hint(text)] as usize;
-    if h == 0 {
-        return otherwise;
+    // The index of the first key that is a text of these bytes, or the ELSE index, by one of the keys first.
+    fn likely_index(&self, k: usize, text: &[u8]) -> usize
+        requires { k < self.now.whens.now.size }
+        ensures { result ≡ key_index self.now.rule.now self.now.table.now self.now.whens.now.kinds self.now.whens.now.keys self.now.whens.now.indices self.now.whens.now.size self.now.whens.now.else_index (entry (utf8 text.now)) }
+    {
+        if is_text(
+            self.rule,
+            self.table,
+            text,
+            self.whens.kinds[k],
+            self.whens.keys[k],
+        ) {
+            return self.whens.indices[k] as usize;
+        }
+        self.whens.find_text(self.rule, self.table, text)
     }
-    if is_marked(sizes, marks, h - 1, text) {
-        return indices[h - 1] as usize;
+
+    // The index of the first key that is a text of these bytes, or the ELSE index, by the hint first.
+    pub(crate) fn index(&self, text: &[u8]) -> usize
+        ensures { result ≡ key_index self.now.rule.now self.now.table.now self.now.whens.now.kinds self.now.whens.now.keys self.now.whens.now.indices self.now.whens.now.size self.now.whens.now.else_index (entry (utf8 text.now)) }
+    {
+        let h = self.hints[text_hint(text)] as usize;
+        if h == 0 {
+            return self.whens.else_index;
+        }
+        if self.marks.is_marked(h - 1, text) {
+            return self.whens.indices[h - 1] as usize;
+        }
+        self.likely_index(h - 1, text)
     }
-    likely_index(
-        rule,
-        table,
-        kinds,
-        keys,
-        indices,
-        size,
-        otherwise,
-        h - 1,
-        text,
-    )
 }
