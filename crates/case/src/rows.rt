@@ -78,7 +78,8 @@ pub(crate) fn copy_list(work: &mut [u8], n: usize, from: usize, to: usize)
     requires { (from + 2 * n ≤ to) × (to + 2 * n ≤ length work.old) }
     ensures { Copied work.old n from to work.new }
 {
-    work.copy_within(from..from + 2 * n, to);
+    let (front, back) = work.split_at_mut(to);
+    back[..2 * n].copy_from_slice(&front[from..from + 2 * n]);
 }
 
 // One value in the slot of each listed row.
