@@ -43,6 +43,10 @@ ends {at} {right} {w} {n} {i} {w'} s h =
     let e : i ≡ n = omega arith in
     subst (λ (k : ℕ). FilledFrom at right w k w') e s.done
 
+-- the same by what is right of the listed rows
+pub filled_as : {at : ℕ} {right right' : ℕ → Value → Type 0} {w : List ℕ} {n : ℕ} {w' : List ℕ} → ((r : ℕ) (x : Value) → right r x → right' r x) → FilledFrom at right w n w' → FilledFrom at right' w n w'
+filled_as f s = record { long = s.long; here = λ r l. f r _ (s.here r l); others = s.others; low = s.low; high = s.high }
+
 -- one turn, at the row that is read
 module _ {at : ℕ} {right : ℕ → Value → Type 0} {w : List ℕ} {n i : ℕ} {m : List ℕ} (s : FilledFromSoFar at right w n i m) (ok : FillableFrom at w n) (more : i < n) where
   -- the row lies in the buffer
@@ -97,7 +101,7 @@ module _ {at : ℕ} {right : ℕ → Value → Type 0} {w : List ℕ} {n i : ℕ
             subst (right q) (sym (put.others q p)) (s.done.here q (l.0, earlier q l.0 l.1 l.2 p (ℕ_discrete l.0 i), l.2))
 
 -- the frame's own list
-own : {w : List ℕ} {n : ℕ} → Fillable w n → FillableFrom 0 w n
+pub own : {w : List ℕ} {n : ℕ} → Fillable w n → FillableFrom 0 w n
 own ok = record {
   rows_ok = ok.rows_ok;
   room = ok.room;

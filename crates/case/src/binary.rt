@@ -5,8 +5,8 @@ ghost use Rattle.scalar.specs.Value.{meaning, GivesBoth};
 ghost use Rattle.case.specs.Frame.{slot_at, next_slot, Rows, Fillable, Filled};
 ghost use Rattle.case.specs.Taking.{comparison, order_value, OrderRight, RowsOrdered};
 
-use crate::rows::row_at;
-use crate::slot::{get_slot, next_slot, put_slot};
+use crate::rows::{fill_rows, row_at};
+use crate::slot::{get_slot, next_slot};
 use scalar::order::{Order, is_text, key_of, key_order, text_in, text_order};
 use scalar::value::Value;
 
@@ -82,10 +82,7 @@ fn put_orders(work: &mut [u8], n: usize, less: bool, orders: &[Order])
     requires { Fillable work.old n × (512 ≤ length orders.now) }
     ensures { Filled (λ r v. v ≡ order_value less (slice_index_or orders.now r Order.Less)) work.old n work.new }
 {
-    for i in 0..n {
-        let r = row_at(work, 0, i);
-        put_slot(work, r, order_value(less, orders[r]));
-    }
+    fill_rows(work, n, |row| order_value(less, orders[row]));
 }
 
 // Whether the slot of each listed row is less than the row's slot of the next frame, or equal to it, in the row's slot.

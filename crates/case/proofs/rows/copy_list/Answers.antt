@@ -1,4 +1,4 @@
-use Rattle.std.proofs.Common.{length-append, length-drop, arith}
+use Rattle.std.proofs.Common.{arith}
 use Rattle.case.proofs.RowsLaws.{copied}
 use Rattle.case.proofs.rows.copy_list.Goals as goal
 
