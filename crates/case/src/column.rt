@@ -12,8 +12,8 @@ ghost use Rattle.case.specs.Frame.{Fillable, Filled};
 ghost use Rattle.case.specs.Taking.{EntryRight, ColumnRight};
 ghost use Rattle.case.specs.ColumnSlots.{PayloadRight, NumberRight, text_entry, TextRight};
 
-use crate::rows::row_at;
-use crate::slot::{get_slot, put_parts, put_slot};
+use crate::rows::{fill_rows, map_rows, row_at};
+use crate::slot::put_parts;
 use crate::truth::{Truth, truth_of};
 use layout::bits::bit_at;
 use layout::part::part_of;
@@ -121,11 +121,11 @@ fn fill_texts(
     requires table_len_bound { length table.now < 2 ^ 32 }
     ensures { Filled (TextRight table.now validity.now offsets.now (part table.now start end)) work.old n work.new }
 {
-    for i in 0..n {
-        let r = row_at(work, 0, i);
-        let v = text_in(table, validity, offsets, start, end, r);
-        put_slot(work, r, v);
-    }
+    fill_rows(
+        work,
+        n,
+        |row| text_in(table, validity, offsets, start, end, row),
+    );
 }
 
 // A column's entry at a row where the test is true, null elsewhere; where it failed, it stays so.
@@ -146,9 +146,10 @@ pub(crate) fn column_or_null(table: &[u8], place: ColumnPlace, work: &mut [u8], 
     requires table_len_bound { length table.now < 2 ^ 32 }
     ensures { Filled (ColumnRight table.now place work.old) work.old n work.new }
 {
-    for i in 0..n {
-        let r = row_at(work, 0, i);
-        let test = get_slot(work, r);
-        put_slot(work, r, entry_or_null(table, place, r, test));
-    }
+    map_rows(
+        work,
+        0,
+        n,
+        |test, row| entry_or_null(table, place, row, test),
+    );
 }

@@ -4,14 +4,15 @@ ghost use Rattle.std.proofs.Math.Option.{none};
 ghost use Rattle.scalar.specs.Value.{meaning};
 ghost use Rattle.builder.specs.Builder.{or_else};
 ghost use Rattle.case.specs.Frame.{slot_at, next_slot, Rows};
-ghost use Rattle.case.specs.Choosing.{leaving, null_outcome, true_outcome, class_at, class_coded, class_same, class_by, asks_true, asks_equal, CodesFor, held_by, Open, Settles};
+ghost use Rattle.case.specs.Choosing.{leaving, null_outcome, true_outcome, class_at, class_by_slots, class_same, class_by, asks_true, asks_equal, OrdersFor, held_by, Open, Settles};
 ghost use Rattle.case.specs.Parting.{Parted, PartAsks, PartGives};
 
-use crate::binary::{code_value, compare_list};
+use crate::binary::{compare_list, order_value};
 use crate::rows::{put_row, row_at};
 use crate::slot::{get_slot, next_slot};
 use crate::truth::{Truth, truth_of};
 use builder::ResultBuilder;
+use scalar::order::Order;
 use scalar::value::Value;
 
 // When a row leaves: its base is null, its WHEN is true, its WHEN equals its base, or always.
@@ -82,30 +83,36 @@ trait Leaving {
     ghost by_slots: { (s : Self) (w m : List ℕ) (r : ℕ) → slot_at m r ≡ slot_at w r → next_slot m r ≡ next_slot w r → class s m r ≡ class s w r };
 }
 
-// A row leaves by its base, by its WHEN, or by the number that says whether the two are equal.
+// A row leaves by its base, by its WHEN, or by the order of the two.
 #[derive(Clone, Copy)]
 struct BySlots<'a> {
     how: Leave,
-    codes: &'a [u8],
+    orders: &'a [Order],
     index: u16,
     failed: u16,
 }
 
 impl<'a> Leaving for BySlots<'a> {
-    ghost can = { λ s. 512 ≤ length s.codes.now };
+    ghost can = { λ s. 512 ≤ length s.orders.now };
 
-    ghost class = { λ s w r. class_coded s.how s.codes.now w s.index s.failed r };
+    ghost class = { λ s w r. class_by_slots s.how s.orders.now w s.index s.failed r };
 
     fn class_of(&self, work: &[u8], row: usize) -> u16 {
         match self.how {
             Leave::NullBase => null_class(get_slot(work, row), self.index, self.failed),
             Leave::TrueWhen => true_class(next_slot(work, row), self.index, self.failed),
-            Leave::EqualWhen => true_class(code_value(self.codes[row]), self.index, self.failed),
+            Leave::EqualWhen => {
+                true_class(
+                    order_value(false, self.orders[row]),
+                    self.index,
+                    self.failed,
+                )
+            },
             Leave::Rest => self.index,
         }
     }
 
-    ghost by_slots = { λ s w m r a b. class_same s.how s.codes.now w m s.index s.failed r a b };
+    ghost by_slots = { λ s w m r a b. class_same s.how s.orders.now w m s.index s.failed r a b };
 }
 
 // A row leaves where its WHEN has index 1.
@@ -162,24 +169,21 @@ fn asks_equal(how: Leave) -> bool
     matches!(how, Leave::EqualWhen)
 }
 
-// The number of each open row's equality with its base, where the way of leaving asks for it.
-fn fill_codes(rule: &[u8], table: &[u8], work: &[u8], left: usize, how: Leave, codes: &mut [u8])
+// The order of each open row's base and WHEN, where the way of leaving asks for it.
+fn fill_orders(
+    rule: &[u8],
+    table: &[u8],
+    work: &[u8],
+    left: usize,
+    how: Leave,
+    orders: &mut [Order],
+)
     requires rows { Rows work.now 5632 left 512 }
-    requires in_bounds { (12288 ≤ length work.now) × (length codes.old ≡ 512) }
-    ensures { CodesFor how rule.now table.now work.now left codes.new }
+    requires in_bounds { (12288 ≤ length work.now) × (length orders.old ≡ 512) }
+    ensures { OrdersFor how rule.now table.now work.now left orders.new }
 {
     if asks_equal(how) {
-        compare_list(
-            rule,
-            table,
-            work,
-            5632,
-            left,
-            false,
-            false,
-            Value::Null,
-            codes,
-        );
+        compare_list(rule, table, work, 5632, left, false, Value::Null, orders);
     }
 }
 
@@ -227,11 +231,11 @@ pub(crate) fn settle(
     requires index_nonzero { (0 < index) × (0 < failed) }
     ensures { Settles (class_at how rule.now table.now work.old index failed) work.old left b.rows b result work.new }
 {
-    let mut codes = [0u8; 512];
-    fill_codes(rule, table, work, left, how, &mut codes);
+    let mut orders = [Order::Unlike; 512];
+    fill_orders(rule, table, work, left, how, &mut orders);
     let leaving = BySlots {
         how,
-        codes: &codes,
+        orders: &orders,
         index,
         failed,
     };
