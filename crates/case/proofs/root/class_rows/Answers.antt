@@ -25,7 +25,7 @@ pub returns-then-ne : goal.returns-then-ne
 returns-then-ne c = classes_none c.case_values.ensures.long c.root_results-place.ensures.kinds_long c.root_results-place.ensures.payloads_long
 
 pub nested_thens-requires : goal.nested_thens-requires
-nested_thens-requires c = record { framed = root_framed c.requires.root_asks 2 (omega arith); thens_ask = thens_ask (omega (arith, c.type_number-code.ensures, (c.is_number.ensures c.if-not-is_number.false).0)) c.case_values.ensures (search rules) c.if-place-eq0.false c.byte_at.ensures (omega (arith, c.byte_at.type_inv)) c.root_results-place.ensures }
+nested_thens-requires c = record { framed = root_framed c.requires.root_asks 2 (omega arith); thens_ask = thens_ask (omega (arith, c.number-code.ensures, (c.is_number.ensures c.if-not-is_number.false).0)) c.case_values.ensures (search rules) c.if-place-eq0.false c.byte_at.ensures (omega (arith, c.byte_at.type_inv)) c.root_results-place.ensures }
 
 pub shape_of-work : goal.shape_of-work
 shape_of-work c = c.nested_thens.ensures.long
@@ -40,4 +40,4 @@ pub shape_of-payloads : goal.shape_of-payloads
 shape_of-payloads c = c.nested_thens.ensures.arrays.1 ∙ sym c.requires.classes_len.2
 
 pub returns : goal.returns
-returns c = classes_give (omega (arith, c.type_number-code.ensures, (c.is_number.ensures c.if-not-is_number.false).0)) c.case_values.ensures (search rules) c.if-place-eq0.false c.byte_at.ensures (omega (arith, c.byte_at.type_inv)) c.root_results-place.ensures c.requires.root_asks c.type_number-code.ensures (omega (arith, c.type_number-code.ensures, (c.is_number.ensures c.if-not-is_number.false).1)) c.nested_thens.ensures
+returns c = classes_give (omega (arith, c.number-code.ensures, (c.is_number.ensures c.if-not-is_number.false).0)) c.case_values.ensures (search rules) c.if-place-eq0.false c.byte_at.ensures (omega (arith, c.byte_at.type_inv)) c.root_results-place.ensures c.requires.root_asks c.number-code.ensures (omega (arith, c.number-code.ensures, (c.is_number.ensures c.if-not-is_number.false).1)) c.nested_thens.ensures

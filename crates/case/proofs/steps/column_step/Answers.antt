@@ -13,4 +13,4 @@ pub index_column-requires : goal.index_column-requires
 index_column-requires c = record { tags_len = (refl, refl, omega arith); rows = (c.requires.rows.0, c.requires.rows.1); indices_len = c.requires.indices_len }
 
 pub returns : goal.returns
-returns c = step_gives c.type_number-code.ensures (omega (arith, c.if-code-gt4.false)) c.if-s-code.false refl refl c.index_column.ensures
+returns c = step_gives c.number-code.ensures (omega (arith, c.if-code-gt4.false)) c.if-s-code.false refl refl c.index_column.ensures

@@ -16,4 +16,4 @@ pub index_column-requires : goal.index_column-requires
 index_column-requires c = record { tags_len = (c.read_steps.ensures.tags_long, c.read_steps.ensures.keys_long, omega arith); rows = (c.requires.rows.0, omega (arith, c.requires.rows.1)); indices_len = c.requires.indices_len }
 
 pub returns : goal.returns
-returns c = column_gives c.type_number-code.ensures (omega (arith, c.if-code-gt4.false)) c.read_steps.ensures c.if-not-read_steps.false c.index_column.ensures
+returns c = column_gives c.number-code.ensures (omega (arith, c.if-code-gt4.false)) c.read_steps.ensures c.if-not-read_steps.false c.index_column.ensures
