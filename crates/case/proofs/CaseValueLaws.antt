@@ -1,5 +1,5 @@
 -- The rows of a CASE by index, from columns: the outcome of a row is the result of its index. Assumes nothing.
-use Rattle.std.proofs.Common.{◌≡◌, ℕ, ◌+◌, ◌*◌, ◌≤◌, Bool, true, List, ◌∷◌, ◌++◌, length, get_or, sym, refl, ap, ◌∙◌, subst, arith}
+use Rattle.std.proofs.Common.{◌≡◌, ℕ, ◌+◌, ◌*◌, ◌≤◌, Bool, true, List, ◌∷◌, ◌++◌, length, get_or, Option, Some, None, sym, refl, ap, ◌∙◌, subst, arith}
 use Rattle.layout.specs.Bytes.{byte}
 use Rattle.scalar.specs.declared.types.DataType.{DataType}
 use Rattle.rule.specs.declared.strategy.Strategy.{Strategy}
@@ -36,38 +36,39 @@ module _ {table : List ℕ} {t : Table} {w : List ℕ} {n : ℕ} (f : Framed tab
 
 module _ {rule table : List ℕ} {t : Table} {w : List ℕ} {n : ℕ} {values : List ℕ} where
   -- the steps that were read, or none
-  pub steps_found : {at count : ℕ} {served : Bool} → StepsGive rule at table t count w n served values → served ≡ true → CaseSteps rule at count table t w n values at
-  steps_found {at} {count} steps all = record { long = steps.long; at_is = λ h. refl; steps = λ h. subst (λ (b : Bool). StepsGive rule at table t count w n b values) all steps }
+  pub steps_found : {at count : ℕ} {served : Bool} → StepsGive rule at table t count w n served values → served ≡ true → CaseSteps rule at count table t w n values (Some at)
+  steps_found {at} {count} steps all = record { long = steps.long; steps = (refl, subst (λ (b : Bool). StepsGive rule at table t count w n b values) all steps) }
 
-  pub steps_missed : {at count : ℕ} → length values ≡ 512 → CaseSteps rule at count table t w n values 0
-  steps_missed e = record { long = e; at_is = λ h. absurd (h refl); steps = λ h. absurd (h refl) }
+  pub steps_missed : {at count : ℕ} → length values ≡ 512 → CaseSteps rule at count table t w n values None
+  steps_missed e = record { long = e; steps = tt }
 
   -- the keys that were found, or none
-  pub keys_found : {at end count place : ℕ} {served : Bool} → KeyedGive rule at end table t count w n served values → served ≡ true → EndGives rule at place → CaseKeys rule at end count table t w n values place
-  keys_found {at} {end} {count} keys all ends = record { long = keys.long; ends = λ h. ends; keys = λ h. subst (λ (b : Bool). KeyedGive rule at end table t count w n b values) all keys }
+  pub keys_found : {at end count place : ℕ} {served : Bool} → KeyedGive rule at end table t count w n served values → served ≡ true → EndGives rule at place → CaseKeys rule at end count table t w n values (Some place)
+  keys_found {at} {end} {count} keys all ends = record { long = keys.long; keys = (ends, subst (λ (b : Bool). KeyedGive rule at end table t count w n b values) all keys) }
 
-  pub keys_missed : {at end count : ℕ} → length values ≡ 512 → CaseKeys rule at end count table t w n values 0
-  keys_missed e = record { long = e; ends = λ h. absurd (h refl); keys = λ h. absurd (h refl) }
+  pub keys_missed : {at end count : ℕ} → length values ≡ 512 → CaseKeys rule at end count table t w n values None
+  keys_missed e = record { long = e; keys = tt }
 
 module _ {rule : List ℕ} {start end : ℕ} {table : List ℕ} {t : Table} {w : List ℕ} {n : ℕ} {values : List ℕ} where
-  pub values_none : length values ≡ 512 → CaseValues rule start end table t w n values 0
-  values_none e = record { long = e; each = λ h. absurd (h refl) }
+  pub values_none : length values ≡ 512 → CaseValues rule start end table t w n values None
+  values_none e = record { long = e; each = tt }
 
   -- by steps, of a CASE without a base
-  pub by_steps : {at count place : ℕ} {g s : Strategy} {served : Optional → Branches → Optional → Type 0} → byte rule start ≡ 25 → count ≡ byte rule (start + 4) → StrategyGives rule start end g → g ≡ s
+  pub by_steps : {at count : ℕ} {found : Option ℕ} {g s : Strategy} {served : Optional → Branches → Optional → Type 0} → byte rule start ≡ 25 → count ≡ byte rule (start + 4) → StrategyGives rule start end g → g ≡ s
       → ((b : Optional) (bs : Branches) (els : Optional) → s ≡ strategy_of b bs els → served b bs els) → ((b : Optional) (bs : Branches) (els : Optional) → served b bs els → b ≡ absent)
-      → ChildrenGives rule start at → CaseSteps rule at count table t w n values place → CaseValues rule start end table t w n values place
+      → ChildrenGives rule start at → CaseSteps rule at count table t w n values found → CaseValues rule start end table t w n values found
   unfolding eval type_of strategy
-  by_steps {at} {count} {place} tag counted gives is shape without children steps = record {
+  by_steps {found = None} tag counted gives is shape without children steps = record { long = steps.long; each = tt }
+  by_steps {at} {count} {found = Some place} tag counted gives is shape without children steps = record {
     long = steps.long;
-    each = λ h q l.
-        let x = (steps.steps h).each refl q l in
-        subst (λ (y : ℕ). CaseIndex rule start end table t y q (get_or values q 0)) (sym (steps.at_is h))
-        (record { some = x.some; few = omega (arith, x.few, counted); is = λ e depth node. go h q l e depth node (node_of_tag node tag) });
+    each = λ q l.
+        let x = steps.steps.1.each refl q l in
+        subst (λ (y : ℕ). CaseIndex rule start end table t y q (get_or values q 0)) (sym steps.steps.0)
+        (record { some = x.some; few = omega (arith, x.few, counted); is = λ e depth node. go q l e depth node (node_of_tag node tag) });
   }
     where
-      go : (place ≡ 0 → ⊥) → (q : ℕ) → Listed w 0 n q → (e : Expr) (depth : ℕ) → NodeAt rule start end e (depth + 1) → Tagged 25 e → CaseTree rule start end table t at depth q (get_or values q 0) e
-      go h q l e depth node (of_case b bs els) =
+      go : (q : ℕ) → Listed w 0 n q → (e : Expr) (depth : ℕ) → NodeAt rule start end e (depth + 1) → Tagged 25 e → CaseTree rule start end table t at depth q (get_or values q 0) e
+      go q l e depth node (of_case b bs els) =
           let row = row_in table t q in
           let none : b ≡ absent = without b bs els (shape b bs els (sym is ∙ gives.is (case_when b bs els) (depth + 1) node)) in
           let same : case_when b bs els ≡ case_when absent bs els = ap (λ (o : Optional). case_when o bs els) none in
@@ -82,22 +83,23 @@ module _ {rule : List ℕ} {start end : ℕ} {table : List ℕ} {t : Table} {w :
             outcome = λ to types.
                 ap (λ (x : Expr). eval x row) same
                 ∙ ap (λ (f : DataType). eval_branches bs row is_true_test (eval_else els row f)) (sym (types end (case_when absent bs els) (depth + 1) node'))
-                ∙ ((steps.steps h).each refl q l).is bs (optional_trees els) end depth (eval_else els row to) trees (count_is ∙ sym counted);
+                ∙ (steps.steps.1.each refl q l).is bs (optional_trees els) end depth (eval_else els row to) trees (count_is ∙ sym counted);
           }
 
   -- by a table of keys, of a CASE with a base
-  pub by_keys : {at count place : ℕ} {g : Strategy} → byte rule start ≡ 25 → count ≡ byte rule (start + 4) → StrategyGives rule start end g → g ≡ WithExprScalarLookupTable → ChildrenGives rule start at
-      → CaseKeys rule at end count table t w n values place → CaseValues rule start end table t w n values place
+  pub by_keys : {at count : ℕ} {found : Option ℕ} {g : Strategy} → byte rule start ≡ 25 → count ≡ byte rule (start + 4) → StrategyGives rule start end g → g ≡ WithExprScalarLookupTable → ChildrenGives rule start at
+      → CaseKeys rule at end count table t w n values found → CaseValues rule start end table t w n values found
   unfolding eval type_of strategy
-  by_keys {at} {count} {place} tag counted gives is children keys = record {
+  by_keys {found = None} tag counted gives is children keys = record { long = keys.long; each = tt }
+  by_keys {at} {count} {found = Some place} tag counted gives is children keys = record {
     long = keys.long;
-    each = λ h q l.
-        let x = (keys.keys h).each refl q l in
-        record { some = x.some; few = omega (arith, x.few, counted); is = λ e depth node. go h q l e depth node (node_of_tag node tag) };
+    each = λ q l.
+        let x = keys.keys.1.each refl q l in
+        record { some = x.some; few = omega (arith, x.few, counted); is = λ e depth node. go q l e depth node (node_of_tag node tag) };
   }
     where
-      go : (place ≡ 0 → ⊥) → (q : ℕ) → Listed w 0 n q → (e : Expr) (depth : ℕ) → NodeAt rule start end e (depth + 1) → Tagged 25 e → CaseTree rule start end table t place depth q (get_or values q 0) e
-      go h q l e depth node (of_case b bs els) =
+      go : (q : ℕ) → Listed w 0 n q → (e : Expr) (depth : ℕ) → NodeAt rule start end e (depth + 1) → Tagged 25 e → CaseTree rule start end table t place depth q (get_or values q 0) e
+      go q l e depth node (of_case b bs els) =
           let row = row_in table t q in
           let (x, base, serves) = shape_6 b bs els (sym is ∙ gives.is (case_when b bs els) (depth + 1) node) in
           let same : case_when b bs els ≡ case_when (present x) bs els = ap (λ (o : Optional). case_when o bs els) base in
@@ -107,10 +109,10 @@ module _ {rule : List ℕ} {start end : ℕ} {table : List ℕ} {t : Table} {w :
           record {
             bs = bs;
             els = els;
-            trees = (first_tree (keys.ends h) trees).1;
+            trees = (first_tree keys.keys.0 trees).1;
             counted = count_is;
             outcome = λ to types.
                 ap (λ (y : Expr). eval y row) same
                 ∙ ap (λ (f : DataType). with_base (eval x row) (λ test. eval_branches bs row test (eval_else els row f)) (eval_else els row f)) (sym (types end (case_when (present x) bs els) (depth + 1) node'))
-                ∙ ((keys.keys h).each refl q l).is x bs els depth (eval_else els row to) trees (count_is ∙ sym counted) serves;
+                ∙ (keys.keys.1.each refl q l).is x bs els depth (eval_else els row to) trees (count_is ∙ sym counted) serves;
           }

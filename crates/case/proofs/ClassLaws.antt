@@ -11,31 +11,6 @@ use Rattle.case.specs.Taking.{code_value, CodeRight}
 use Rattle.case.specs.Steps.{RowsIndexed}
 use Rattle.case.specs.Choosing.{leaving, null_outcome, true_outcome, class_at, class_coded, asks_equal, CodesFor}
 
-module _ {how : Leave} (codes w : List ℕ) (index failed r : ℕ) where
-  -- by a name for the way
-  named : {to : Leave} → how ≡ to → class_coded to codes w index failed r ≡ class_coded how codes w index failed r
-  named e = ap (λ (h : Leave). class_coded h codes w index failed r) (sym e)
-
-  pub class_null : how ≡ NullBase → {base : Value} → base ≡ slot_at w r → {k : ℕ}
-      → ((rule table : List ℕ) → k ≡ leaving null_outcome index failed (meaning rule table base)) → k ≡ class_coded how codes w index failed r
-  class_null e b p = p [] [] ∙ ap (λ (v : Value). leaving null_outcome index failed (meaning [] [] v)) b ∙ named e
-
-  pub class_true : how ≡ TrueWhen → {when : Value} → when ≡ next_slot w r → {k : ℕ}
-      → ((rule table : List ℕ) → k ≡ leaving true_outcome index failed (meaning rule table when)) → k ≡ class_coded how codes w index failed r
-  class_true e b p = p [] [] ∙ ap (λ (v : Value). leaving true_outcome index failed (meaning [] [] v)) b ∙ named e
-
-  pub class_equal : how ≡ EqualWhen → {v : Value} → v ≡ code_value (get_or codes r 0) → {k : ℕ}
-      → ((rule table : List ℕ) → k ≡ leaving true_outcome index failed (meaning rule table v)) → k ≡ class_coded how codes w index failed r
-  class_equal e b p = p [] [] ∙ ap (λ (v : Value). leaving true_outcome index failed (meaning [] [] v)) b ∙ named e
-
--- the class hangs on the row's two slots and its number alone
-pub class_same : (how : Leave) (codes w m : List ℕ) (index failed r : ℕ) → slot_at m r ≡ slot_at w r → next_slot m r ≡ next_slot w r
-    → class_coded how codes m index failed r ≡ class_coded how codes w index failed r
-class_same NullBase codes w m index failed r a b = ap (λ (v : Value). leaving null_outcome index failed (meaning [] [] v)) a
-class_same TrueWhen codes w m index failed r a b = ap (λ (v : Value). leaving true_outcome index failed (meaning [] [] v)) b
-class_same EqualWhen codes w m index failed r a b = refl
-class_same Rest codes w m index failed r a b = refl
-
 -- the numbers where they are asked for, and where they are not
 module _ {how : Leave} {rule table w : List ℕ} {left : ℕ} {codes : List ℕ} where
   pub codes_asked : RowsIndexed (λ r c. CodeRight false rule table (slot_at w r) (next_slot w r) c) w 5632 left codes → CodesFor how rule table w left codes

@@ -1,12 +1,12 @@
 -- Comparisons as numbers, and the slots that are filled by them. Assumes nothing.
-use Rattle.std.proofs.Common.{◌≡◌, ℕ, Bool, true, false, cond, not, ◌&&◌, eqb, List, get_or, sym, refl, ap, ◌∙◌, subst, ap₂, subst₂, arith, ne_eqb}
+use Rattle.std.proofs.Common.{◌≡◌, ℕ, Bool, true, false, cond, not, ◌&&◌, eqb, List, get_or, sym, refl, ap, ◌∙◌, subst, ap₂, subst₂, ne_eqb}
 use Rattle.scalar.specs.declared.order.Order.{Order}
 use Rattle.scalar.specs.declared.order.Order.TheVariants.{Less, Equal, Greater, SomeNull, SomeFailed, Unlike}
 use Rattle.scalar.specs.declared.value.Value.{Value}
-use Rattle.scalar.specs.declared.value.Value.TheVariants.{Null, Boolean, Int32, Int64, Float64, Nan, RuleText, TableText, Failed}
+use Rattle.scalar.specs.declared.value.Value.TheVariants.{Null, Boolean, Failed}
 use Rattle.scalar.specs.Compare.{equal_entry, less_entry}
-use Rattle.scalar.specs.Order.{order_of, key_of, is_text, text_in, text_order}
-use Rattle.scalar.specs.Value.{meaning, kind_of, Storable, GivesBoth}
+use Rattle.scalar.specs.Order.{order_of, key_of, is_text, text_order}
+use Rattle.scalar.specs.Value.{meaning, Storable, GivesBoth}
 use Rattle.scalar.proofs.CompareLaws.{compared, equal_gives, less_gives}
 use Rattle.case.specs.Frame.{Filled}
 use Rattle.case.specs.Steps.{RowsIndexed}
@@ -23,32 +23,9 @@ second_none a b p q = ap (λ (t : Bool). is_text (key_of a) && t) (sym p ∙ q) 
     go true = refl
     go false = refl
 
--- a text in the table is read there, every other in the rule
-pub in_table : (rule table : List ℕ) (v : Value) {k : ℕ} → k ≡ kind_of v → k ≡ 6 → text_in table table v ≡ text_in rule table v
-in_table rule table Null p q = refl
-in_table rule table (Boolean b) p q = refl
-in_table rule table (Int32 n) p q = refl
-in_table rule table (Int64 n) p q = refl
-in_table rule table (Float64 f) p q = refl
-in_table rule table (Nan n) p q = refl
-in_table rule table (RuleText start size) p q = absurd (omega arith)
-in_table rule table (TableText start size) p q = refl
-in_table rule table Failed p q = refl
-
-pub in_rule : (rule table : List ℕ) (v : Value) {k : ℕ} → k ≡ kind_of v → (k ≡ 6 → ⊥) → text_in rule rule v ≡ text_in rule table v
-in_rule rule table Null p q = refl
-in_rule rule table (Boolean b) p q = refl
-in_rule rule table (Int32 n) p q = refl
-in_rule rule table (Int64 n) p q = refl
-in_rule rule table (Float64 f) p q = refl
-in_rule rule table (Nan n) p q = refl
-in_rule rule table (RuleText start size) p q = refl
-in_rule rule table (TableText start size) p q = absurd (q p)
-in_rule rule table Failed p q = refl
-
 -- the order of two texts that were read there
-pub texts_are : {s t x y s' t' : List ℕ} {r : Order} → r ≡ text_order s t → s ≡ s' → t ≡ t' → s' ≡ x → t' ≡ y → r ≡ text_order x y
-texts_are e a b c d = e ∙ ap₂ text_order (a ∙ c) (b ∙ d)
+pub texts_are : {s t x y : List ℕ} {r : Order} → r ≡ text_order s t → s ≡ x → t ≡ y → r ≡ text_order x y
+texts_are e a b = e ∙ ap₂ text_order a b
 
 -- the value of an order's number is what the comparison says
 code_is : (less : Bool) (o : Order) → compared less (not less) false o ≡ code_value (order_code less o)

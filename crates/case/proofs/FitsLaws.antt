@@ -1,6 +1,8 @@
 -- Whether a table fits a rule, by the marks of the rule's columns. Assumes nothing.
-use Rattle.std.proofs.Common.{◌≡◌, ℕ, ◌+◌, ◌*◌, ◌%◌, ◌<◌, ◌≤◌, min, Bool, true, false, cond, not, ◌&&◌, ◌||◌, eqb, leb, ◌⊎◌, List, [], ◌∷◌, map, reverse, length, get_or, sym, refl, ap, ◌∙◌, ap₂, ⊎_elim, arith, eq-eqb, ne_eqb, eqb-true, le-leb}
-use mathlib.Core.Bool.{and-true, and-false}
+use Rattle.std.proofs.Common.{◌≡◌, ℕ, zero, suc, ◌-◌, drop, ◌+◌, ◌*◌, ◌%◌, ◌<◌, ◌≤◌, min, Bool, true, false, cond, not, ◌&&◌, ◌||◌, eqb, leb, ◌⊎◌, List, [], ◌∷◌, map, reverse, length, get_or, sym, refl, ap, ◌∙◌, ap₂, ⊎_elim, arith, eq-eqb, ne_eqb, eqb-true, le-leb}
+use Rattle.std.specs.List.{list_all}
+use Rattle.std.proofs.lemmas.List.{get_or-drop}
+use mathlib.Core.Bool.{and-true, and-false, false≢true}
 use mathlib.Core.List.{reverse_aux}
 use mathlib.Core.Option.{Option, some, none}
 use native.Mathlib.Decide.{dec_lt, ℕ_discrete}
@@ -21,7 +23,7 @@ use Rattle.table.specs.Column.{TableColumn}
 use Rattle.table.specs.Places.{column_in, table_in, no_place}
 use Rattle.table.proofs.EntryLaws.{column_missing, column_there}
 use Rattle.case.specs.Fits.{column_fits, columns_fit}
-use Rattle.case.specs.Fitting.{mark_fits, Beyond, FitsGives}
+use Rattle.case.specs.Fitting.{mark_fits, FitsGives}
 
 -- the mark of a column says what the column does
 mark_says : (c : Column) (d : Option TableColumn) → mark_fits (mark_of c) d ≡ column_fits c d
@@ -201,34 +203,28 @@ module _ {A : Type 0} (f : ColumnPlace → A) (t : Table) (long : length (map f 
 
 -- ---- the marks beyond a table's columns
 
-pub beyond_none : {marks : List ℕ} → Beyond marks 16 0
-beyond_none = record { above = λ i a b. absurd (omega arith); one = λ n. absurd (n refl) }
+-- marks that are all 0
+no_mark : (marks : List ℕ) → list_all (λ (m : ℕ). eqb m 0) marks ≡ true → (i : ℕ) → get_or marks i 0 ≡ 0
+no_mark [] e i = refl
+no_mark (m ∷ marks) e zero = eqb-true m 0 (both_hold (eqb m 0) (list_all (λ (x : ℕ). eqb x 0) marks) e).0
+no_mark (m ∷ marks) e (suc i) = no_mark marks (both_hold (eqb m 0) (list_all (λ (x : ℕ). eqb x 0) marks) e).1 i
 
--- one more mark: a greater one, or not
-module _ {marks : List ℕ} {n most : ℕ} (b : Beyond marks n most) (from : 16 ≤ n) where
-  upto_next : {m : ℕ} → most ≤ m → get_or marks n 0 ≤ m → (i : ℕ) → 16 ≤ i → i < n + 1 → Dec (i ≡ n) → get_or marks i 0 ≤ m
-  upto_next h k i a l (yes e) = let same : get_or marks i 0 ≡ get_or marks n 0 = ap (λ (j : ℕ). get_or marks j 0) e in omega arith
-  upto_next h k i a l (no e) = omega (arith, b.above i a (omega arith))
-
-  pub beyond_greater : {m : ℕ} → most < get_or marks n 0 → m ≡ get_or marks n 0 → Beyond marks (n + 1) m
-  beyond_greater h e = record { above = λ i a l. upto_next (omega arith) (omega arith) i a l (ℕ_discrete i n); one = λ _. (n, from, sym e) }
-
-  pub beyond_less : {m : ℕ} → get_or marks n 0 ≤ most → m ≡ most → Beyond marks (n + 1) m
-  beyond_less h e = record {
-    above = λ i a l. upto_next (omega arith) (omega arith) i a l (ℕ_discrete i n);
-    one = λ d. let w = b.one (λ z. d (e ∙ z)) in (w.0, w.1, w.2 ∙ sym e);
-  }
-
-pub beyond_all : {marks : List ℕ} {n most : ℕ} → 256 ≤ n → Beyond marks n most → Beyond marks 256 most
-beyond_all h b = record { above = λ i a l. b.above i a (omega arith); one = b.one }
+-- marks of which one is not
+some_mark : (marks : List ℕ) → list_all (λ (m : ℕ). eqb m 0) marks ≡ false → (i : ℕ) × (get_or marks i 0 ≡ 0 → ⊥)
+some_mark [] f = absurd (false≢true (sym f))
+some_mark (m ∷ marks) f = go (eqb m 0) refl (some_mark marks)
+  where
+    go : (t : Bool) → eqb m 0 ≡ t → (list_all (λ (x : ℕ). eqb x 0) marks ≡ false → (i : ℕ) × (get_or marks i 0 ≡ 0 → ⊥)) → (i : ℕ) × (get_or (m ∷ marks) i 0 ≡ 0 → ⊥)
+    go true e later = let l = later (ap (λ (b : Bool). b && list_all (λ (x : ℕ). eqb x 0) marks) (sym e) ∙ f) in (suc l.0, l.1)
+    go false e later = (0, eqb-false m 0 e)
 
 -- all marks below 16 fit: the table does where there is none beyond
-pub beyond_fits : {A : Type 0} (f : ColumnPlace → A) (seen : Seen) (t : Table) → length (map f t.columns) ≡ 16 → {i most : ℕ} → Fitted seen.marks t i → 16 ≤ i
-    → Beyond seen.marks 256 most → FitsGives seen t (eqb most 0)
-beyond_fits f seen t long {i} {most} all last b = go (eqb most 0) refl
-  where
-    go : (r : Bool) → eqb most 0 ≡ r → FitsGives seen t r
-    go true e = table_fits seen t all last (λ j h l. let z : most ≡ 0 = eqb-true most 0 e in omega (arith, b.above j h l))
-    go false e =
-        let w = b.one (eqb-false most 0 e) in
-        table_misfits seen t w.0 (λ z. eqb-false most 0 e (sym w.2 ∙ z)) (index_missing f t long (get_or seen.marks w.0 0) w.0 (omega (arith, w.1)))
+pub beyond_fits : {A : Type 0} (f : ColumnPlace → A) (seen : Seen) (t : Table) → length (map f t.columns) ≡ 16 → {i : ℕ} → Fitted seen.marks t i → 16 ≤ i
+    → (r : Bool) → r ≡ list_all (λ (m : ℕ). eqb m 0) (drop 16 seen.marks) → FitsGives seen t r
+beyond_fits f seen t long {i} all last true e =
+    table_fits seen t all last (λ j h l. let at : 16 + (j - 16) ≡ j = omega arith in
+    ap (λ (k : ℕ). get_or seen.marks k 0) (sym at) ∙ sym (get_or-drop 16 seen.marks (j - 16) 0) ∙ no_mark (drop 16 seen.marks) (sym e) (j - 16))
+beyond_fits f seen t long {i} all last false e =
+    let w = some_mark (drop 16 seen.marks) (sym e) in
+    let at : get_or (drop 16 seen.marks) w.0 0 ≡ get_or seen.marks (16 + w.0) 0 = get_or-drop 16 seen.marks w.0 0 in
+    table_misfits seen t (16 + w.0) (λ z. w.1 (at ∙ z)) (index_missing f t long (get_or seen.marks (16 + w.0) 0) (16 + w.0) (omega arith))

@@ -8,7 +8,6 @@ use Rattle.scalar.specs.declared.types.DataType.{DataType}
 use Rattle.scalar.specs.declared.types.DataType.TheVariants as Of
 use Rattle.scalar.specs.declared.value.Value.{Value}
 use Rattle.scalar.specs.declared.value.Value.TheVariants.{Null, Boolean, Int32, Int64, Float64, Nan, RuleText, TableText, Failed}
-use Rattle.scalar.specs.declared.order.Key.{Key}
 use Rattle.scalar.specs.declared.order.Key.TheVariants as Keys
 use Rattle.scalar.specs.Types.{type_number}
 use Rattle.scalar.specs.Entry.{Entry, null, boolean, int32, int64, float64, utf8, Outcome, entry, unfit}
@@ -28,14 +27,13 @@ use Rattle.table.specs.declared.places.Table.{Table}
 use Rattle.table.specs.Column as columns
 use Rattle.table.specs.Column.{valid_in, entry_at}
 use Rattle.table.specs.Places.{column_in, no_place}
-use Rattle.case.specs.declared.primitive_lookup_table.NumberKey.{NumberKey}
 use Rattle.case.specs.ColumnSlots.{text_entry}
 use Rattle.case.specs.Evaluation.{row_in}
 use Rattle.case.specs.Choosing.{true_outcome}
 use Rattle.case.specs.Frame.{Rows}
 use Rattle.case.specs.LookUp.{KeyedGive}
 use Rattle.case.specs.LookUpTables.{same_key, found, value_at, key_index, Keys, EachOnce}
-use Rattle.case.specs.LookUpColumns.{number_hint, text_hint, outcome_hint, Hinted, number_key, NumberOf, NumbersRead, number_found, NumberTable, NumberRow, TextTable, TextRow, ColumnKeyed, BaseGives}
+use Rattle.case.specs.LookUpColumns.{number_hint, text_hint, outcome_hint, Hinted, NumberOf, NumbersRead, number_found, NumberTable, NumberRow, TextTable, TextRow, ColumnKeyed, BaseGives}
 use Rattle.case.specs.Steps.{KeyAt, KeysAt, RowsIndexed}
 use Rattle.case.proofs.LookUpLaws.{found_same, found_none, found_below, same_one, null_first}
 use Rattle.case.proofs.CellLaws.{cell_found}
@@ -112,13 +110,6 @@ number_of_lem (RuleText a n) s k = let z : ◌≡◌ {A = ℕ} 0 1 = cc in absur
 number_of_lem (TableText a n) s k = let z : ◌≡◌ {A = ℕ} 0 1 = cc in absurd (omega arith)
 number_of_lem Failed s k = let z : ◌≡◌ {A = ℕ} 0 1 = cc in absurd (omega arith)
 
--- a key of a kind is a number
-key_number : (k : Key) {x : NumberKey} {kind : ℕ} → x ≡ number_key k → x.kind ≡ kind → 0 < kind → k ≡ Keys.Number kind x.number
-key_number Keys.Null {x} e p h = let z : x.kind ≡ 0 = ap (λ (y : NumberKey). y.kind) e in absurd (omega arith)
-key_number Keys.Failed {x} e p h = let z : x.kind ≡ 0 = ap (λ (y : NumberKey). y.kind) e in absurd (omega arith)
-key_number (Keys.Number k n) {x} e p h = ap₂ Keys.Number (sym (ap (λ (y : NumberKey). y.kind) e) ∙ p) (sym (ap (λ (y : NumberKey). y.number) e))
-key_number Keys.Text {x} e p h = let z : x.kind ≡ 0 = ap (λ (y : NumberKey). y.kind) e in absurd (omega arith)
-
 -- where the loop stands: the numbers of k keys are read
 pub record NumbersSoFar (kinds keys : List ℕ) (size kind k : ℕ) (numbers hints : List ℕ) : Type 0 where
   pub few : k ≤ size
@@ -136,26 +127,26 @@ numbers_none {numbers = numbers} a b zeros = record {
 
 module _ {kinds keys : List ℕ} {size kind k : ℕ} {numbers hints : List ℕ} (s : NumbersSoFar kinds keys size kind k numbers hints) where
   -- one more
-  pub numbers_more : {v : Value} {key : Key} {x : NumberKey} {h : ℕ} → k < size → size ≤ 32 → 0 < kind → get_or keys k 0 < 2 ^ 64 → v ≡ value_at kinds keys k → key ≡ key_of v → x ≡ number_key key → x.kind ≡ kind
-      → h ≡ number_hint x.number → NumbersSoFar kinds keys size kind (k + 1) (set numbers k x.number) (set hints h (k + 1))
-  numbers_more {v} {key} {x} {h} more room some fits value_is key_is x-is kind_is hint-is = record {
+  pub numbers_more : {v : Value} {of number h : ℕ} → k < size → size ≤ 32 → get_or keys k 0 < 2 ^ 64 → v ≡ value_at kinds keys k → Keys.Number of number ≡ key_of v → of ≡ kind
+      → h ≡ number_hint number → NumbersSoFar kinds keys size kind (k + 1) (set numbers k number) (set hints h (k + 1))
+  numbers_more {v} {of} {number} {h} more room fits value_is key_is kind_is hint-is = record {
     few = omega arith;
-    numbers_long = length-set numbers k x.number ∙ s.numbers_long;
+    numbers_long = length-set numbers k number ∙ s.numbers_long;
     each = λ j l. each_at j l (ℕ_discrete j k);
     hinted = hints_more {hint = λ j. number_hint (get_or numbers' j 0)} (hints_same {hint = λ j. number_hint (get_or numbers j 0)} {hint' = λ j. number_hint (get_or numbers' j 0)} (λ j l. ap number_hint (old j (λ e. omega arith))) s.hinted) (hint-is ∙ ap number_hint (sym new)) (omega arith);
   }
     where
       numbers' : List ℕ
-      numbers' = set numbers k x.number
+      numbers' = set numbers k number
 
-      new : get_or numbers' k 0 ≡ x.number
-      new = get_or-set_same numbers k x.number 0 (omega (arith, s.numbers_long))
+      new : get_or numbers' k 0 ≡ number
+      new = get_or-set_same numbers k number 0 (omega (arith, s.numbers_long))
 
       old : (j : ℕ) → (j ≡ k → ⊥) → get_or numbers' j 0 ≡ get_or numbers j 0
-      old j d = get_or-set_other numbers k j x.number 0 d
+      old j d = get_or-set_other numbers k j number 0 d
 
-      here : NumberOf (value_at kinds keys k) kind x.number
-      here = number_of_lem (value_at kinds keys k) (value_of_stores (get_or kinds k 0) (get_or keys k 0) fits) (sym (ap key_of value_is) ∙ sym key_is ∙ key_number key x-is kind_is some)
+      here : NumberOf (value_at kinds keys k) kind number
+      here = number_of_lem (value_at kinds keys k) (value_of_stores (get_or kinds k 0) (get_or keys k 0) fits) (sym (ap key_of value_is) ∙ sym key_is ∙ ap (λ (x : ℕ). Keys.Number x number) kind_is)
 
       each_at : (j : ℕ) → j < k + 1 → Dec (j ≡ k) → NumberOf (value_at kinds keys j) kind (get_or numbers' j 0)
       each_at j l (yes e) = subst (λ (i : ℕ). NumberOf (value_at kinds keys i) kind (get_or numbers' i 0)) (sym e) (subst (λ (y : ℕ). NumberOf (value_at kinds keys k) kind y) (sym new) here)

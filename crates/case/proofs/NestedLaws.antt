@@ -1,5 +1,8 @@
 -- The classes of rows by a CASE of literals that is a THEN of the root. Assumes nothing.
-use Rattle.std.proofs.Common.{◌≡◌, ℕ, zero, suc, ◌+◌, ◌-◌, ◌*◌, ◌<◌, ◌≤◌, Bool, true, false, cond, eqb, ◌⊎◌, List, length, get_or, set, sym, refl, ap, ◌∙◌, subst, ap₂, inl, inr, arith, length-set, get_or-set_other, get_or-set_same, eq-eqb, ne_eqb, eqb-true}
+use Rattle.std.proofs.Common.{◌≡◌, ℕ, zero, suc, ◌+◌, ◌-◌, ◌*◌, ◌<◌, ◌≤◌, Bool, true, false, cond, eqb, ◌⊎◌, List, length, get_or, set, sym, refl, ap, ◌∙◌, subst, ap₂, inl, inr, arith, length-set, get_or-set_other, get_or-set_same, eq-eqb, ne_eqb, eqb-true, Option, Some, ◌&&◌, take, drop, length-drop}
+use Rattle.std.specs.List.{list_all}
+use Rattle.std.proofs.lemmas.List.{get_or-drop}
+use Rattle.std.proofs.lemmas.List.Folds.{list_all_more}
 use mathlib.Core.Bool.{false≢true}
 use native.Mathlib.Decide.{ℕ_discrete, dec_lt}
 use Rattle.layout.specs.Bytes.{byte}
@@ -22,30 +25,25 @@ use Rattle.case.proofs.BranchLaws.{branch_at, branch_stands, behind_none, behind
 
 -- ---- the kinds of the classes
 
--- where the loop stands: what is left gives the answer
-pub record KindsLeft (kinds : List ℕ) (k from count left : ℕ) : Type 0 where
-  pub few : left ≤ count
-  pub same : all_of_kind kinds k from count ≡ all_of_kind kinds k from left
-
-pub kinds_start : {kinds : List ℕ} {k from count : ℕ} → KindsLeft kinds k from count count
-kinds_start = record { few = omega arith; same = refl }
-
-module _ {kinds : List ℕ} {k from count left : ℕ} (s : KindsLeft kinds k from count left) where
-  one_left : 0 < left → all_of_kind kinds k from count ≡ cond (eqb (get_or kinds (from + left) 0) k) (all_of_kind kinds k from (left - 1)) false
-  unfolding all_of_kind
-  one_left h =
-      let e : left ≡ suc (left - 1) = omega arith in
-      s.same ∙ ap (all_of_kind kinds k from) e ∙ ap (λ (n : ℕ). cond (eqb (get_or kinds (from + n) 0) k) (all_of_kind kinds k from (left - 1)) false) (sym e)
-
-  pub kinds_differ : 0 < left → (get_or kinds (from + left) 0 ≡ k → ⊥) → false ≡ all_of_kind kinds k from count
-  kinds_differ h d = sym (one_left h ∙ ap (λ (b : Bool). cond b (all_of_kind kinds k from (left - 1)) false) (ne_eqb (get_or kinds (from + left) 0) k d))
-
-  pub kinds_less : 0 < left → get_or kinds (from + left) 0 ≡ k → KindsLeft kinds k from count (left - 1)
-  kinds_less h e = record { few = (let f = s.few in omega arith); same = one_left h ∙ ap (λ (b : Bool). cond b (all_of_kind kinds k from (left - 1)) false) (eq-eqb (get_or kinds (from + left) 0) k e) }
-
-  pub kinds_end : left ≤ 0 → true ≡ all_of_kind kinds k from count
-  unfolding all_of_kind
-  kinds_end h = let e : left ≡ 0 = omega arith in sym (s.same ∙ ap (all_of_kind kinds k from) e)
+-- they are a part of the kinds
+pub kinds_all : (kinds : List ℕ) (k from n : ℕ) → from + n < length kinds → all_of_kind kinds k from n ≡ list_all (λ (x : ℕ). eqb x k) (take n (drop (from + 1) kinds))
+unfolding all_of_kind
+kinds_all kinds k from zero h = refl
+kinds_all kinds k from (suc n) h =
+    let one : from + 1 + n ≡ from + suc n = omega arith in
+    let more : n + 1 ≡ suc n = omega arith in
+    let at : get_or (drop (from + 1) kinds) n 0 ≡ get_or kinds (from + suc n) 0 = get_or-drop (from + 1) kinds n 0 ∙ ap (λ (i : ℕ). get_or kinds i 0) one in
+    ap (λ (b : Bool). cond (eqb (get_or kinds (from + suc n) 0) k) b false) (kinds_all kinds k from n (omega arith))
+    ∙ turned (eqb (get_or kinds (from + suc n) 0) k) (list_all (λ (x : ℕ). eqb x k) (take n (drop (from + 1) kinds)))
+    ∙ ap (λ (i : ℕ). list_all (λ (x : ℕ). eqb x k) (take n (drop (from + 1) kinds)) && eqb i k) (sym at)
+    ∙ sym (list_all_more (λ (x : ℕ). eqb x k) (drop (from + 1) kinds) n 0 (omega (arith, length-drop (from + 1) kinds)))
+    ∙ ap (λ (i : ℕ). list_all (λ (x : ℕ). eqb x k) (take i (drop (from + 1) kinds))) more
+  where
+    turned : (a b : Bool) → cond a b false ≡ (b && a)
+    turned true true = refl
+    turned true false = refl
+    turned false true = refl
+    turned false false = refl
 
 -- each of them
 kind_at : (kinds : List ℕ) (k from n : ℕ) → all_of_kind kinds k from n ≡ true → (j : ℕ) → j < n → get_or kinds (from + suc j) 0 ≡ k
@@ -63,56 +61,6 @@ kind_at kinds k from (suc n) all j h = go (eqb (get_or kinds (from + suc n) 0) k
 -- arrays that nothing was put into
 pub grown_none : {from : ℕ} {kinds payloads : List ℕ} → Arrays kinds payloads → Grown from kinds payloads kinds payloads
 grown_none a = record { arrays = a; kinds_same = λ c h. refl; payloads_same = λ c h. refl }
-
--- where the loop stands: those below k are copied
-pub record CopiedSoFar (from count : ℕ) (block-kinds block-payloads kinds payloads kinds' payloads' : List ℕ) (k : ℕ) : Type 0 where
-  pub first : 1 ≤ k
-  pub few : k ≤ count + 2
-  pub copied : BlockCopied from (k - 1) block-kinds block-payloads kinds payloads kinds' payloads'
-
-pub copied_none : {from count : ℕ} {block-kinds block-payloads kinds payloads : List ℕ} → Arrays kinds payloads
-    → CopiedSoFar from count block-kinds block-payloads kinds payloads kinds payloads 1
-copied_none a = record {
-  first = omega arith;
-  few = omega arith;
-  copied = record {
-    grown = grown_none a;
-    kinds_are = λ k l h. absurd (omega arith);
-    payloads_are = λ k l h. absurd (omega arith);
-  };
-}
-
-module _ {from count : ℕ} {block-kinds block-payloads kinds payloads kinds' payloads' : List ℕ} {k : ℕ} (s : CopiedSoFar from count block-kinds block-payloads kinds payloads kinds' payloads' k) where
-  pub copied_next : from + count + 3 ≤ 258 → k ≤ count + 1
-      → CopiedSoFar from count block-kinds block-payloads kinds payloads (set kinds' (from + k) (get_or block-kinds k 0)) (set payloads' (from + k) (get_or block-payloads k 0)) (k + 1)
-  copied_next room more = record {
-    first = omega arith;
-    few = omega arith;
-    copied = record {
-      grown = record {
-        arrays = (length-set kinds' (from + k) (get_or block-kinds k 0) ∙ g.arrays.0, length-set payloads' (from + k) (get_or block-payloads k 0) ∙ g.arrays.1);
-        kinds_same = λ c h. get_or-set_other kinds' (from + k) c (get_or block-kinds k 0) 0 (λ e. omega (arith, s.first)) ∙ g.kinds_same c h;
-        payloads_same = λ c h. get_or-set_other payloads' (from + k) c (get_or block-payloads k 0) 0 (λ e. omega (arith, s.first)) ∙ g.payloads_same c h;
-      };
-      kinds_are = λ j l h. put block-kinds kinds' g.arrays.0 s.copied.kinds_are j l h (ℕ_discrete j k);
-      payloads_are = λ j l h. put block-payloads payloads' g.arrays.1 s.copied.payloads_are j l h (ℕ_discrete j k);
-    };
-  }
-    where
-      g : Grown from kinds payloads kinds' payloads'
-      g = s.copied.grown
-
-      put : (block into : List ℕ) → length into ≡ 258 → ((j : ℕ) → 1 ≤ j → j ≤ k - 1 → get_or into (from + j) 0 ≡ get_or block j 0) → (j : ℕ) → 1 ≤ j → j ≤ k + 1 - 1 → Dec (j ≡ k)
-          → get_or (set into (from + k) (get_or block k 0)) (from + j) 0 ≡ get_or block j 0
-      put block into long are j l h (yes e) =
-          ap (λ (i : ℕ). get_or (set into (from + k) (get_or block k 0)) (from + i) 0) e ∙ get_or-set_same into (from + k) (get_or block k 0) 0 (omega arith) ∙ ap (λ (i : ℕ). get_or block i 0) (sym e)
-      put block into long are j l h (no e) = get_or-set_other into (from + k) (from + j) (get_or block k 0) 0 (λ d. e (omega arith)) ∙ are j l (omega arith)
-
-  pub copied_all : count + 1 < k → BlockCopied from (count + 1) block-kinds block-payloads kinds payloads kinds' payloads'
-  copied_all all =
-      let f = s.few in
-      let e : k - 1 ≡ count + 1 = omega arith in
-      subst (λ (m : ℕ). BlockCopied from m block-kinds block-payloads kinds payloads kinds' payloads') e s.copied
 
 -- the literals that were read, behind a class
 pub block_read : {rule : List ℕ} {at end count : ℕ} {to : DataType} {from : ℕ} {block-kinds block-payloads kinds payloads kinds' payloads' : List ℕ}
@@ -206,14 +154,14 @@ nested_give {rule} {start} {end} {code} {from} {place} {count} {kinds' = kinds'}
   };
 }
 
-module _ {rule : List ℕ} {start end : ℕ} {table : List ℕ} {t : Table} {code from : ℕ} {w : List ℕ} {n : ℕ} {values kinds payloads kinds' payloads' : List ℕ} {found place : ℕ}
-    (v : CaseValues rule start end table t w n values found) (is : found ≡ place) (there : place ≡ 0 → ⊥) (results : NestedResults rule start end code from kinds payloads place kinds' payloads') where
-  given_index : found ≡ 0 → ⊥
-  given_index e = there (sym is ∙ e)
+module _ {rule : List ℕ} {start end : ℕ} {table : List ℕ} {t : Table} {code from : ℕ} {w : List ℕ} {n : ℕ} {values kinds payloads kinds' payloads' : List ℕ} {found : Option ℕ} {place : ℕ}
+    (v : CaseValues rule start end table t w n values found) (is : found ≡ Some place) (there : place ≡ 0 → ⊥) (results : NestedResults rule start end code from kinds payloads place kinds' payloads') where
+  given : CaseValues rule start end table t w n values (Some place)
+  given = subst (λ (x : Option ℕ). CaseValues rule start end table t w n values x) is v
 
   -- an index of a CASE's results lies in the classes behind a class
   pub index_in : (q : ℕ) → Listed w 0 n q → from + get_or values q 0 < 258
-  index_in q l = let f = (v.each given_index q l).few in let r = (results.found there).room in omega arith
+  index_in q l = let f = (given.each q l).few in let r = (results.found there).room in omega arith
 
   -- the literal at a row's index behind a class is the row's outcome
   pub case_classed : {classes classes' : List ℕ} {count : ℕ} → count ≡ byte rule (start + 4) → 0 < code → Numbered w n values from classes classes'
@@ -224,27 +172,27 @@ module _ {rule : List ℕ} {start end : ℕ} {table : List ℕ} {t : Table} {cod
     few = room;
     onward = λ m. omega arith;
     others = numbered.others;
-    here = λ m q l. subst (ClassRight rule start end table t kinds' payloads' code from (from + count + 3) q) (sym (numbered.here q l)) (right_at q (v.each given_index q l));
+    here = λ m q l. subst (ClassRight rule start end table t kinds' payloads' code from (from + count + 3) q) (sym (numbered.here q l)) (right_at q (given.each q l));
   }
     where
       room : from + count + 3 ≤ 258
       room = let r = (results.found there).room in omega arith
 
-      read : BlockRead rule found end (byte rule (start + 4)) (results.found there).type from kinds' payloads'
-      read = subst (λ (x : ℕ). BlockRead rule x end (byte rule (start + 4)) (results.found there).type from kinds' payloads') (sym is) (results.found there).read
+      read : BlockRead rule place end (byte rule (start + 4)) (results.found there).type from kinds' payloads'
+      read = (results.found there).read
 
       of_kind : (c : ℕ) → 0 < c → c ≤ byte rule (start + 4) + 1 → get_or kinds' (from + c) 0 ≡ code
       of_kind zero a b = absurd (omega arith)
       of_kind (suc j) a b = kind_at kinds' code from (byte rule (start + 4) + 1) (results.found there).of_kind j (omega arith)
 
-      by : (q c : ℕ) → 0 < c → c ≤ byte rule (start + 4) + 1 → (e : Expr) (depth : ℕ) → CaseTree rule start end table t found depth q c e
+      by : (q c : ℕ) → 0 < c → c ≤ byte rule (start + 4) + 1 → (e : Expr) (depth : ℕ) → CaseTree rule start end table t place depth q c e
           → meaning rule table (value_at kinds' payloads' (from + c)) ≡ eval e (row_in table t q)
       by q zero a b e depth tree = absurd (omega arith)
       by q (suc j) a b e depth tree =
           read.held tree.bs tree.els depth (row_in table t q) table tree.trees tree.counted j (omega arith) (λ z. let k = of_kind (suc j) a b in omega arith)
           ∙ sym (tree.outcome (results.found there).type (results.found there).type_is)
 
-      right_at : (q : ℕ) → CaseIndex rule start end table t found q (get_or values q 0) → ClassRight rule start end table t kinds' payloads' code from (from + count + 3) q (from + get_or values q 0)
+      right_at : (q : ℕ) → CaseIndex rule start end table t place q (get_or values q 0) → ClassRight rule start end table t kinds' payloads' code from (from + count + 3) q (from + get_or values q 0)
       right_at q x = record {
         above = (let a = x.some in omega arith);
         below = (let b = x.few in omega arith);

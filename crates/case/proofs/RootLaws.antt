@@ -1,5 +1,5 @@
 -- The classes of a table's rows by the root CASE: the outcome of a row is the literal of its class. Assumes nothing.
-use Rattle.std.proofs.Common.{◌≡◌, ℕ, ◌+◌, ◌<◌, ◌≤◌, Bool, true, false, List, ◌++◌, length, get_or, sym, refl, ap, ◌∙◌, subst, inr, arith}
+use Rattle.std.proofs.Common.{◌≡◌, ℕ, ◌+◌, ◌<◌, ◌≤◌, Bool, true, false, List, length, get_or, sym, refl, ap, ◌∙◌, subst, inr, arith, Option, Some}
 use mathlib.Core.Bool.{false≢true}
 use Rattle.layout.specs.Bytes.{byte}
 use Rattle.scalar.specs.declared.types.DataType.{DataType}
@@ -7,7 +7,7 @@ use Rattle.scalar.specs.Types.{type_number}
 use Rattle.scalar.specs.Value.{meaning, value_of}
 use Rattle.rule.specs.Tree.{Expr}
 use Rattle.rule.specs.Row.{eval, eval_else}
-use Rattle.rule.specs.Walks.{branch_trees, optional_trees, TreesAt, TypeGives}
+use Rattle.rule.specs.Walks.{optional_trees, TypeGives}
 use Rattle.table.specs.declared.places.Table.{Table}
 use Rattle.writer.specs.Write.{class_value}
 use Rattle.case.specs.Frame.{Listed}
@@ -72,11 +72,11 @@ module _ {rule kinds payloads : List ℕ} {place code count : ℕ} {to : DataTyp
 
 -- ---- the classes
 
-module _ {rule table : List ℕ} {t : Table} {w classes kinds payloads : List ℕ} {found place code count : ℕ} (low : 2 ≤ code)
-    (values : CaseValues rule 0 (length rule) table t w t.rows classes found) (is : found ≡ place) (there : place ≡ 0 → ⊥) (counted : count ≡ byte rule 4) (small : count ≤ 255)
+module _ {rule table : List ℕ} {t : Table} {w classes kinds payloads : List ℕ} {found : Option ℕ} {place code count : ℕ} (low : 2 ≤ code)
+    (values : CaseValues rule 0 (length rule) table t w t.rows classes found) (is : found ≡ Some place) (there : place ≡ 0 → ⊥) (counted : count ≡ byte rule 4) (small : count ≤ 255)
     (results : RootResults rule code place kinds payloads) where
-  given_index : found ≡ 0 → ⊥
-  given_index e = there (sym is ∙ e)
+  given_values : CaseValues rule 0 (length rule) table t w t.rows classes (Some place)
+  given_values = subst (λ (x : Option ℕ). CaseValues rule 0 (length rule) table t w t.rows classes x) is values
 
   read : ResultsRead rule place (length rule) count results.type kinds payloads
   read = subst (λ (n : ℕ). ResultsRead rule place (length rule) n results.type kinds payloads) (sym counted) (results.read there)
@@ -87,7 +87,7 @@ module _ {rule table : List ℕ} {t : Table} {w classes kinds payloads : List �
     arrays = (results.kinds_long, results.payloads_long);
     some_kind = omega arith;
     few = small;
-    each = λ q l. let x = values.each given_index q l in (x.some, (let f = x.few in omega arith));
+    each = λ q l. let x = given_values.each q l in (x.some, (let f = x.few in omega arith));
     else_kind = subst (λ (n : ℕ). get_or kinds (n + 1) 0 ≡ code) (sym counted) (results.else_kind there);
   }
 
@@ -108,14 +108,14 @@ module _ {rule table : List ℕ} {t : Table} {w classes kinds payloads : List �
         below = λ i l. (thens.here h i (root_listed asks i l)).below;
       };
     };
-    right = λ h. record { right = λ e node i l. means h e i l ((values.each given_index i (root_listed asks i l)).is e 7 node) };
+    right = λ h. record { right = λ e node i l. means h e i l ((given_values.each i (root_listed asks i l)).is e 7 node) };
   }
     where
-      means : given ≡ true → (e : Expr) (i : ℕ) → i < t.rows → CaseTree rule 0 (length rule) table t found 7 i (get_or classes i 0) e
+      means : given ≡ true → (e : Expr) (i : ℕ) → i < t.rows → CaseTree rule 0 (length rule) table t place 7 i (get_or classes i 0) e
           → meaning rule table (class_value result classes' payloads' i) ≡ eval e (row_in table t i)
       means h e i l tree =
           let row = row_in table t i in
-          let trees = subst (λ (x : ℕ). TreesAt rule x (length rule) (branch_trees tree.bs ++ optional_trees tree.els) 7) is tree.trees in
+          let trees = tree.trees in
           let many = tree.counted ∙ sym counted in
           ap (λ (k : ℕ). meaning rule table (value_of k (get_or payloads' (get_or classes' i 0) 0))) (sym ((thens.here h i (root_listed asks i l)).kind_is ∙ code_is))
           ∙ (thens.here h i (root_listed asks i l)).means tree.bs (optional_trees tree.els) (length rule) (eval_else tree.els row results.type) trees many

@@ -1,5 +1,5 @@
 -- Loops over the listed rows of the work buffer: one row a turn. Assumes nothing.
-use Rattle.std.proofs.Common.{◌≡◌, ℕ, ◌+◌, ◌*◌, ◌<◌, ◌≤◌, List, length, set, sym, refl, ap, ◌∙◌, subst, inl, ⊎_elim, arith, length-set, get_or-set_other, get_or-set_same}
+use Rattle.std.proofs.Common.{◌≡◌, ℕ, ◌+◌, ◌-◌, ◌*◌, ◌<◌, ◌≤◌, List, length, sym, refl, ap, ◌∙◌, subst, inl, ⊎_elim, arith}
 use native.Mathlib.Decide.{ℕ_discrete}
 use Rattle.layout.specs.Bytes.{byte}
 use Rattle.scalar.specs.declared.value.Value.{Value}
@@ -119,45 +119,20 @@ module _ {right : ℕ → Value → Type 0} {w : List ℕ} {n i : ℕ} {m : List
     pub next : {v : Value} {m' : List ℕ} → SlotPut m r v m' → right r v → FilledSoFar right w n (i + 1) m'
     next = next_from s (own ok) more e
 
--- ---- a list, copied behind it byte by byte
+-- ---- a list, copied behind it
 
--- where the loop stands: i bytes are copied
-pub record CopiedSoFar (w : List ℕ) (n from to i : ℕ) (w' : List ℕ) : Type 0 where
-  pub few : i ≤ 2 * n
-  pub long : length w' ≡ length w
-  pub bytes_copied : (k : ℕ) → k < i → byte w' (to + k) ≡ byte w (from + k)
-  pub before : (j : ℕ) → j < to → byte w' j ≡ byte w j
-
-pub copied_none : {w : List ℕ} {n from to : ℕ} → CopiedSoFar w n from to 0 w
-copied_none = record { few = omega arith; long = refl; bytes_copied = λ k h. absurd (omega arith); before = λ j h. refl }
-
-pub copied_more : {w : List ℕ} {n from to i : ℕ} {m : List ℕ} → CopiedSoFar w n from to i m → from + 2 * n ≤ to → to + 2 * n ≤ length w → i < 2 * n
-    → CopiedSoFar w n from to (i + 1) (set m (to + i) (byte m (from + i)))
-copied_more {w} {n} {from} {to} {i} {m} s apart room more = record {
-  few = omega arith;
-  long = length-set m (to + i) (byte m (from + i)) ∙ s.long;
-  bytes_copied = λ k h. copied_at k h (ℕ_discrete k i);
-  before = λ j h. get_or-set_other m (to + i) j (byte m (from + i)) 0 (λ e. omega arith) ∙ s.before j h;
-}
-  where
-    copied_at : (k : ℕ) → k < i + 1 → Dec (k ≡ i) → byte (set m (to + i) (byte m (from + i))) (to + k) ≡ byte w (from + k)
-    copied_at k h (yes e) =
-        subst (λ (x : ℕ). byte (set m (to + i) (byte m (from + i))) (to + x) ≡ byte w (from + x)) (sym e)
-        (get_or-set_same m (to + i) (byte m (from + i)) 0 (omega (arith, s.long)) ∙ s.before (from + i) (omega arith))
-    copied_at k h (no e) = get_or-set_other m (to + i) (to + k) (byte m (from + i)) 0 (λ p. e (omega arith)) ∙ s.bytes_copied k (omega arith)
-
-pub copied_all : {w : List ℕ} {n from to i : ℕ} {w' : List ℕ} → CopiedSoFar w n from to i w' → 2 * n ≤ i → Copied w n from to w'
-copied_all {w} {n} {from} {to} {i} {w'} s all = record {
-  long = s.long;
+pub copied : {w w' : List ℕ} {n from to : ℕ} → (from + 2 * n ≤ to) × (to + 2 * n ≤ length w) → length w' ≡ length w
+    → ((k : ℕ) → to ≤ k → k < to + 2 * n → byte w' k ≡ byte w (from + (k - to))) → ((k : ℕ) → k < to → byte w' k ≡ byte w k) → Copied w n from to w'
+copied {w} {w'} {n} {from} {to} ask long same before = record {
+  long = long;
   rows_copied = λ k h. number_same 2 w' w (to + 2 * k) (from + 2 * k) (λ j b. byte_at k h j b);
-  before = s.before;
+  before = before;
 }
   where
     byte_at : (k : ℕ) → k < n → (j : ℕ) → j < 2 → byte w' (to + 2 * k + j) ≡ byte w (from + 2 * k + j)
     byte_at k h j b =
-        let p : to + 2 * k + j ≡ to + (2 * k + j) = omega arith in
-        let q : from + (2 * k + j) ≡ from + 2 * k + j = omega arith in
-        ap (byte w') p ∙ s.bytes_copied (2 * k + j) (omega arith) ∙ ap (byte w) q
+        let q : from + (to + 2 * k + j - to) ≡ from + 2 * k + j = omega arith in
+        same (to + 2 * k + j) (omega arith) (omega arith) ∙ ap (byte w) q
 
 -- ---- all rows, put in the frame's own list
 

@@ -10,6 +10,7 @@ use Rattle.builder.specs.Builder.{Builder, holds, or_else}
 use Rattle.builder.specs.BuilderStruct.{builder_of, new_answer, finish_answer}
 use Rattle.builder.proofs.BuilderLaws.{new_gives, finish_gives}
 use Rattle.case.specs.Frame.{row_at, Rows, Listed}
+use Rattle.case.specs.declared.settle.Settled.{Settled}
 use Rattle.case.specs.Choosing.{held_by, Open, Settles}
 use Rattle.case.specs.Parting.{Among, Parted, PartAsks, PartGives}
 use Rattle.case.proofs.PartLaws.{answer_is}
@@ -157,3 +158,17 @@ module _ {class : ℕ → ℕ} {w : List ℕ} {left : ℕ} {b : ResultBuilder} (
       gone = gone_held;
       others = others_kept;
     }
+
+-- the same by classes that are those of the listed rows
+pub settles_as : {class class' : ℕ → ℕ} {w : List ℕ} {left rows : ℕ} {b : ResultBuilder} {r : Settled} {w' : List ℕ} → ((q : ℕ) → Listed w 5632 left q → class q ≡ class' q)
+    → Settles class w left rows b r w' → Settles class' w left rows b r w'
+settles_as same s = record {
+  long = s.long;
+  low = s.low;
+  high = s.high;
+  still_open = s.still_open;
+  stays = λ q l. let t = s.stays q l in (t.0, sym (same q t.0) ∙ t.1);
+  kept = λ q l z. s.kept q l (same q l ∙ z);
+  gone = λ q l n. s.gone q l (λ z. n (sym (same q l) ∙ z)) ∙ ap some (same q l);
+  others = s.others;
+}

@@ -112,13 +112,3 @@ module _ {wanted : ℕ → Type 0} {from : ℕ → ℕ} {i : ℕ} {to : ℕ → 
       rising_at k l a b (yes e) =
           subst (λ (x : ℕ). to' k < to' x) (sym e) (omega (arith, new, below k (omega arith)))
       rising_at k l a b (no e) = omega (arith, same k (omega arith), same l (omega arith), s.rising k l a (omega arith))
-
--- by another reason that takes the same rows
-pub sifted_as : {wanted wanted' : ℕ → Type 0} {from : ℕ → ℕ} {n : ℕ} {to : ℕ → ℕ} {m : ℕ} → ((r : ℕ) → Among from n r → wanted r → wanted' r) → ((r : ℕ) → Among from n r → wanted' r → wanted r)
-    → Sifted wanted from n to m → Sifted wanted' from n to m
-sifted_as {to = to} f g s = record {
-  few = s.few;
-  taken = λ k h. let t = s.taken k h in (t.0, f (to k) t.0 t.1);
-  all = λ r a w. s.all r a (g r a w);
-  rising = s.rising;
-}

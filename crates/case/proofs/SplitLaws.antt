@@ -2,13 +2,10 @@
 use Rattle.std.proofs.Common.{◌≡◌, ℕ, ◌+◌, ◌-◌, ◌*◌, ◌<◌, ◌≤◌, List, length, get_or, set, sym, refl, ap, ◌∙◌, subst, arith, length-set, get_or-set_other, get_or-set_same}
 use native.Mathlib.Decide.{ℕ_discrete}
 use Rattle.layout.specs.Bytes.{byte}
-use Rattle.case.specs.declared.settle.Leave.{Leave}
-use Rattle.case.specs.Frame.{row_at, Rows, Listed}
-use Rattle.case.specs.Choosing.{class_coded}
+use Rattle.case.specs.Frame.{row_at, slot_at, next_slot, Rows}
 use Rattle.case.specs.Parting.{RowPut, Sifted, Parted}
 use Rattle.case.proofs.SlotLaws.{number_same, slot_same, next_same}
-use Rattle.case.proofs.ClassLaws.{class_same}
-use Rattle.case.proofs.SiftLaws.{put_kept, sifted_none, sifted_miss, sifted_hit, sifted_as}
+use Rattle.case.proofs.SiftLaws.{put_kept, sifted_none, sifted_miss, sifted_hit}
 
 -- where the loop stands: i of the n rows are done, m of them leave
 pub record SplitSoFar (class : ℕ → ℕ) (w : List ℕ) (n size size' i m : ℕ) (rows values w' : List ℕ) : Type 0 where
@@ -50,18 +47,6 @@ split_ends {class} {w} {n} {size} {size'} {i} {m} {rows} {values} {w'} s ok h =
       classes = s.classes;
     }
 
--- by classes that are the same at the rows of the list
-pub parted_as : {class class' : ℕ → ℕ} {w : List ℕ} {n m : ℕ} {rows values w' : List ℕ} → ((q : ℕ) → Listed w 5632 n q → class q ≡ class' q) → Parted class w n m rows values w'
-    → Parted class' w n m rows values w'
-parted_as {rows = rows} same g = record {
-  long = g.long;
-  low = g.low;
-  high = g.high;
-  stay = sifted_as (λ r l z. sym (same r l) ∙ z) (λ r l z. same r l ∙ z) g.stay;
-  gone = sifted_as (λ r l f z. f (same r l ∙ z)) (λ r l f z. f (sym (same r l) ∙ z)) g.gone;
-  classes = λ k h. g.classes k h ∙ same (get_or rows k 0) (g.gone.taken k h).0;
-}
-
 -- by other names
 moved : {class : ℕ → ℕ} {w : List ℕ} {n size size' i m m' : ℕ} {rows values w' rows' values' x : List ℕ} → SplitSoFar class w n size size' i m rows values w'
     → x ≡ w' → rows' ≡ rows → values' ≡ values → m' ≡ m → SplitSoFar class w n size size' i m' rows' values' x
@@ -96,12 +81,12 @@ module _ {class : ℕ → ℕ} {w : List ℕ} {n size size' i m : ℕ} {rows val
     stay_in = (omega (arith, ok.few, s.long), omega (arith, split_fits.0))
 
     -- its slots are as they were
-    pub class_kept : (how : Leave) (codes : List ℕ) (index failed : ℕ) → class_coded how codes w' index failed r ≡ class_coded how codes w index failed r
-    class_kept how codes index failed =
+    pub slots_kept : (slot_at w' r ≡ slot_at w r) × (next_slot w' r ≡ next_slot w r)
+    slots_kept =
         let small = split_fits.0 in
         let upto = s.upto in
         let few = ok.few in
-        class_same how codes w w' index failed r (slot_same w' w r (λ j a b. s.low j (omega arith))) (next_same w' w r (λ j a b. s.tail j (omega arith)))
+        (slot_same w' w r (λ j a b. s.low j (omega arith)), next_same w' w r (λ j a b. s.tail j (omega arith)))
 
     -- it stays
     stayed : {w'' : List ℕ} → RowPut w' 5632 (i - m) r w'' → class r ≡ 0 → SplitSoFar class w n size size' (i + 1) m rows values w''

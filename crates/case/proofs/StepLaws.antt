@@ -1,5 +1,5 @@
 -- WHENs that compare one column with literals: how they are read, and that a row's index by its number is that of its branch. Assumes nothing.
-use Rattle.std.proofs.Common.{◌≡◌, ℕ, zero, suc, ◌+◌, ◌-◌, ◌*◌, ◌<◌, ◌≤◌, min, Bool, true, false, cond, eqb, ltb, ◌⊎◌, List, [], ◌∷◌, ◌++◌, map, length, get_or, set, sym, refl, ap, ◌∙◌, subst, ap₂, inl, inr, arith, length-set, get_or-set_other, get_or-set_same}
+use Rattle.std.proofs.Common.{◌≡◌, ℕ, zero, suc, ◌+◌, ◌-◌, ◌*◌, ◌<◌, ◌≤◌, min, Bool, true, false, cond, eqb, ltb, ◌⊎◌, List, [], ◌∷◌, ◌++◌, map, length, get_or, set, Option, Some, None, IfSome, sym, refl, ap, ◌∙◌, subst, ap₂, inl, inr, arith, length-set, get_or-set_other, get_or-set_same}
 use mathlib.Core.Bool.{false≢true}
 use native.Mathlib.Decide.{ℕ_discrete}
 use Rattle.layout.specs.Bytes.{byte}
@@ -28,16 +28,12 @@ use Rattle.case.specs.declared.steps.Step.{Step}
 use Rattle.case.specs.Frame.{row_at, Rows, Listed}
 use Rattle.case.specs.LookUpTables.{found}
 use Rattle.case.specs.Evaluation.{row_in, result_at, indexed}
-use Rattle.case.specs.Steps.{StepsGive, no_step, step_of, Sides, SidesGive, step_entry, StepWhen, StepGives, when_at, StepsAt, StepsRead, step_passes, step_index, EntryIndex, KeyAt, RowIndex, RowsIndexed, ColumnGives, WhenIndex, StepRows, WhenGives}
+use Rattle.case.specs.Steps.{StepsGive, step_of, Sides, SidesGive, step_entry, StepWhen, StepGives, when_at, StepsAt, StepsRead, step_passes, step_index, EntryIndex, KeyAt, RowIndex, RowsIndexed, ColumnGives, WhenIndex, StepRows, WhenGives}
 use Rattle.case.proofs.LookUpLaws.{found_none, found_below}
 use Rattle.case.proofs.BranchLaws.{branch_at, branch_stands, behind_none, behind_two}
 use Rattle.case.proofs.CellLaws.{cell_found}
 
 -- ---- one step
-
--- a node that is none
-pub step_none : {rule : List ℕ} {start end : ℕ} {s : Step} → s ≡ no_step → StepGives rule start end s
-step_none e = record { is = λ h. absurd (h (ap (λ (s : Step). s.tag) e)) }
 
 -- a node's tag stands before the end
 pub tag_inside : (l : List ℕ) (i b : ℕ) → b ≡ byte l i → b ≡ 16 → i < length l
@@ -45,34 +41,12 @@ tag_inside [] i b e h = absurd (omega arith)
 tag_inside (x ∷ l) zero b e h = omega arith
 tag_inside (x ∷ l) (suc i) b e h = let k = tag_inside l i b e h in omega arith
 
--- a step is compared by a number
-record ByNumber (tag c : ℕ) (k : Key) (s : Step) : Type 0 where
-  kind : ℕ
-  key : ℕ
-  key_is : k ≡ Keys.Number kind key
-  step_is : s ≡ record { tag = tag; column = c; kind = kind; key = key }
-
-by_number : (tag c : ℕ) (k : Key) (s : Step) → s ≡ step_of tag c k → (s.tag ≡ 0 → ⊥) → ByNumber tag c k s
-by_number tag c Keys.Null s e h = absurd (h (ap (λ (s : Step). s.tag) e))
-by_number tag c Keys.Failed s e h = absurd (h (ap (λ (s : Step). s.tag) e))
-by_number tag c (Keys.Number kind key) s e h = record { kind = kind; key = key; key_is = refl; step_is = e }
-by_number tag c Keys.Text s e h = absurd (h (ap (λ (s : Step). s.tag) e))
-
--- two sides of which one is no column, or the other no literal
-pub sides_none : {rule : List ℕ} {tag at literal end : ℕ} {s : Step} → s ≡ no_step → SidesGive rule tag at literal end s
-sides_none e = record { tag_is = λ h. absurd (h (ap (λ (s : Step). s.tag) e)); is = λ h. absurd (h (ap (λ (s : Step). s.tag) e)) }
-
 -- a column beside a literal
-pub sides_some : {rule : List ℕ} {tag at literal end c : ℕ} (v : Value) {k : Key} {s : Step} → byte rule at ≡ 16 → byte rule literal ≡ 17 → c ≡ byte rule (at + 3)
-    → LiteralGives rule literal end v → k ≡ key_of v → s ≡ step_of tag c k → SidesGive rule tag at literal end s
+pub sides_some : (rule : List ℕ) (tag at literal end : ℕ) {c : ℕ} (v : Value) {k : Key} {s : Option Step} → byte rule at ≡ 16 → byte rule literal ≡ 17 → c ≡ byte rule (at + 3)
+    → LiteralGives rule literal end v → k ≡ key_of v → s ≡ step_of tag c k → IfSome s (SidesGive rule tag at literal end)
 unfolding eval
-sides_some {rule} {tag} {at} {literal} {end} {c} v {k} {s} column_tag literal_tag index gives key_is s-is = record {
-  tag_is = λ h. ap (λ (x : Step). x.tag) (by_number tag c k s s-is h).step_is;
-  is = λ h a b behind depth first second.
-      let n = by_number tag c k s s-is h in
-      subst (λ (x : Step). Sides x.column x.kind x.key a b) (sym n.step_is)
-      (go n.key_is a b first second (node_of_tag first column_tag) (node_of_tag second literal_tag));
-}
+sides_some rule tag at literal end {c} v {k} {s} column_tag literal_tag index gives key_is s-is =
+    subst (λ (x : Option Step). IfSome x (SidesGive rule tag at literal end)) (sym s-is) (by k refl)
   where
     go : {kind key behind depth : ℕ} → k ≡ Keys.Number kind key → (a b : Expr) → NodeAt rule at behind a depth → NodeAt rule literal end b depth → Tagged 16 a → Tagged 17 b → Sides c kind key a b
     go {depth = depth} number a b first second (of_column x) (of_literal t y) =
@@ -84,19 +58,29 @@ sides_some {rule} {tag} {at} {literal} {end} {c} v {k} {s} column_tag literal_ta
           right = λ row. refl;
         }
 
+    by : (l : Key) → k ≡ l → IfSome (step_of tag c l) (SidesGive rule tag at literal end)
+    by Keys.Null e = tt
+    by Keys.Failed e = tt
+    by (Keys.Number kind key) e = record {
+      tag_is = refl;
+      is = λ a b behind depth first second. go e a b first second (node_of_tag first column_tag) (node_of_tag second literal_tag);
+    }
+    by Keys.Text e = tt
+
 -- the literal less than the column, told from the column's side
 exchanged : (o : Outcome) (v : Entry) → on_entries less_entry (entry v) o ≡ on_entries (step_entry 26) o (entry v)
 exchanged (entry a) v = refl
 exchanged unfit v = refl
 
 -- a comparison by its sides, where the column stands first or the literal does
-module _ {rule : List ℕ} {start at middle end tag : ℕ} {s : Step} (read : tag ≡ byte rule start) (children : ChildrenGives rule start at) (ends : EndGives rule at middle) where
-  pub step_column : (tag ≡ 23) ⊎ (tag ≡ 24) → SidesGive rule tag at middle end s → StepGives rule start end s
+module _ {rule : List ℕ} {start at middle tag : ℕ} (end : ℕ) (read : tag ≡ byte rule start) (children : ChildrenGives rule start at) (ends : EndGives rule at middle) where
+  pub step_column : (s : Option Step) → (tag ≡ 23) ⊎ (tag ≡ 24) → IfSome s (SidesGive rule tag at middle end) → IfSome s (StepGives rule start end)
   unfolding eval
-  step_column either sides = record {
-    is = λ h e depth node.
-        subst (λ (y : ℕ). StepWhen y s.column s.kind s.key e) (sym (sides.tag_is h))
-        (told e either (node_of_tag node (sym read)) (λ a b trees. let (first, rest) = first_tree ends trees in sides.is h a b middle (depth - 1) first (trees_one rest)) (children.stand end e depth node));
+  step_column None either sides = tt
+  step_column (Some s) either sides = record {
+    is = λ e depth node.
+        subst (λ (y : ℕ). StepWhen y s.column s.kind s.key e) (sym sides.tag_is)
+        (told e either (node_of_tag node (sym read)) (λ a b trees. let (first, rest) = first_tree ends trees in sides.is a b middle (depth - 1) first (trees_one rest)) (children.stand end e depth node));
   }
     where
       told : {tag c kind key depth : ℕ} (e : Expr) → (tag ≡ 23) ⊎ (tag ≡ 24) → Tagged tag e → ((a b : Expr) → TreesAt rule at end (a ∷ b ∷ []) depth → Sides c kind key a b)
@@ -124,12 +108,13 @@ module _ {rule : List ℕ} {start at middle end tag : ℕ} {s : Step} (read : ta
       told e (inl p) (of_case a b d) sides trees = absurd (omega arith)
       told e (inr p) (of_case a b d) sides trees = absurd (omega arith)
 
-  pub step_literal : tag ≡ 24 → SidesGive rule 26 middle at middle s → StepGives rule start end s
+  pub step_literal : (s : Option Step) → tag ≡ 24 → IfSome s (SidesGive rule 26 middle at middle) → IfSome s (StepGives rule start end)
   unfolding eval
-  step_literal is-less sides = record {
-    is = λ h e depth node.
-        subst (λ (y : ℕ). StepWhen y s.column s.kind s.key e) (sym (sides.tag_is h))
-        (told e (node_of_tag node (sym read ∙ is-less)) (λ a b trees. let (first, rest) = first_tree ends trees in sides.is h b a end (depth - 1) (trees_one rest) first) (children.stand end e depth node));
+  step_literal None is-less sides = tt
+  step_literal (Some s) is-less sides = record {
+    is = λ e depth node.
+        subst (λ (y : ℕ). StepWhen y s.column s.kind s.key e) (sym sides.tag_is)
+        (told e (node_of_tag node (sym read ∙ is-less)) (λ a b trees. let (first, rest) = first_tree ends trees in sides.is b a end (depth - 1) (trees_one rest) first) (children.stand end e depth node));
   }
     where
       told : {c kind key depth : ℕ} (e : Expr) → Tagged 24 e → ((a b : Expr) → TreesAt rule at end (a ∷ b ∷ []) depth → Sides c kind key b a) → TreesAt rule at end (children_of e) depth
@@ -163,9 +148,9 @@ steps_none {rule} {at} t k small = record {
 
 module _ {rule : List ℕ} {at count column kind place i : ℕ} {tags keys : List ℕ} (s : StepsSoFar rule at count column kind place i tags keys) where
   -- one more
-  pub steps_more : {then next : ℕ} {x : Step} → i < count → EndGives rule place then → StepGives rule place then x → (x.tag ≡ 0 → ⊥) → x.column ≡ column → x.kind ≡ kind
+  pub steps_more : {then next : ℕ} {x : Step} → i < count → EndGives rule place then → StepGives rule place then x → x.column ≡ column → x.kind ≡ kind
       → EndGives rule then next → StepsSoFar rule at count column kind next (i + 1) (set tags i x.tag) (set keys i x.key)
-  steps_more {then} {next} {x} more to-then step some column_is kind_is to-next = record {
+  steps_more {then} {next} {x} more to-then step column_is kind_is to-next = record {
     few = omega arith;
     small = s.small;
     tags_long = length-set tags i x.tag ∙ s.tags_long;
@@ -180,7 +165,7 @@ module _ {rule : List ℕ} {at count column kind place i : ℕ} {tags keys : Lis
           let (node, others) = first_tree to-then (branch_stands rest s.behind b trees) in
           subst (StepWhen x.tag column kind x.key) (sym b.when)
           (subst (λ (y : ℕ). StepWhen x.tag y kind x.key b.when_is) column_is
-          (subst (λ (y : ℕ). StepWhen x.tag x.column y x.key b.when_is) kind_is (step.is some b.when_is depth node)))
+          (subst (λ (y : ℕ). StepWhen x.tag x.column y x.key b.when_is) kind_is (step.is b.when_is depth node)))
 
       stays : {a b c d : ℕ} {e : Expr} → a ≡ b → c ≡ d → StepWhen a column kind c e → StepWhen b column kind d e
       stays {a} {b} {c} {d} {e} p q h = subst (λ (y : ℕ). StepWhen b column kind y e) q (subst (λ (y : ℕ). StepWhen y column kind c e) p h)
@@ -444,10 +429,10 @@ module _ {rule : List ℕ} {start end : ℕ} {table : List ℕ} {t : Table} {w :
   pub when_refused : {asked : Bool} {values : List ℕ} → length values ≡ 512 → WhenGives asked rule start end table t w at n false values
   when_refused e = record { long = e; wanted = λ h. absurd (false≢true h); each = λ h. absurd (false≢true h) }
 
-  pub when_gives : {A : Type 0} (f : ColumnPlace → A) {asked : Bool} {s : Step} {served : Bool} {values : List ℕ} → asked ≡ true → StepGives rule start end s → (s.tag ≡ 0 → ⊥) → length (map f t.columns) ≡ 16
+  pub when_gives : {A : Type 0} (f : ColumnPlace → A) {asked : Bool} {s : Step} {served : Bool} {values : List ℕ} → asked ≡ true → StepGives rule start end s → length (map f t.columns) ≡ 16
       → s.column < min t.count 16 → StepRows s table (get_or t.columns s.column no_place) w at n served values → WhenGives asked rule start end table t w at n served values
-  when_gives f {s = s} yes-asked step some long there g = record {
+  when_gives f {s = s} yes-asked step long there g = record {
     long = g.long;
     wanted = λ h. yes-asked;
-    each = λ h q l e depth node. (g.each h q l).is e (row_in table t q) (step.is some e depth node) (cell_found f table t long s.column there q);
+    each = λ h q l e depth node. (g.each h q l).is e (row_in table t q) (step.is e depth node) (cell_found f table t long s.column there q);
   }

@@ -1,10 +1,12 @@
 -- Choosing, in the work buffer: which rows leave the open list of a CASE, and with which index of the builder (01, Strategies: `ResultBuilder`;
 -- What changes shape: one index a row).
-use Rattle.std.specs.Prelude.{◌≡◌, ℕ, ◌<◌, ◌≤◌, Bool, true, false, cond, List, [], length, ◌==◌, ◌≢◌, slice_index, slice_index_or}
+use Rattle.std.specs.Prelude.{◌≡◌, refl, ℕ, ◌<◌, ◌≤◌, Bool, true, false, cond, List, [], length, ◌==◌, ◌≢◌, slice_index, slice_index_or}
+use Rattle.std.proofs.Common.{ap}
 use Rattle.std.proofs.Math.Option.{Option, some, none}
 use Rattle.layout.specs.Bytes.{byte}
 use Rattle.scalar.specs.Entry.{Outcome, entry, unfit, is_null, is_true_entry, on_entries}
 use Rattle.scalar.specs.Compare.{equal_entry}
+use Rattle.scalar.specs.declared.value.Value.{Value}
 use Rattle.scalar.specs.Value.{meaning}
 use Rattle.builder.specs.declared.ResultBuilder.{ResultBuilder}
 use Rattle.builder.specs.Builder.{holds}
@@ -47,6 +49,14 @@ class_coded NullBase codes w index failed r = leaving null_outcome index failed 
 class_coded TrueWhen codes w index failed r = leaving true_outcome index failed (meaning [] [] (next_slot w r))
 class_coded EqualWhen codes w index failed r = leaving true_outcome index failed (meaning [] [] (code_value (slice_index codes r)))
 class_coded Rest codes w index failed r = index
+
+-- the class hangs on the row's two slots and its number alone
+pub class_same : (how : Leave) (codes w m : List ℕ) (index failed r : ℕ) → slot_at m r ≡ slot_at w r → next_slot m r ≡ next_slot w r
+    → class_coded how codes m index failed r ≡ class_coded how codes w index failed r
+class_same NullBase codes w m index failed r a b = ap (λ (v : Value). leaving null_outcome index failed (meaning [] [] v)) a
+class_same TrueWhen codes w m index failed r a b = ap (λ (v : Value). leaving true_outcome index failed (meaning [] [] v)) b
+class_same EqualWhen codes w m index failed r a b = refl
+class_same Rest codes w m index failed r a b = refl
 
 -- whether a way of leaving asks for a true WHEN
 abbrev pub asks_true : Leave → Bool

@@ -1,6 +1,6 @@
 -- The classes of a table's rows, where every result of the rule is a number literal or, as a THEN, a CASE of number literals: the index of the literal that is the row's entry
 -- (01, What changes shape: one index a row).
-use Rattle.std.specs.Prelude.{◌≡◌, ℕ, zero, suc, ◌+◌, ◌<◌, ◌≤◌, Bool, true, false, cond, List, ◌++◌, length, ◌==◌, ◌≢◌, slice_index, slice_index_or}
+use Rattle.std.specs.Prelude.{◌≡◌, ℕ, zero, suc, ◌+◌, ◌<◌, ◌≤◌, Bool, true, false, cond, List, ◌++◌, length, ◌==◌, ◌≢◌, slice_index, slice_index_or, Option, IfSome}
 use Rattle.layout.specs.Bytes.{byte}
 use Rattle.scalar.specs.declared.types.DataType.{DataType}
 use Rattle.scalar.specs.Entry.{Outcome}
@@ -49,22 +49,20 @@ pub record CaseIndex (rule : List ℕ) (start end : ℕ) (table : List ℕ) (t :
   pub few : c ≤ byte rule (start + 4) + 1
   pub is : (e : Expr) (depth : ℕ) → NodeAt rule start end e (depth + 1) → CaseTree rule start end table t place depth q c e
 
--- of each listed row; place 0 is none
-pub record CaseValues (rule : List ℕ) (start end : ℕ) (table : List ℕ) (t : Table) (w : List ℕ) (n : ℕ) (values : List ℕ) (place : ℕ) : Type 0 where
+-- of each listed row, where a place is found
+pub record CaseValues (rule : List ℕ) (start end : ℕ) (table : List ℕ) (t : Table) (w : List ℕ) (n : ℕ) (values : List ℕ) (found : Option ℕ) : Type 0 where
   pub long : length values ≡ 512
-  pub each : (place ≢ 0) → (q : ℕ) → Listed w 0 n q → CaseIndex rule start end table t place q (slice_index values q)
+  pub each : IfSome found (λ place. (q : ℕ) → Listed w 0 n q → CaseIndex rule start end table t place q (slice_index values q))
 
--- the index of each listed row by steps at a place; place 0 is none
-pub record CaseSteps (rule : List ℕ) (at count : ℕ) (table : List ℕ) (t : Table) (w : List ℕ) (n : ℕ) (values : List ℕ) (place : ℕ) : Type 0 where
+-- the index of each listed row by steps at a place, where that is found
+pub record CaseSteps (rule : List ℕ) (at count : ℕ) (table : List ℕ) (t : Table) (w : List ℕ) (n : ℕ) (values : List ℕ) (found : Option ℕ) : Type 0 where
   pub long : length values ≡ 512
-  pub at_is : (place ≢ 0) → place ≡ at
-  pub steps : (place ≢ 0) → StepsGive rule at table t count w n true values
+  pub steps : IfSome found (λ place. (place ≡ at) × StepsGive rule at table t count w n true values)
 
--- the index of each listed row by the keys behind a base at a place; place 0 is none
-pub record CaseKeys (rule : List ℕ) (at end count : ℕ) (table : List ℕ) (t : Table) (w : List ℕ) (n : ℕ) (values : List ℕ) (place : ℕ) : Type 0 where
+-- the index of each listed row by the keys behind a base at a place, where the place behind that is found
+pub record CaseKeys (rule : List ℕ) (at end count : ℕ) (table : List ℕ) (t : Table) (w : List ℕ) (n : ℕ) (values : List ℕ) (found : Option ℕ) : Type 0 where
   pub long : length values ≡ 512
-  pub ends : (place ≢ 0) → EndGives rule at place
-  pub keys : (place ≢ 0) → KeyedGive rule at end table t count w n true values
+  pub keys : IfSome found (λ place. EndGives rule at place × KeyedGive rule at end table t count w n true values)
 
 -- ---- the literals of the classes
 

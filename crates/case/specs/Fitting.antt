@@ -1,5 +1,5 @@
 -- What testing a table against a rule promises, by the marks of the columns that the rule names (01, Where a call stops: 13).
-use Rattle.std.specs.Prelude.{◌≡◌, ℕ, ◌%◌, ◌<◌, ◌≤◌, Bool, false, not, ◌&&◌, ◌||◌, List, ◌==◌, ◌≢◌, nat_le, slice_index}
+use Rattle.std.specs.Prelude.{◌≡◌, ℕ, ◌%◌, Bool, false, not, ◌&&◌, ◌||◌, List, ◌==◌, nat_le}
 use Rattle.std.proofs.Math.Option.{Option, some, none}
 use Rattle.scalar.specs.Types.{type_number}
 use Rattle.rule.specs.declared.seen.Seen.{Seen}
@@ -14,11 +14,6 @@ use Rattle.case.specs.Fits.{fits}
 abbrev pub mark_fits : ℕ → Option TableColumn → Bool
 mark_fits m none = false
 mark_fits m (some d) = m % 8 == type_number d.type && (nat_le 8 m || not d.nullable)
-
--- the greatest of the marks from 16 on and below n; a table has at most 16 columns (01, Where a call stops: 10)
-pub record Beyond (marks : List ℕ) (n most : ℕ) : Type 0 where
-  pub above : (i : ℕ) → 16 ≤ i → i < n → slice_index marks i ≤ most
-  pub one : (most ≢ 0) → (i : ℕ) × (16 ≤ i) × (slice_index marks i ≡ most)
 
 -- whatever rule was read with these marks, and whatever bytes the places are in: the answer says whether the table fits the rule
 pub record FitsGives (seen : Seen) (t : Table) (r : Bool) : Type 0 where

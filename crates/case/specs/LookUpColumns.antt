@@ -3,8 +3,6 @@
 -- compared with it at once.
 use Rattle.std.specs.Prelude.{◌≡◌, ℕ, ◌+◌, ◌-◌, ◌*◌, ◌/◌, ◌%◌, ◌^◌, ◌<◌, ◌≤◌, Bool, true, cond, ◌⊎◌, List, ◌++◌, length, ◌≢◌, nat_eq, nat_lt, slice_index}
 use Rattle.layout.specs.Bytes.{number_at}
-use Rattle.scalar.specs.declared.order.Key.{Key}
-use Rattle.scalar.specs.declared.order.Key.TheVariants as Of
 use Rattle.scalar.specs.declared.value.Value.{Value}
 use Rattle.scalar.specs.Entry.{Entry, null, boolean, int32, int64, float64, utf8, Outcome, entry, unfit}
 use Rattle.scalar.specs.Order.{Numbered}
@@ -16,7 +14,6 @@ use Rattle.rule.specs.Walks.{branch_trees, optional_trees, TreesAt}
 use Rattle.table.specs.declared.places.ColumnPlace.{ColumnPlace}
 use Rattle.table.specs.Column.{valid_in, entry_at}
 use Rattle.table.specs.Places.{column_in}
-use Rattle.case.specs.declared.primitive_lookup_table.NumberKey.{NumberKey}
 use Rattle.case.specs.ColumnSlots.{text_entry}
 use Rattle.case.specs.Evaluation.{indexed}
 use Rattle.case.specs.Frame.{Listed}
@@ -53,13 +50,6 @@ pub record Hinted (hint : ℕ → ℕ) (size : ℕ) (hints : List ℕ) : Type 0 
   pub each : (k : ℕ) → k < size → slice_index hints (hint k) ≢ 0
 
 -- ---- number keys
-
--- the number by which a value is compared, among those of its kind; kind 0 where it goes by none
-abbrev pub number_key : Key → NumberKey
-number_key Of.Null = record { kind = 0; number = 0 }
-number_key Of.Failed = record { kind = 0; number = 0 }
-number_key (Of.Number kind number) = record { kind = kind; number = number }
-number_key Of.Text = record { kind = 0; number = 0 }
 
 -- a value is an entry that goes by a number
 pub record NumberOf (v : Value) (kind x : ℕ) : Type 0 where

@@ -1,6 +1,6 @@
 -- Steps: WHENs that compare the numbers of a column with a literal. A row's branch is found from one number of the row; what is promised of it is the
 -- one-row outcome (01, One row: branches are tried in order; equal and less).
-use Rattle.std.specs.Prelude.{◌≡◌, ℕ, zero, suc, ◌+◌, ◌-◌, ◌<◌, ◌≤◌, Bool, true, false, cond, ◌⊎◌, List, ◌++◌, length, ◌==◌, ◌≢◌, nat_le, nat_lt, slice_index}
+use Rattle.std.specs.Prelude.{◌≡◌, ℕ, zero, suc, ◌+◌, ◌-◌, ◌<◌, ◌≤◌, Bool, true, false, cond, ◌⊎◌, List, ◌++◌, length, ◌==◌, nat_le, nat_lt, slice_index, Option, Some, None}
 use Rattle.scalar.specs.declared.types.DataType.{DataType}
 use Rattle.scalar.specs.declared.types.DataType.TheVariants.{Boolean}
 use Rattle.scalar.specs.declared.order.Key.{Key}
@@ -36,16 +36,12 @@ pub record StepsGive (rule : List ℕ) (at : ℕ) (table : List ℕ) (t : Table)
 
 -- ---- one step
 
--- no step
-abbrev pub no_step : Step
-no_step = record { tag = 0; column = 0; kind = 0; key = 0 }
-
 -- a step by how its literal is compared; none where that is not by a number
-abbrev pub step_of : ℕ → ℕ → Key → Step
-step_of tag column Keys.Null = no_step
-step_of tag column Keys.Failed = no_step
-step_of tag column (Keys.Number kind key) = record { tag = tag; column = column; kind = kind; key = key }
-step_of tag column Keys.Text = no_step
+abbrev pub step_of : ℕ → ℕ → Key → Option Step
+step_of tag column Keys.Null = None
+step_of tag column Keys.Failed = None
+step_of tag column (Keys.Number kind key) = Some (record { tag = tag; column = column; kind = kind; key = key })
+step_of tag column Keys.Text = None
 
 -- what a column has, beside an entry that goes by a number
 pub record Sides (column kind key : ℕ) (a b : Expr) : Type 0 where
@@ -54,10 +50,10 @@ pub record Sides (column kind key : ℕ) (a b : Expr) : Type 0 where
   pub left : (row : Row) → eval a row ≡ row column
   pub right : (row : Row) → eval b row ≡ entry value
 
--- the tag, and whatever nodes stand at two places are such sides, unless the step's tag is 0
+-- the tag, and whatever nodes stand at two places are such sides
 pub record SidesGive (rule : List ℕ) (tag at literal end : ℕ) (s : Step) : Type 0 where
-  pub tag_is : (s.tag ≢ 0) → s.tag ≡ tag
-  pub is : (s.tag ≢ 0) → (a b : Expr) (behind depth : ℕ) → NodeAt rule at behind a depth → NodeAt rule literal end b depth → Sides s.column s.kind s.key a b
+  pub tag_is : s.tag ≡ tag
+  pub is : (a b : Expr) (behind depth : ℕ) → NodeAt rule at behind a depth → NodeAt rule literal end b depth → Sides s.column s.kind s.key a b
 
 -- what a step says of an entry beside its literal: less (24), the literal is less (26, the tag of no node), equal
 abbrev pub step_entry : ℕ → Entry → Entry → Entry
@@ -69,9 +65,9 @@ pub record StepWhen (tag column kind key : ℕ) (e : Expr) : Type 0 where
   pub numbered : Numbered kind key value
   pub is : (row : Row) → eval e row ≡ on_entries (step_entry tag) (row column) (entry value)
 
--- whatever node stands from a place to a place is such a one, unless the tag is 0
+-- whatever node stands from a place to a place is such a one
 pub record StepGives (rule : List ℕ) (start end : ℕ) (s : Step) : Type 0 where
-  pub is : (s.tag ≢ 0) → (e : Expr) (depth : ℕ) → NodeAt rule start end e depth → StepWhen s.tag s.column s.kind s.key e
+  pub is : (e : Expr) (depth : ℕ) → NodeAt rule start end e depth → StepWhen s.tag s.column s.kind s.key e
 
 -- ---- the steps of a CASE
 

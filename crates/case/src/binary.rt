@@ -9,32 +9,24 @@ ghost use Rattle.case.specs.Taking.{comparison, order_code, code_value, CodeRigh
 use crate::rows::row_at;
 use crate::slot::{get_slot, next_slot, put_slot};
 use scalar::order::{Order, is_text, key_of, key_order, text_in, text_order};
-use scalar::value::{Value, kind};
+use scalar::value::Value;
 
-// The order of two texts, each in the rule's or in the table's bytes.
-fn texts_at(rule: &[u8], table: &[u8], a: Value, b: Value) -> Order
-    ensures { result ≡ text_order (text_in rule.now table.now a) (text_in rule.now table.now b) }
+// The bytes of a text, in the rule's or in the table's bytes; none of a value of another type.
+fn text_at<'a>(rule: &'a [u8], table: &'a [u8], v: Value) -> &'a [u8]
+    ensures { result.now ≡ text_in rule.now table.now v }
 {
-    if kind(a) == 6 {
-        if kind(b) == 6 {
-            return text_order(text_in(table, a), text_in(table, b));
-        }
-        return text_order(text_in(table, a), text_in(rule, b));
+    if let Value::TableText(_, _) = v {
+        return text_in(table, v);
     }
-    if kind(b) == 6 {
-        return text_order(text_in(rule, a), text_in(table, b));
-    }
-    text_order(text_in(rule, a), text_in(rule, b))
+    text_in(rule, v)
 }
 
 // How two values stand to each other: `order_of`, written out where rows are compared, so that the loop over them makes no call.
 fn order_at(rule: &[u8], table: &[u8], a: Value, b: Value) -> Order
     ensures { result ≡ order_of (meaning rule.now table.now a) (meaning rule.now table.now b) }
 {
-    if is_text(a) {
-        if is_text(b) {
-            return texts_at(rule, table, a, b);
-        }
+    if is_text(a) && is_text(b) {
+        return text_order(text_at(rule, table, a), text_at(rule, table, b));
     }
     key_order(key_of(a), key_of(b))
 }
@@ -92,13 +84,11 @@ pub(crate) fn compare_list(
     requires in_bounds { (12288 ≤ length work.now) × (length codes.old ≡ 512) }
     ensures { RowsIndexed (λ r c. CodeRight less rule.now table.now (slot_at work.now r) (if fixed then b else next_slot work.now r) c) work.now at n codes.new }
 {
-    let mut i = 0;
-    while i < n {
+    for i in 0..n {
         let r = row_at(work, at, i);
         let x = get_slot(work, r);
         let y = second_side(work, fixed, b, r);
         codes[r] = truth_code(less, order_at(rule, table, x, y));
-        i += 1;
     }
 }
 
@@ -107,11 +97,9 @@ fn put_codes(work: &mut [u8], n: usize, codes: &[u8])
     requires { Fillable work.old n × (512 ≤ length codes.now) }
     ensures { Filled (λ r v. v ≡ code_value (slice_index codes.now r)) work.old n work.new }
 {
-    let mut i = 0;
-    while i < n {
+    for i in 0..n {
         let r = row_at(work, 0, i);
         put_slot(work, r, code_value(codes[r]));
-        i += 1;
     }
 }
 

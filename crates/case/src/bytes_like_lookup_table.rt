@@ -47,9 +47,7 @@ fn same_short(rule: &[u8], table: &[u8], kind: u8, start: usize, text: &[u8]) ->
     requires { length text.now ≤ length (bytes_of kind rule.now table.now) - start }
     ensures { result ≡ same_bytes text.now (place_text (bytes_of kind rule.now table.now) start (length text.now)) }
 {
-    let mut left = text.len();
-    while 0 < left {
-        left -= 1;
+    for left in (0..text.len()).rev() {
         if text[left] != byte_in(rule, table, kind, start + left) {
             return false;
         }
@@ -107,17 +105,12 @@ pub(crate) fn find_text(
     requires { Keys kinds.now keys.now indices.now size otherwise }
     ensures { result ≡ key_index rule.now table.now kinds.now keys.now indices.now size otherwise (entry (utf8 text.now)) }
 {
-    let mut k = 0;
-    let index = loop {
-        if k == size {
-            break otherwise;
-        }
+    for k in 0..size {
         if is_text(rule, table, text, kinds[k], keys[k]) {
-            break indices[k] as usize;
+            return indices[k] as usize;
         }
-        k += 1;
-    };
-    index
+    }
+    otherwise
 }
 
 // A text's place among the hints.
@@ -157,11 +150,9 @@ pub(crate) fn read_hints(
     requires hints_len { (length hints.old ≡ 256) × ((h : ℕ) → slice_index hints.old h ≡ 0) }
     ensures { Hinted (λ k. outcome_hint (meaning rule.now table.now (value_at kinds.now keys.now k))) size hints.new }
 {
-    let mut k = 0;
-    while k < size {
+    for k in 0..size {
         let h = key_hint(rule, table, kinds[k], keys[k]);
         hints[h] = (k + 1) as u8;
-        k += 1;
     }
 }
 
@@ -219,11 +210,9 @@ pub(crate) fn read_marks(
     requires sizes_len { (length sizes.old ≡ 32) × (length marks.old ≡ 32) × ((k : ℕ) → slice_index sizes.old k ≡ 0) }
     ensures { Marked rule.now kinds.now keys.now sizes.new marks.new }
 {
-    let mut k = 0;
-    while k < size {
+    for k in 0..size {
         sizes[k] = key_size(rule, kinds[k], keys[k]) as u8;
         marks[k] = key_mark(rule, keys[k]);
-        k += 1;
     }
 }
 

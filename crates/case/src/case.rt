@@ -453,8 +453,7 @@ fn choose(
     let mut place = at;
     let mut open = left;
     let mut builder = b;
-    let mut i = 0;
-    while i < count {
+    for i in 0..count {
         let then = field_end(rule, place);
         let index = i as u16 + 1;
         let s = turn(
@@ -464,7 +463,6 @@ fn choose(
         let next = s.builder;
         builder = next;
         place = field_end(rule, then);
-        i += 1;
     }
     Settled {
         left: open,
@@ -534,13 +532,11 @@ fn take(
     let els = count as u16 + 1;
     start_results(rule, at, end, count, to, work, n, values);
     let mut place = at;
-    let mut k = 1;
-    while k < els {
+    for k in 1..els {
         let result = field_end(rule, place);
         let next = field_end(rule, result);
         then(rule, result, next, table, t, work, n, values, k, depth);
         place = next;
-        k += 1;
     }
     take_else(rule, place, end, table, t, work, n, values, els, to, depth);
 }

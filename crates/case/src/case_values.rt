@@ -15,7 +15,7 @@ use table::places::Table;
 // A CASE's tag.
 pub(crate) const CASE: u8 = 25;
 
-// The index of each listed row by steps, and where the branches stand; 0 where they are no steps.
+// The index of each listed row by steps, and where the branches stand; none where they are no steps.
 fn case_steps(
     rule: &[u8],
     at: usize,
@@ -25,18 +25,18 @@ fn case_steps(
     work: &[u8],
     n: usize,
     values: &mut [u16],
-) -> usize
+) -> Option<usize>
     requires framed { Framed table.now t work.now n 1 }
     requires values_len { length values.old ≡ 512 }
     ensures { CaseSteps rule.now at count table.now t work.now n values.new result }
 {
     if step_values(rule, at, count, table, t, work, n, values) {
-        return at;
+        return Some(at);
     }
-    0
+    None
 }
 
-// The index of each listed row by a table of keys, and where the branches stand; 0 where no table serves a column.
+// The index of each listed row by a table of keys, and where the branches stand; none where no table serves a column.
 fn case_keys(
     rule: &[u8],
     at: usize,
@@ -47,18 +47,18 @@ fn case_keys(
     work: &[u8],
     n: usize,
     values: &mut [u16],
-) -> usize
+) -> Option<usize>
     requires framed { Framed table.now t work.now n 1 }
     requires values_len { length values.old ≡ 512 }
     ensures { CaseKeys rule.now at end count table.now t work.now n values.new result }
 {
     if lookup_values(rule, at, end, count, table, t, work, n, values) {
-        return field_end(rule, at);
+        return Some(field_end(rule, at));
     }
-    0
+    None
 }
 
-// The index of each listed row by the CASE at a place, and where its branches stand; 0 where no index is found so.
+// The index of each listed row by the CASE at a place, and where its branches stand; none where no index is found so.
 pub(crate) fn case_values(
     rule: &[u8],
     start: usize,
@@ -68,23 +68,23 @@ pub(crate) fn case_values(
     work: &[u8],
     n: usize,
     values: &mut [u16],
-) -> usize
+) -> Option<usize>
     requires framed { Framed table.now t work.now n 1 }
     requires values_len { length values.old ≡ 512 }
     ensures { CaseValues rule.now start end table.now t work.now n values.new result }
 {
     if byte_at(rule, start) != CASE {
-        return 0;
+        return None;
     }
     if rule.len() <= start {
-        return 0;
+        return None;
     }
     let at = children_at(rule, start);
     let count = byte_at(rule, start + 4);
     match strategy_at(rule, start, end) {
         Strategy::NoExpression => case_steps(rule, at, count, table, t, work, n, values),
-        Strategy::WithExpression => 0,
-        Strategy::InfallibleExprOrNull => 0,
+        Strategy::WithExpression => None,
+        Strategy::InfallibleExprOrNull => None,
         Strategy::ScalarOrScalar => case_steps(rule, at, count, table, t, work, n, values),
         Strategy::ExpressionOrExpression => case_steps(rule, at, count, table, t, work, n, values),
         Strategy::WithExprScalarLookupTable => {

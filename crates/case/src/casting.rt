@@ -63,15 +63,13 @@ fn truncate_rows(work: &mut [u8], n: usize, short: bool, tried: bool) -> usize
     requires { Fillable work.old n }
     ensures { (result ≤ n) × Filled (λ q x. Gives (operation_of (cast_to tried (integer_type short))) (slot_at work.old q) x) work.old result work.new }
 {
-    let mut i = 0;
-    while i < n {
+    for i in 0..n {
         let r = row_at(work, 0, i);
         if !truncate_row(work, r, short, tried) {
             return i;
         }
-        i += 1;
     }
-    i
+    n
 }
 
 // The same by the type; no row where it is no integer's.
@@ -80,16 +78,8 @@ fn truncate_floats(work: &mut [u8], n: usize, to: DataType, tried: bool) -> usiz
     ensures { (result ≤ n) × Filled (λ q x. Gives (operation_of (cast_to tried to)) (slot_at work.old q) x) work.old result work.new }
 {
     match to {
-        DataType::Int32 => if tried {
-            truncate_rows(work, n, true, true)
-        } else {
-            truncate_rows(work, n, true, false)
-        },
-        DataType::Int64 => if tried {
-            truncate_rows(work, n, false, true)
-        } else {
-            truncate_rows(work, n, false, false)
-        },
+        DataType::Int32 => truncate_rows(work, n, true, tried),
+        DataType::Int64 => truncate_rows(work, n, false, tried),
         _ => 0,
     }
 }
@@ -128,12 +118,10 @@ fn cast_list(work: &mut [u8], at: usize, n: usize, to: DataType, tried: bool)
     requires { FillableFrom at work.old n }
     ensures { FilledFrom at (λ r x. Gives (operation_of (cast_to tried to)) (slot_at work.old r) x) work.old n work.new }
 {
-    let mut i = 0;
-    while i < n {
+    for i in 0..n {
         let r = row_at(work, at, i);
         let v = get_slot(work, r);
         put_slot(work, r, cast_one(to, tried, v));
-        i += 1;
     }
 }
 

@@ -80,13 +80,11 @@ fn fill_numbers(validity: &[u8], values: &[u8], kind: DataType, work: &mut [u8],
     requires { Fillable work.old n }
     ensures { Filled (NumberRight kind validity.now values.now) work.old n work.new }
 {
-    let mut i = 0;
-    while i < n {
+    for i in 0..n {
         let r = row_at(work, 0, i);
         let k = kind_at(validity, kind, r);
         let p = payload_at(values, kind, r);
         put_parts(work, r, k, p);
-        i += 1;
     }
 }
 
@@ -124,12 +122,10 @@ fn fill_texts(
     requires table_len_bound { length table.now < 2 ^ 32 }
     ensures { Filled (TextRight table.now validity.now offsets.now (part table.now start end)) work.old n work.new }
 {
-    let mut i = 0;
-    while i < n {
+    for i in 0..n {
         let r = row_at(work, 0, i);
         let v = text_in(table, validity, offsets, start, end, r);
         put_slot(work, r, v);
-        i += 1;
     }
 }
 
@@ -151,11 +147,9 @@ pub(crate) fn column_or_null(table: &[u8], place: ColumnPlace, work: &mut [u8], 
     requires table_len_bound { length table.now < 2 ^ 32 }
     ensures { Filled (ColumnRight table.now place work.old) work.old n work.new }
 {
-    let mut i = 0;
-    while i < n {
+    for i in 0..n {
         let r = row_at(work, 0, i);
         let test = get_slot(work, r);
         put_slot(work, r, entry_or_null(table, place, r, test));
-        i += 1;
     }
 }

@@ -64,13 +64,11 @@ fn number_rows(
     requires rows { Rows work.now 0 n 512 × (2 * n ≤ length work.now) × (length values.old ≡ 512) }
     ensures { RowsIndexed (NumberRow validity.now column.now numbers.now indices.now size otherwise) work.now 0 n values.new }
 {
-    let mut i = 0;
-    while i < n {
+    for i in 0..n {
         let r = row_at(work, 0, i);
         values[r] = number_row(
             validity, column, numbers, indices, hints, size, otherwise, r,
         );
-        i += 1;
     }
 }
 
@@ -115,11 +113,9 @@ fn dense_rows(
     requires rows { Rows work.now 0 n 512 × (2 * n ≤ length work.now) × (length values.old ≡ 512) }
     ensures { RowsIndexed (λ r c. c ≡ dense_row validity.now column.now least answers.now otherwise r) work.now 0 n values.new }
 {
-    let mut i = 0;
-    while i < n {
+    for i in 0..n {
         let r = row_at(work, 0, i);
         values[r] = dense_row(validity, column, least, answers, otherwise, r);
-        i += 1;
     }
 }
 
@@ -223,14 +219,12 @@ fn text_rows(
     requires rows { Rows work.now 0 n 512 × (2 * n ≤ length work.now) × (length values.old ≡ 512) }
     ensures { RowsIndexed (TextRow rule.now table.now validity.now offsets.now texts.now kinds.now keys.now indices.now size otherwise) work.now 0 n values.new }
 {
-    let mut i = 0;
-    while i < n {
+    for i in 0..n {
         let r = row_at(work, 0, i);
         values[r] = text_row(
             rule, table, validity, offsets, texts, kinds, keys, indices, hints, sizes, marks, size,
             otherwise, r,
         );
-        i += 1;
     }
 }
 

@@ -1,9 +1,10 @@
 // Whether a table fits a rule: no column that the rule names is missing, of another type, or nullable where the rule says not.
-ghost use Rattle.std.specs.Prelude.{◌≡◌, ℕ, List, length};
+ghost use Rattle.std.specs.Prelude.{◌≡◌, ◌==◌, ℕ, List, drop, length};
+ghost use Rattle.std.specs.List.{list_all};
 ghost use Rattle.std.proofs.Math.Option.{some};
 ghost use Rattle.std.proofs.Math.ListN.{get_elem?};
 ghost use Rattle.table.specs.Places.{column_in, table_in};
-ghost use Rattle.case.specs.Fitting.{mark_fits, Beyond, FitsGives};
+ghost use Rattle.case.specs.Fitting.{mark_fits, FitsGives};
 
 use rule::seen::Seen;
 use rule::types::type_number;
@@ -37,36 +38,25 @@ fn index_fits(mark: u8, index: usize, t: Table) -> bool
     column_fits(mark, place)
 }
 
-// The greatest mark among those from 16 on, which no table has a column for; 0 where there is none.
-fn greatest_beyond(marks: &[u8]) -> u8
+// Whether there is no mark from 16 on, which no table has a column for.
+fn none_beyond(marks: &[u8]) -> bool
     requires { length marks.now ≡ 256 }
-    ensures { Beyond marks.now 256 result }
+    ensures { result ≡ list_all (λ m. m == 0) (drop 16 marks.now) }
 {
-    let mut most = 0u8;
-    let mut i = 16;
-    while i < 256 {
-        let mark = marks[i];
-        if most < mark {
-            most = mark;
-        }
-        i += 1;
-    }
-    most
+    marks[16..].iter().all(|mark| *mark == 0)
 }
 
 // Whether a table fits the rule that was read with these columns: all that it names, reached or not.
 pub(crate) fn fits_table(seen: Seen, t: Table) -> bool
     ensures { FitsGives seen t result }
 {
-    let mut i = 0;
-    while i < 16 {
+    for i in 0..16 {
         let mark = seen.marks[i];
         if mark != 0 {
             if !index_fits(mark, i, t) {
                 return false;
             }
         }
-        i += 1;
     }
-    greatest_beyond(&seen.marks) == 0
+    none_beyond(&seen.marks)
 }

@@ -29,10 +29,8 @@ fn int32_keys(values: &[u8], rows: usize, keys: &mut [u64])
     requires { (length keys.old ≡ 512) × (rows ≤ 512) × (4 * rows ≤ length values.now) }
     ensures { KeysAt Int32 values.now rows keys.new }
 {
-    let mut i = 0;
-    while i < rows {
+    for i in 0..rows {
         keys[i] = (word(values, 4 * i) + 0x8000_0000) % 0x1_0000_0000;
-        i += 1;
     }
 }
 
@@ -41,10 +39,8 @@ fn int64_keys(values: &[u8], rows: usize, keys: &mut [u64])
     requires { (length keys.old ≡ 512) × (rows ≤ 512) × (8 * rows ≤ length values.now) }
     ensures { KeysAt Int64 values.now rows keys.new }
 {
-    let mut i = 0;
-    while i < rows {
+    for i in 0..rows {
         keys[i] = wrapping_add_u64(long(values, 8 * i), 0x8000_0000_0000_0000);
-        i += 1;
     }
 }
 
@@ -53,10 +49,8 @@ fn cut_keys(kind: DataType, values: &[u8], rows: usize, keys: &mut [u64])
     requires { (length keys.old ≡ 512) × (rows ≤ 512) }
     ensures { KeysAt kind values.now rows keys.new }
 {
-    let mut i = 0;
-    while i < rows {
+    for i in 0..rows {
         keys[i] = key_at(kind, values, i);
-        i += 1;
     }
 }
 

@@ -39,8 +39,7 @@ fn read_literals(
 {
     kinds[most] = FAILED;
     let mut place = at;
-    let mut i = 0;
-    while i < most {
+    for i in 0..most {
         if end <= place {
             return;
         }
@@ -49,7 +48,6 @@ fn read_literals(
         kinds[i] = kind(v);
         payloads[i] = payload(v);
         place = next;
-        i += 1;
     }
 }
 
@@ -141,9 +139,8 @@ fn fill_table(
 {
     let otherwise = 2 * count;
     let mut size = 0;
-    let mut left = count;
-    while left > 0 {
-        let place = otherwise - 2 * left;
+    for when in 0..count {
+        let place = 2 * when;
         let index = (place + 1) as u16;
         size = add_key(
             rule,
@@ -157,7 +154,6 @@ fn fill_table(
             indices,
             size,
         );
-        left -= 1;
     }
     size
 }
@@ -257,15 +253,13 @@ fn map_rows(
     requires fillable { Fillable work.old n }
     ensures { Filled (MappedBy rule.now table.now literal_kinds.now payloads.now (key_index rule.now table.now kinds.now keys.now indices.now size otherwise) otherwise work.old) work.old n work.new }
 {
-    let mut i = 0;
-    while i < n {
+    for i in 0..n {
         let r = row_at(work, 0, i);
         let v = get_slot(work, r);
         let j = base_index(
             rule, table, kinds, keys, indices, size, otherwise, booleans, v,
         );
         put_parts(work, r, literal_kinds[j], payloads[j]);
-        i += 1;
     }
 }
 

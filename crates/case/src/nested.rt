@@ -25,14 +25,7 @@ fn all_of_kind(kinds: &[u8], from: usize, count: usize, kind: u8) -> bool
     requires { (length kinds.now ≡ 258) × (from + count < 258) }
     ensures { result ≡ all_of_kind kinds.now kind from count }
 {
-    let mut left = count;
-    while 0 < left {
-        if kinds[from + left] != kind {
-            return false;
-        }
-        left -= 1;
-    }
-    true
+    kinds[from + 1..from + count + 1].iter().all(|k| *k == kind)
 }
 
 // The literals of so many branches and of ELSE, as the classes behind a class.
@@ -47,12 +40,8 @@ fn copy_block(
     requires { Arrays block_kinds.now block_payloads.now × Arrays kinds.old payloads.old × (from + count + 3 ≤ 258) }
     ensures { BlockCopied from (count + 1) block_kinds.now block_payloads.now kinds.old payloads.old kinds.new payloads.new }
 {
-    let mut k = 1;
-    while k <= count + 1 {
-        kinds[from + k] = block_kinds[k];
-        payloads[from + k] = block_payloads[k];
-        k += 1;
-    }
+    kinds[from + 1..from + count + 2].copy_from_slice(&block_kinds[1..count + 2]);
+    payloads[from + 1..from + count + 2].copy_from_slice(&block_payloads[1..count + 2]);
 }
 
 // The literals of so many branches at a place and of ELSE behind them, as the classes behind a class.
@@ -89,11 +78,9 @@ fn class_listed(work: &[u8], n: usize, values: &[u16], from: usize, classes: &mu
     requires values_len { (length values.now ≡ 512) × (length classes.old ≡ 512) × ((q : ℕ) → Listed work.now 0 n q → from + slice_index values.now q < 258) }
     ensures { Numbered work.now n values.now from classes.old classes.new }
 {
-    let mut i = 0;
-    while i < n {
+    for i in 0..n {
         let r = row_at(work, 0, i);
         classes[r] = (from + values[r] as usize) as u16;
-        i += 1;
     }
 }
 
@@ -162,8 +149,7 @@ fn nested_case(
         return 0;
     }
     let mut values = [0u16; 512];
-    let found = case_values(rule, start, end, table, t, work, n, &mut values);
-    if found != place {
+    if case_values(rule, start, end, table, t, work, n, &mut values) != Some(place) {
         return 0;
     }
     class_listed(work, n, &values, from, classes);
@@ -231,8 +217,7 @@ pub(crate) fn nested_thens(
 {
     let mut used = count + 3;
     let mut place = at;
-    let mut k = 1;
-    while k <= count {
+    for k in 1..count + 1 {
         let then = field_end(rule, place);
         let next = field_end(rule, then);
         used = nested_then(
@@ -242,7 +227,6 @@ pub(crate) fn nested_thens(
             return false;
         }
         place = next;
-        k += 1;
     }
     true
 }
@@ -250,14 +234,12 @@ pub(crate) fn nested_thens(
 // Whether the results of so many branches at a place, which end at a place, are literals by their tags.
 fn literal_results(rule: &[u8], at: usize, end: usize, count: usize) -> bool {
     let mut place = at;
-    let mut k = 0;
-    while k < count {
+    for k in 0..count {
         let then = field_end(rule, place);
         if byte_at(rule, then) != LITERAL {
             return false;
         }
         place = field_end(rule, then);
-        k += 1;
     }
     if place == end {
         return false;
@@ -282,8 +264,7 @@ pub(crate) fn may_class(rule: &[u8], at: usize, count: usize, kinds: &[u8], code
     requires { (length kinds.now ≡ 258) × (count ≤ 255) }
 {
     let mut place = at;
-    let mut k = 1;
-    while k <= count {
+    for k in 1..count + 1 {
         let then = field_end(rule, place);
         let next = field_end(rule, then);
         if kinds[k] != code {
@@ -292,7 +273,6 @@ pub(crate) fn may_class(rule: &[u8], at: usize, count: usize, kinds: &[u8], code
             }
         }
         place = next;
-        k += 1;
     }
     true
 }

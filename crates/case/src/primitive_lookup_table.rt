@@ -1,7 +1,7 @@
 // Number keys: Int32, Int64 and Float64, floats by bits; and those of one kind by the numbers by which they are compared.
 ghost use Rattle.std.specs.Prelude.{◌≡◌, ℕ, ◌<◌, ◌≤◌, length, ◌≢◌, slice_index};
 ghost use Rattle.case.specs.LookUpTables.{Keys, number_index};
-ghost use Rattle.case.specs.LookUpColumns.{number_key, number_hint, NumbersRead, NumberTable, number_found, ElseFilled, DenseFilled};
+ghost use Rattle.case.specs.LookUpColumns.{number_hint, NumbersRead, NumberTable, number_found, ElseFilled, DenseFilled};
 
 use scalar::order::{Key, key_of};
 use scalar::value::value_of;
@@ -19,45 +19,12 @@ pub(crate) fn find_number(
     requires { Keys kinds.now keys.now indices.now size otherwise }
     ensures { result ≡ number_index kinds.now keys.now indices.now size otherwise kind payload }
 {
-    let mut k = 0;
-    let index = loop {
-        if k == size {
-            break otherwise;
+    for k in 0..size {
+        if payload == keys[k] && kind == kinds[k] {
+            return indices[k] as usize;
         }
-        if payload == keys[k] {
-            if kind == kinds[k] {
-                break indices[k] as usize;
-            }
-        }
-        k += 1;
-    };
-    index
-}
-
-// A number among those of its kind; kind 0 is none.
-#[derive(Clone, Copy)]
-pub(crate) struct NumberKey {
-    pub(crate) kind: u8,
-    pub(crate) number: u64,
-}
-
-// No number.
-fn no_number() -> NumberKey
-    ensures { result ≡ number_key Key.Null }
-{
-    NumberKey { kind: 0, number: 0 }
-}
-
-// The number by which a value is compared.
-fn number_key(key: Key) -> NumberKey
-    ensures { result ≡ number_key key }
-{
-    match key {
-        Key::Null => no_number(),
-        Key::Failed => no_number(),
-        Key::Number(kind, number) => NumberKey { kind, number },
-        Key::Text => no_number(),
     }
+    otherwise
 }
 
 // A number's place among the hints.
@@ -80,15 +47,15 @@ pub(crate) fn read_numbers(
     requires numbers_len { (length numbers.old ≡ 32) × (length hints.old ≡ 256) × ((h : ℕ) → slice_index hints.old h ≡ 0) }
     ensures { NumbersRead kinds.now keys.now size kind result numbers.new hints.new }
 {
-    let mut k = 0;
-    while k < size {
-        let x = number_key(key_of(value_of(kinds[k], keys[k])));
-        if x.kind != kind {
+    for k in 0..size {
+        let Key::Number(of, number) = key_of(value_of(kinds[k], keys[k])) else {
+            return false;
+        };
+        if of != kind {
             return false;
         }
-        numbers[k] = x.number;
-        hints[number_hint(x.number)] = (k + 1) as u8;
-        k += 1;
+        numbers[k] = number;
+        hints[number_hint(number)] = (k + 1) as u8;
     }
     true
 }
@@ -98,17 +65,12 @@ fn find_key(numbers: &[u64], indices: &[u16], size: usize, otherwise: usize, x: 
     requires { (length numbers.now ≡ 32) × (length indices.now ≡ 32) × (size ≤ 32) }
     ensures { result ≡ number_found numbers.now indices.now size otherwise x }
 {
-    let mut k = 0;
-    let index = loop {
-        if k == size {
-            break otherwise;
-        }
+    for k in 0..size {
         if x == numbers[k] {
-            break indices[k] as usize;
+            return indices[k] as usize;
         }
-        k += 1;
-    };
-    index
+    }
+    otherwise
 }
 
 // The same, by the hint first.
@@ -137,15 +99,7 @@ pub(crate) fn number_index(
 pub(crate) fn least_number(numbers: &[u64], size: usize) -> u64
     requires { (length numbers.now ≡ 32) × (size ≤ 32) }
 {
-    let mut least = 0xffff_ffff_ffff_ffff;
-    let mut k = 0;
-    while k < size {
-        if numbers[k] < least {
-            least = numbers[k];
-        }
-        k += 1;
-    }
-    least
+    numbers[..size].iter().copied().min().unwrap_or(u64::MAX)
 }
 
 // The ELSE index, from 1, at each distance of a dense table.
@@ -153,11 +107,7 @@ pub(crate) fn fill_else(otherwise: usize, answers: &mut [u16])
     requires { (length answers.old ≡ 256) × (otherwise ≤ 64) }
     ensures { ElseFilled otherwise 256 answers.new }
 {
-    let mut d = 0;
-    while d < 256 {
-        answers[d] = (otherwise / 2 + 1) as u16;
-        d += 1;
-    }
+    answers.fill((otherwise / 2 + 1) as u16);
 }
 
 // At each key's distance from the least number the key's index, from 1, where no distance is above 255; at any other the ELSE index, which is there.
@@ -173,8 +123,7 @@ pub(crate) fn fill_dense(
     requires else_filled { ElseFilled otherwise 256 answers.old × ((j k : ℕ) → j < k → k < size → slice_index numbers.now k ≢ slice_index numbers.now j) }
     ensures { DenseFilled numbers.now indices.now size otherwise least result answers.new }
 {
-    let mut key = 0;
-    while key < size {
+    for key in 0..size {
         let x = numbers[key];
         if x < least {
             return false;
@@ -184,7 +133,6 @@ pub(crate) fn fill_dense(
             return false;
         }
         answers[d as usize] = indices[key] / 2 + 1;
-        key += 1;
     }
     true
 }

@@ -26,8 +26,7 @@ fn read_thens(rule: &[u8], at: usize, count: usize, kinds: &mut [u8], payloads: 
     ensures { ThensRead rule.now at count count kinds.new payloads.new result }
 {
     let mut place = at;
-    let mut k = 1;
-    while k <= count {
+    for k in 1..count + 1 {
         let then = field_end(rule, place);
         let next = field_end(rule, then);
         if byte_at(rule, then) == LITERAL {
@@ -36,7 +35,6 @@ fn read_thens(rule: &[u8], at: usize, count: usize, kinds: &mut [u8], payloads: 
             payloads[k] = payload(v);
         }
         place = next;
-        k += 1;
     }
     place
 }
@@ -72,8 +70,7 @@ fn put_results(work: &mut [u8], n: usize, values: &[u16], kinds: &[u8], payloads
     requires in_bounds { (512 ≤ length values.now) × (length kinds.now ≡ 258) × (length payloads.now ≡ 258) }
     ensures { Filled (PutBy kinds.now payloads.now values.now) work.old n work.new }
 {
-    let mut i = 0;
-    while i < n {
+    for i in 0..n {
         let r = row_at(work, 0, i);
         let j = values[r] as usize;
         if j < 258 {
@@ -81,7 +78,6 @@ fn put_results(work: &mut [u8], n: usize, values: &[u16], kinds: &[u8], payloads
         } else {
             put_parts(work, r, 0, 0);
         }
-        i += 1;
     }
 }
 

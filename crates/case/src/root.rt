@@ -1,6 +1,7 @@
 // The classes of a table's rows by the root CASE, without slots: where its rows have their indices from columns, and every result is a number literal or, as a
 // THEN, a CASE of which the same holds.
-ghost use Rattle.std.specs.Prelude.{◌≡◌, ℕ, length, slice_index};
+ghost use Rattle.std.specs.Prelude.{◌≡◌, ◌≤◌, true, ℕ, length, slice_index};
+ghost use Rattle.scalar.specs.Types.{type_number};
 ghost use Rattle.case.specs.Classes.{RootAsks, RootResults, ClassesGive};
 
 use crate::case_values::{branches_at, case_values};
@@ -12,6 +13,13 @@ use rule::types::type_number;
 use rule::walk::children_at;
 use scalar::types::DataType;
 use table::places::Table;
+
+// Whether a type is a number's.
+fn is_number(t: DataType) -> bool
+    ensures { result ≡ true → (2 ≤ type_number t) × (type_number t ≤ 4) }
+{
+    matches!(t, DataType::Int32 | DataType::Int64 | DataType::Float64)
+}
 
 // The class of each row and the literals of the classes, where every row has one and all are numbers of the result's type.
 pub(crate) fn class_rows(
@@ -28,19 +36,15 @@ pub(crate) fn class_rows(
     requires classes_len { (length classes.old ≡ 512) × (length kinds.old ≡ 258) × (length payloads.old ≡ 258) × ((i : ℕ) → slice_index kinds.old i ≡ 0) }
     ensures { ClassesGive rule.now table.now t res work.old result work.new classes.new kinds.new payloads.new }
 {
+    if !is_number(res) {
+        return false;
+    }
     let code = type_number(res);
-    if code < 2 {
-        return false;
-    }
-    if 4 < code {
-        return false;
-    }
     let place = root_results(rule, code, kinds, payloads);
     if place == 0 {
         return false;
     }
-    let found = case_values(rule, 0, rule.len(), table, t, work, t.rows, classes);
-    if found != place {
+    if case_values(rule, 0, rule.len(), table, t, work, t.rows, classes) != Some(place) {
         return false;
     }
     nested_thens(

@@ -68,10 +68,8 @@ pub(crate) fn all_rows(work: &mut [u8], n: usize)
     requires { (n ≤ 512) × (1024 ≤ length work.old) }
     ensures { AllRows n work.old work.new }
 {
-    let mut i = 0;
-    while i < n {
+    for i in 0..n {
         put_row(work, 0, i, i);
-        i += 1;
     }
 }
 
@@ -80,12 +78,7 @@ pub(crate) fn copy_list(work: &mut [u8], n: usize, from: usize, to: usize)
     requires { (from + 2 * n ≤ to) × (to + 2 * n ≤ length work.old) }
     ensures { Copied work.old n from to work.new }
 {
-    let size = 2 * n;
-    let mut i = 0;
-    while i < size {
-        work[to + i] = work[from + i];
-        i += 1;
-    }
+    work.copy_within(from..from + 2 * n, to);
 }
 
 // One value in the slot of each listed row.
@@ -93,11 +86,9 @@ pub(crate) fn fill_value(work: &mut [u8], n: usize, v: Value)
     requires { Fillable work.old n × Storable v }
     ensures { Filled (λ r x. x ≡ v) work.old n work.new }
 {
-    let mut i = 0;
-    while i < n {
+    for i in 0..n {
         let r = row_at(work, 0, i);
         put_slot(work, r, v);
-        i += 1;
     }
 }
 
@@ -119,12 +110,10 @@ fn apply_castless(work: &mut [u8], n: usize, op: Op)
     requires { Fillable work.old n × (castless op ≡ true) }
     ensures { Filled (λ r x. Gives (operation_of op) (slot_at work.old r) x) work.old n work.new }
 {
-    let mut i = 0;
-    while i < n {
+    for i in 0..n {
         let r = row_at(work, 0, i);
         let v = get_slot(work, r);
         put_slot(work, r, apply_one(op, v));
-        i += 1;
     }
 }
 
@@ -146,11 +135,9 @@ pub(crate) fn choose_scalar(work: &mut [u8], n: usize, then: Value, els: Value)
     requires storable { Storable then × Storable els }
     ensures { Filled (ScalarRight then els work.old) work.old n work.new }
 {
-    let mut i = 0;
-    while i < n {
+    for i in 0..n {
         let r = row_at(work, 0, i);
         let test = get_slot(work, r);
         put_slot(work, r, choose(test, then, els));
-        i += 1;
     }
 }

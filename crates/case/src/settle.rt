@@ -1,10 +1,10 @@
 // Which rows of a CASE's open list leave it, with the index of the branch that takes them, in the builder.
-ghost use Rattle.std.specs.Prelude.{◌≡◌, ℕ, ◌<◌, ◌≤◌, List, length, slice_index};
+ghost use Rattle.std.specs.Prelude.{◌≡◌, refl, ℕ, ◌<◌, ◌≤◌, List, length, slice_index};
 ghost use Rattle.std.proofs.Math.Option.{none};
 ghost use Rattle.scalar.specs.Value.{meaning};
 ghost use Rattle.builder.specs.Builder.{or_else};
-ghost use Rattle.case.specs.Frame.{Rows};
-ghost use Rattle.case.specs.Choosing.{leaving, null_outcome, true_outcome, class_at, class_coded, class_by, asks_true, asks_equal, CodesFor, held_by, Open, Settles};
+ghost use Rattle.case.specs.Frame.{slot_at, next_slot, Rows};
+ghost use Rattle.case.specs.Choosing.{leaving, null_outcome, true_outcome, class_at, class_coded, class_same, class_by, asks_true, asks_equal, CodesFor, held_by, Open, Settles};
 ghost use Rattle.case.specs.Parting.{Parted, PartAsks, PartGives};
 
 use crate::binary::{code_value, compare_list};
@@ -12,7 +12,7 @@ use crate::rows::{put_row, row_at};
 use crate::slot::{get_slot, next_slot};
 use crate::truth::{Truth, truth_of};
 use builder::ResultBuilder;
-use scalar::value::{Value, kind};
+use scalar::value::Value;
 
 // When a row leaves: its base is null, its WHEN is true, its WHEN equals its base, or always.
 #[derive(Clone, Copy)]
@@ -50,14 +50,11 @@ pub(crate) fn finished(b: ResultBuilder) -> [u16; 512]
 fn null_class(base: Value, index: u16, failed: u16) -> u16
     ensures { (rule table : List ℕ) → result ≡ leaving null_outcome index failed (meaning rule table base) }
 {
-    let k = kind(base);
-    if k == 0 {
-        return index;
+    match base {
+        Value::Null => index,
+        Value::Failed => failed,
+        _ => 0,
     }
-    if k == 7 {
-        return failed;
-    }
-    0
 }
 
 // The index with which a row leaves by its WHEN, 0 where it stays.
@@ -71,40 +68,82 @@ fn true_class(when: Value, index: u16, failed: u16) -> u16
     }
 }
 
-// The index with which a row leaves, 0 where it stays.
-fn class_at(work: &[u8], codes: &[u8], how: Leave, index: u16, failed: u16, row: usize) -> u16
-    requires { (row < 512) × (12288 ≤ length work.now) × (512 ≤ length codes.now) }
-    ensures { result ≡ class_coded how codes.now work.now index failed row }
-{
-    match how {
-        Leave::NullBase => null_class(get_slot(work, row), index, failed),
-        Leave::TrueWhen => true_class(next_slot(work, row), index, failed),
-        Leave::EqualWhen => true_class(code_value(codes[row]), index, failed),
-        Leave::Rest => index,
+// With which index a row leaves the open list, 0 where it stays: it hangs on the row's slots, and on what the type holds.
+trait Leaving {
+    ghost can: { Self → Type 0 };
+
+    ghost class: { Self → List ℕ → ℕ → ℕ };
+
+    fn class_of(&self, work: &[u8], row: usize) -> u16
+        requires ready { can self.now }
+        requires in_bounds { (row < 512) × (12288 ≤ length work.now) }
+        ensures { result ≡ class self.now work.now row };
+
+    ghost by_slots: { (s : Self) (w m : List ℕ) (r : ℕ) → slot_at m r ≡ slot_at w r → next_slot m r ≡ next_slot w r → class s m r ≡ class s w r };
+}
+
+// A row leaves by its base, by its WHEN, or by the number that says whether the two are equal.
+#[derive(Clone, Copy)]
+struct BySlots<'a> {
+    how: Leave,
+    codes: &'a [u8],
+    index: u16,
+    failed: u16,
+}
+
+impl<'a> Leaving for BySlots<'a> {
+    ghost can = { λ s. 512 ≤ length s.codes.now };
+
+    ghost class = { λ s w r. class_coded s.how s.codes.now w s.index s.failed r };
+
+    fn class_of(&self, work: &[u8], row: usize) -> u16 {
+        match self.how {
+            Leave::NullBase => null_class(get_slot(work, row), self.index, self.failed),
+            Leave::TrueWhen => true_class(next_slot(work, row), self.index, self.failed),
+            Leave::EqualWhen => true_class(code_value(self.codes[row]), self.index, self.failed),
+            Leave::Rest => self.index,
+        }
     }
+
+    ghost by_slots = { λ s w m r a b. class_same s.how s.codes.now w m s.index s.failed r a b };
+}
+
+// A row leaves where its WHEN has index 1.
+#[derive(Clone, Copy)]
+struct ByWhens<'a> {
+    whens: &'a [u16],
+    index: u16,
+}
+
+impl<'a> Leaving for ByWhens<'a> {
+    ghost can = { λ s. 512 ≤ length s.whens.now };
+
+    ghost class = { λ s w r. class_by s.whens.now s.index r };
+
+    fn class_of(&self, work: &[u8], row: usize) -> u16 {
+        if self.whens[row] == 1 { self.index } else { 0 }
+    }
+
+    ghost by_slots = { λ s w m r a b. refl };
 }
 
 // The rows of the open list that leave, with their indices: how many they are. The others stay in it.
-fn split(
+fn split<L: Leaving>(
     work: &mut [u8],
-    codes: &[u8],
     left: usize,
-    how: Leave,
-    index: u16,
-    failed: u16,
+    leaving: &L,
     rows: &mut [u16],
     values: &mut [u16],
 ) -> usize
     requires rows { Rows work.old 5632 left 512 }
     requires in_bounds { (12288 ≤ length work.old) × (512 ≤ length rows.old) × (512 ≤ length values.old) }
-    requires in_bounds_2 { 512 ≤ length codes.now }
-    ensures { Parted (class_coded how codes.now work.old index failed) work.old left result rows.new values.new work.new }
+    requires ready { L.can leaving.now }
+    ensures { Parted (L.class leaving.now work.old) work.old left result rows.new values.new work.new }
 {
     let mut m = 0;
-    let mut i = 0;
-    while i < left {
+    for i in 0..left {
         let r = row_at(work, 5632, i);
-        let class = class_at(work, codes, how, index, failed, r);
+        let class = leaving.class_of(work, r);
         if class == 0 {
             put_row(work, 5632, i - m, r);
         } else {
@@ -112,7 +151,6 @@ fn split(
             values[m] = class;
             m += 1;
         }
-        i += 1;
     }
     m
 }
@@ -121,12 +159,7 @@ fn split(
 fn asks_equal(how: Leave) -> bool
     ensures { result ≡ asks_equal how }
 {
-    match how {
-        Leave::NullBase => false,
-        Leave::TrueWhen => false,
-        Leave::EqualWhen => true,
-        Leave::Rest => false,
-    }
+    matches!(how, Leave::EqualWhen)
 }
 
 // The number of each open row's equality with its base, where the way of leaving asks for it.
@@ -162,6 +195,23 @@ fn add_part(b: ResultBuilder, rows: &[u16], values: &[u16]) -> ResultBuilder
 }
 
 // The rows of the open list that leave are held with their indices, the others stay in it.
+fn settle_rows<L: Leaving>(work: &mut [u8], left: usize, leaving: &L, b: ResultBuilder) -> Settled
+    requires fact { Open b work.old left b.rows }
+    requires in_bounds { 12288 ≤ length work.old }
+    requires ready { L.can leaving.now }
+    ensures { Settles (L.class leaving.now work.old) work.old left b.rows b result work.new }
+{
+    let mut rows = [0u16; 512];
+    let mut values = [0u16; 512];
+    let m = split(work, left, leaving, &mut rows, &mut values);
+    let builder = add_part(b, &rows[..m], &values[..m]);
+    Settled {
+        left: left - m,
+        builder,
+    }
+}
+
+// The same, where rows leave by their slots.
 pub(crate) fn settle(
     rule: &[u8],
     table: &[u8],
@@ -177,79 +227,25 @@ pub(crate) fn settle(
     requires index_nonzero { (0 < index) × (0 < failed) }
     ensures { Settles (class_at how rule.now table.now work.old index failed) work.old left b.rows b result work.new }
 {
-    let mut rows = [0u16; 512];
-    let mut values = [0u16; 512];
     let mut codes = [0u8; 512];
     fill_codes(rule, table, work, left, how, &mut codes);
-    let m = split(
-        work,
-        &codes,
-        left,
+    let leaving = BySlots {
         how,
+        codes: &codes,
         index,
         failed,
-        &mut rows,
-        &mut values,
-    );
-    let builder = add_part(b, &rows[..m], &values[..m]);
-    Settled {
-        left: left - m,
-        builder,
-    }
+    };
+    settle_rows(work, left, &leaving, b)
 }
 
 // Whether a row leaves where its WHEN is true.
 pub(crate) fn asks_true(how: Leave) -> bool
     ensures { result ≡ asks_true how }
 {
-    match how {
-        Leave::NullBase => false,
-        Leave::TrueWhen => true,
-        Leave::EqualWhen => false,
-        Leave::Rest => false,
-    }
+    matches!(how, Leave::TrueWhen)
 }
 
-// The index with which a row leaves by its WHEN's index, 0 where it stays.
-fn class_by(whens: &[u16], index: u16, row: usize) -> u16
-    requires { (row < 512) × (512 ≤ length whens.now) }
-    ensures { result ≡ class_by whens.now index row }
-{
-    if whens[row] == 1 { index } else { 0 }
-}
-
-// The rows of the open list whose WHEN has index 1, with the branch's index: how many they are. The others stay in it.
-fn split_by(
-    work: &mut [u8],
-    left: usize,
-    whens: &[u16],
-    index: u16,
-    rows: &mut [u16],
-    values: &mut [u16],
-) -> usize
-    requires rows { Rows work.old 5632 left 512 }
-    requires in_bounds { (12288 ≤ length work.old) × (512 ≤ length rows.old) × (512 ≤ length values.old) }
-    requires in_bounds_2 { 512 ≤ length whens.now }
-    ensures { Parted (class_by whens.now index) work.old left result rows.new values.new work.new }
-{
-    let mut m = 0;
-    let mut i = 0;
-    while i < left {
-        let r = row_at(work, 5632, i);
-        let class = class_by(whens, index, r);
-        if class == 0 {
-            put_row(work, 5632, i - m, r);
-        } else {
-            rows[m] = r as u16;
-            values[m] = class;
-            m += 1;
-        }
-        i += 1;
-    }
-    m
-}
-
-// The rows of the open list whose WHEN has index 1 are held with the branch's index, the others stay in it.
+// The same, where rows leave whose WHEN has index 1.
 pub(crate) fn settle_by(
     work: &mut [u8],
     left: usize,
@@ -262,12 +258,5 @@ pub(crate) fn settle_by(
     requires index_nonzero { 0 < index }
     ensures { Settles (class_by whens.now index) work.old left b.rows b result work.new }
 {
-    let mut rows = [0u16; 512];
-    let mut values = [0u16; 512];
-    let m = split_by(work, left, whens, index, &mut rows, &mut values);
-    let builder = add_part(b, &rows[..m], &values[..m]);
-    Settled {
-        left: left - m,
-        builder,
-    }
+    settle_rows(work, left, &ByWhens { whens, index }, b)
 }

@@ -1,9 +1,9 @@
 // WHENs that each compare the numbers of one column with a literal. A row's branch is found from the one number by which its entry is compared:
 // the first WHEN that the number passes.
-ghost use Rattle.std.specs.Prelude.{◌≡◌, ◌+◌, ◌*◌, ◌<◌, ◌≤◌, length, if◌then◌else◌};
+ghost use Rattle.std.specs.Prelude.{◌≡◌, ◌+◌, ◌*◌, ◌<◌, ◌≤◌, length, if◌then◌else◌, IfSome};
 ghost use Rattle.table.specs.Places.{column_in};
 ghost use Rattle.case.specs.Frame.{Rows};
-ghost use Rattle.case.specs.Steps.{StepsGive, no_step, step_of, SidesGive, StepGives, StepsRead, step_low, step_high, SpansOf, one_span, in_span, span_index, row_span, RowIndex, RowsIndexed, ColumnGives, StepRows, WhenGives};
+ghost use Rattle.case.specs.Steps.{StepsGive, step_of, SidesGive, StepGives, StepsRead, step_low, step_high, SpansOf, one_span, in_span, span_index, row_span, RowIndex, RowsIndexed, ColumnGives, StepRows, WhenGives};
 
 use crate::keys::column_keys;
 use crate::literal_lookup_table::BRANCHES_MOST;
@@ -21,7 +21,7 @@ use table::places::{ColumnPlace, Table};
 const NUMBER_MOST: u64 = 0xffff_ffff_ffff_ffff;
 
 // A column compared with a literal: equal (23), less (24), or the literal less than the column (26, the tag of no node); the column, and the kind
-// and the key of the literal. Tag 0 is any other node.
+// and the key of the literal.
 #[derive(Clone, Copy)]
 pub(crate) struct Step {
     pub(crate) tag: u8,
@@ -30,44 +30,30 @@ pub(crate) struct Step {
     pub(crate) key: u64,
 }
 
-// Any other node.
-fn no_step() -> Step
-    ensures { result ≡ no_step }
-{
-    Step {
-        tag: 0,
-        column: 0,
-        kind: 0,
-        key: 0,
-    }
-}
-
 // A step by its tag, its column and how its literal is compared.
-fn step_of(tag: u8, column: u8, key: Key) -> Step
+fn step_of(tag: u8, column: u8, key: Key) -> Option<Step>
     ensures { result ≡ step_of tag column key }
 {
     match key {
-        Key::Null => no_step(),
-        Key::Failed => no_step(),
-        Key::Number(kind, key) => Step {
+        Key::Number(kind, key) => Some(Step {
             tag,
             column,
             kind,
             key,
-        },
-        Key::Text => no_step(),
+        }),
+        _ => None,
     }
 }
 
 // The step of a tag, where a column stands at one place and a literal from another to its end.
-fn step_between(rule: &[u8], tag: u8, at: usize, literal: usize, end: usize) -> Step
-    ensures { SidesGive rule.now tag at literal end result }
+fn step_between(rule: &[u8], tag: u8, at: usize, literal: usize, end: usize) -> Option<Step>
+    ensures { IfSome result (SidesGive rule.now tag at literal end) }
 {
     if byte_at(rule, at) != 16 {
-        return no_step();
+        return None;
     }
     if byte_at(rule, literal) != 17 {
-        return no_step();
+        return None;
     }
     step_of(
         tag,
@@ -77,13 +63,13 @@ fn step_between(rule: &[u8], tag: u8, at: usize, literal: usize, end: usize) -> 
 }
 
 // The node at a place, where it is a step.
-fn step_at(rule: &[u8], start: usize, end: usize) -> Step
-    ensures { StepGives rule.now start end result }
+fn step_at(rule: &[u8], start: usize, end: usize) -> Option<Step>
+    ensures { IfSome result (StepGives rule.now start end) }
 {
     let tag = byte_at(rule, start);
     if tag != 23 {
         if tag != 24 {
-            return no_step();
+            return None;
         }
     }
     let at = children_at(rule, start);
@@ -92,7 +78,7 @@ fn step_at(rule: &[u8], start: usize, end: usize) -> Step
         return step_between(rule, tag, at, middle, end);
     }
     if tag != 24 {
-        return no_step();
+        return None;
     }
     step_between(rule, 26, middle, at, middle)
 }
@@ -111,13 +97,11 @@ fn read_steps(
     ensures { StepsRead rule.now at count column kind result tags.new keys.new }
 {
     let mut place = at;
-    let mut k = 0;
-    while k < count {
+    for k in 0..count {
         let then = field_end(rule, place);
-        let s = step_at(rule, place, then);
-        if s.tag == 0 {
+        let Some(s) = step_at(rule, place, then) else {
             return false;
-        }
+        };
         if s.column != column {
             return false;
         }
@@ -127,7 +111,6 @@ fn read_steps(
         tags[k] = s.tag;
         keys[k] = s.key;
         place = field_end(rule, then);
-        k += 1;
     }
     true
 }
@@ -164,11 +147,9 @@ fn fill_spans(tags: &[u8], keys: &[u64], count: usize, lows: &mut [u64], highs: 
     requires lows_len { (length lows.old ≡ 32) × (length highs.old ≡ 32) }
     ensures { SpansOf tags.now keys.now count lows.new highs.new }
 {
-    let mut k = 0;
-    while k < count {
+    for k in 0..count {
         lows[k] = low_of(tags[k], keys[k]);
         highs[k] = high_of(tags[k], keys[k]);
-        k += 1;
     }
 }
 
@@ -184,17 +165,12 @@ fn span_index(lows: &[u64], highs: &[u64], count: usize, x: u64) -> u16
     requires { (length lows.now ≡ 32) × (length highs.now ≡ 32) × (count ≤ 32) }
     ensures { result ≡ span_index lows.now highs.now count x }
 {
-    let mut span = 0;
-    let index = loop {
-        if span == count {
-            break count + 1;
-        }
+    for span in 0..count {
         if in_span(lows[span], highs[span], x) {
-            break span + 1;
+            return (span + 1) as u16;
         }
-        span += 1;
-    };
-    index as u16
+    }
+    (count + 1) as u16
 }
 
 // The index of a row by its number: of a null the ELSE index.
@@ -233,11 +209,9 @@ fn index_rows(
     requires indices_len { (length indices.old ≡ 512) × (length numbers.now ≡ 512) }
     ensures { RowsIndexed (λ r c. c ≡ row_span numbers.now validity.now lows.now highs.now count r) work.now at n indices.new }
 {
-    let mut i = 0;
-    while i < n {
+    for i in 0..n {
         let r = row_at(work, at, i);
         indices[r] = row_index(numbers, validity, lows, highs, count, r);
-        i += 1;
     }
 }
 
@@ -280,11 +254,9 @@ fn index_one(
     requires indices_len { (length indices.old ≡ 512) × (length numbers.now ≡ 512) }
     ensures { RowsIndexed (λ r c. c ≡ one_span numbers.now validity.now low high r) work.now at n indices.new }
 {
-    let mut i = 0;
-    while i < n {
+    for i in 0..n {
         let r = row_at(work, at, i);
         indices[r] = one_row(numbers, validity, low, high, r);
-        i += 1;
     }
 }
 
@@ -391,7 +363,9 @@ pub(crate) fn step_values(
     requires values_len { length values.old ≡ 512 }
     ensures { StepsGive rule.now at table.now t count work.now n result values.new }
 {
-    let first = step_at(rule, at, field_end(rule, at));
+    let Some(first) = step_at(rule, at, field_end(rule, at)) else {
+        return false;
+    };
     let c = first.column as usize;
     if t.count <= c {
         return false;
@@ -454,10 +428,9 @@ pub(crate) fn step_when(
     if !asked {
         return false;
     }
-    let s = step_at(rule, start, end);
-    if s.tag == 0 {
+    let Some(s) = step_at(rule, start, end) else {
         return false;
-    }
+    };
     let c = s.column as usize;
     if t.count <= c {
         return false;

@@ -13,14 +13,12 @@ pub(crate) fn pick(work: &mut [u8], n: usize, values: &[u16], k: u16) -> usize
     ensures { Picked (HasIndex values.now k) work.old n result work.new }
 {
     let mut m = 0;
-    let mut i = 0;
-    while i < n {
+    for i in 0..n {
         let r = row_at(work, 0, i);
         if values[r] == k {
             put_row(work, 6656, m, r);
             m += 1;
         }
-        i += 1;
     }
     m
 }
@@ -31,10 +29,8 @@ pub(crate) fn copy_slots(work: &mut [u8], m: usize)
     requires in_bounds { 12288 ≤ length work.old }
     ensures { FilledFrom 6656 (λ r v. v ≡ next_slot work.old r) work.old m work.new }
 {
-    let mut i = 0;
-    while i < m {
+    for i in 0..m {
         let r = row_at(work, 6656, i);
         copy_slot(work, r);
-        i += 1;
     }
 }

@@ -19,15 +19,9 @@ pub(crate) fn truth_of(v: Value) -> Truth
     ensures { (rule table : List ℕ) → result ≡ truth_of (meaning rule table v) }
 {
     match v {
-        Value::Null => Truth::No,
-        Value::Boolean(b) => if b { Truth::Yes } else { Truth::No },
-        Value::Int32(_) => Truth::No,
-        Value::Int64(_) => Truth::No,
-        Value::Float64(_) => Truth::No,
-        Value::Nan(_) => Truth::No,
-        Value::RuleText(_, _) => Truth::No,
-        Value::TableText(_, _) => Truth::No,
+        Value::Boolean(true) => Truth::Yes,
         Value::Failed => Truth::Unfit,
+        _ => Truth::No,
     }
 }
 

@@ -3,29 +3,22 @@ use files::{argument, argument_count, fail, open, path_buffer, read_full};
 use std::io::Read;
 use std::rt::{Env, Files};
 
-// How many bytes of a file are in the buffer, or that it couldn't be read, which was reported on standard error.
-#[derive(Drop)]
-pub(crate) enum Loaded {
-    Size(usize),
-    Failed,
-}
-
-// Reads a file as far as the buffer goes.
-fn read_file(rt: &(impl Files + Eprint), path: &[u8], buffer: &mut [u8]) -> Loaded {
+// Reads a file as far as the buffer goes and gives how many bytes it had; none where it couldn't be read, which is said on standard error.
+fn read_file(rt: &(impl Files + Eprint), path: &[u8], buffer: &mut [u8]) -> Option<usize> {
     let mut file = match open(rt, path) {
         Ok(file) => file,
         Err(error) => {
             fail(rt, path, error);
-            return Loaded::Failed;
+            return None;
         }
     };
     let size = read_full(&mut file, buffer);
     let mut next = [0u8; 1];
     match file.read(&mut next) {
-        Ok(_) => Loaded::Size(size),
+        Ok(_) => Some(size),
         Err(error) => {
             fail(rt, path, error);
-            Loaded::Failed
+            None
         }
     }
 }
@@ -36,7 +29,7 @@ pub(crate) fn load(
     index: usize,
     name: &[u8],
     buffer: &mut [u8],
-) -> Loaded {
+) -> Option<usize> {
     if argument_count(rt) < 2 {
         return read_file(rt, name, buffer);
     }
@@ -45,7 +38,7 @@ pub(crate) fn load(
         Ok(size) => read_file(rt, &path[..size], buffer),
         Err(error) => {
             fail(rt, name, error);
-            Loaded::Failed
+            None
         }
     }
 }

@@ -4,7 +4,6 @@ ghost use Rattle.listing.specs.Listing.{listing_most};
 
 use files::large_buffer;
 use layout::part::part_of;
-use listing::put::PutAnswer;
 use listing::whole::{LISTING_MOST, put_listing};
 use std::io;
 
@@ -21,7 +20,7 @@ pub(crate) fn list(rt: &impl Print, rule: &[u8], table: &[u8]) -> io::Result<()>
     let mut output = large_buffer();
     let mut lines = listing_buffer();
     match put_listing(rule, table, &mut work, &mut output, &mut lines) {
-        PutAnswer::Ends(size) => rt.write_all(part_of(&lines, 0, size)),
-        PutAnswer::Full => Ok(()),
+        Some(size) => rt.write_all(part_of(&lines, 0, size)),
+        None => Ok(()),
     }
 }

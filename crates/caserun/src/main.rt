@@ -8,7 +8,7 @@ mod record;
 
 ghost use Rattle.std.specs.Prelude.{◌≡◌, length};
 
-use file::{Loaded, load};
+use file::load;
 use files::argument_count;
 use layout::part::part_of;
 use list::list;
@@ -41,8 +41,8 @@ fn record_buffer() -> [u8; 524288]
 fn with_rule(rt: &(impl Env + Files + Print + Eprint), rule: &[u8]) -> io::Result<()> {
     let mut table = table_buffer();
     match load(rt, 2, b"batch.bin", &mut table) {
-        Loaded::Size(size) => list(rt, rule, part_of(&table, 0, size)),
-        Loaded::Failed => Ok(()),
+        Some(size) => list(rt, rule, part_of(&table, 0, size)),
+        None => Ok(()),
     }
 }
 
@@ -50,8 +50,8 @@ fn with_rule(rt: &(impl Env + Files + Print + Eprint), rule: &[u8]) -> io::Resul
 fn list_files(rt: &(impl Env + Files + Print + Eprint)) -> io::Result<()> {
     let mut rule = rule_buffer();
     match load(rt, 1, b"rule.bin", &mut rule) {
-        Loaded::Size(size) => with_rule(rt, part_of(&rule, 0, size)),
-        Loaded::Failed => Ok(()),
+        Some(size) => with_rule(rt, part_of(&rule, 0, size)),
+        None => Ok(()),
     }
 }
 
@@ -59,8 +59,8 @@ fn list_files(rt: &(impl Env + Files + Print + Eprint)) -> io::Result<()> {
 fn list_file(rt: &(impl Env + Files + Print + Eprint), index: usize) -> io::Result<()> {
     let mut records = record_buffer();
     match load(rt, index, b"listings.bin", &mut records) {
-        Loaded::Size(size) => list_records(rt, part_of(&records, 0, size)),
-        Loaded::Failed => Ok(()),
+        Some(size) => list_records(rt, part_of(&records, 0, size)),
+        None => Ok(()),
     }
 }
 

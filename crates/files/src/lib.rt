@@ -1,8 +1,10 @@
-// Files that are read into lent buffers, the arguments that name them, and what is said of a file that can't be read.
+// Files that are read into lent buffers, the arguments that name them, what is said of a file that can't be read, and the records of stored runs.
 #![tactic(auto)]
 
-ghost use Rattle.std.specs.Prelude.{◌≡◌, ◌≤◌, length, take, IfOk};
+ghost use Rattle.std.specs.Prelude.{◌≡◌, ◌≤◌, length, take, IfOk, IfSome};
 ghost use Rattle.std.specs.Io.KnownBytes.{Consumes};
+
+pub mod record;
 
 use std::env::FillError;
 use std::io::{Error, ErrorKind, Read};
@@ -87,4 +89,17 @@ pub fn fail(rt: &impl Eprint, path: &[u8], error: Error) {
         Ok(path) => eprintln!(rt; "{path}: {error}"),
         Err(_) => eprintln!(rt; "{}: {error}", path.escape_ascii()),
     };
+}
+
+// Reads a file as far as a buffer goes and gives how many bytes it had; none where it can't be opened, which is said on standard error.
+pub fn load(rt: &(impl Files + Eprint), path: &[u8], buffer: &mut [u8]) -> Option<usize>
+    ensures { IfSome result (λ size. size ≤ length buffer.new) }
+{
+    match open(rt, path) {
+        Ok(mut file) => Some(read_full(&mut file, buffer)),
+        Err(error) => {
+            fail(rt, path, error);
+            None
+        }
+    }
 }

@@ -1,14 +1,13 @@
 -- Numbers at places of slices: read in parts, and written byte by byte. Assumes nothing.
 use mathlib.Core.Path.{◌≡◌, refl, sym, ap, ◌∙◌}
-use mathlib.Core.Bool.{true, false}
 use mathlib.Core.List.{List, [], ◌∷◌}
-use Prim.Native.Nat.{ℕ, zero, suc, ◌+◌, ◌-◌, ◌*◌, ◌^◌, ◌<◌, ◌≤◌}
-use native.Mathlib.Nat.{add-zero, zero-add, suc-add, add_assoc, pow-suc}
+use Prim.Native.Nat.{ℕ, zero, suc, ◌+◌, ◌-◌, ◌*◌, ◌/◌, ◌%◌, ◌^◌, ◌≤◌}
+use native.Mathlib.Nat.{add-zero, zero-add, suc-add, add_assoc, pow-suc, div-one, div-div-eq-div-mul}
+use Rattle.std.specs.Int.{byte_at, bytes_low_first}
 use native.Mathlib.Omega.{arith}
 use lib.ListN.{length, take, drop, length-drop, drop_of_length-le}
-use lib.Seq.{sets, take_all, take-nil, get_or-drop, drop-drop}
-use borrow.Author.Tests.{le-leb, lt-leb}
-use Rattle.layout.specs.Bytes.{byte, number, number_at, number_bytes, Written}
+use lib.Seq.{take_all, take-nil, get_or-drop, drop-drop}
+use Rattle.layout.specs.Bytes.{byte, number, number_at, number_bytes}
 
 -- a number is its lower bytes and, times 256 for each of them, its upper ones
 pub number_split : (a b : ℕ) (l : List ℕ) → number (take (a + b) l) ≡ number (take a l) + 256 ^ a * number (take b (drop a l))
@@ -61,10 +60,18 @@ number_halves k l at low high p q =
     let rest : take (length l - at) (drop at l) ≡ drop at l = take_all (length l - at) (drop at l) (omega (arith, length-drop at l)) in
     rw (p, q, rest) (sym (number_split k k (drop at l)))
 
--- where the bytes don't fit, nothing is written
-pub not_written : (k : ℕ) (l : List ℕ) (at n : ℕ) → length l < at + k → Written k l at n false l
-not_written k l at n h = record { says = sym (lt-leb _ _ h); holds = refl }
+-- a byte of a number, by the bytes below it
+byte_above : (i n : ℕ) → byte_at i n ≡ n / 256 ^ i % 256
+byte_above zero n = ap (λ (m : ℕ). m % 256) (sym (div-one n))
+byte_above (suc i) n = refl
 
--- where they fit, they are the bytes of the number
-pub written : (k : ℕ) (l : List ℕ) (at n : ℕ) → at + k ≤ length l → (l' : List ℕ) → l' ≡ sets l at (number_bytes k n) → Written k l at n true l'
-written k l at n h l' e = record { says = sym (le-leb _ _ h); holds = e }
+-- the lowest bytes of a number, as std lists them, are the number in so many bytes
+low_first : (i k n : ℕ) → bytes_low_first i k n ≡ number_bytes k (n / 256 ^ i)
+unfolding number_bytes
+low_first i zero n = refl
+low_first i (suc k) n =
+    let next : n / 256 ^ suc i ≡ n / 256 ^ i / 256 = ap (λ (m : ℕ). n / m) (pow-suc 256 i) ∙ sym (div-div-eq-div-mul n (256 ^ i) 256) in
+    rw (byte_above i n, low_first (suc i) k n, next) refl
+
+pub bytes_lowest : (k n : ℕ) → bytes_low_first 0 k n ≡ number_bytes k n
+bytes_lowest k n = low_first 0 k n ∙ ap (number_bytes k) (div-one n)

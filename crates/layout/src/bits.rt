@@ -37,22 +37,14 @@ pub fn bit_at(map: &[u8], row: usize) -> bool
 pub fn bitmap_length(rows: usize) -> usize
     ensures { result ≡ bitmap_length rows }
 {
-    let whole = rows >> 3;
-    if rows & 7 == 0 { whole } else { whole + 1 }
+    rows.div_ceil(8)
 }
 
 // How many bits of a byte are set.
 pub fn ones_in(b: u8) -> usize
     ensures { (result ≡ ones b) × (result ≤ 8) }
 {
-    u8::count_ones(b) as usize
-}
-
-// How many bits of a number of eight bytes are set.
-fn ones_of(n: u64) -> usize
-    ensures { (result ≡ ones n) × (result ≤ 64) }
-{
-    u64::count_ones(n) as usize
+    b.count_ones() as usize
 }
 
 // How many bits of the first words, of eight bytes each, are set.
@@ -61,10 +53,9 @@ fn word_set_bits(map: &[u8], words: usize) -> usize
     ensures { (result ≡ set_bits map.now (64 * words)) × (result ≤ 64 * words) }
 {
     let mut sum = 0;
-    let mut i = 0;
-    while i < words {
-        sum += ones_of(whole_u64(map, 8 * i));
-        i += 1;
+    for i in 0..words {
+        let word = whole_u64(map, 8 * i);
+        sum += word.count_ones() as usize;
     }
     sum
 }
@@ -76,10 +67,8 @@ fn whole_set_bits(map: &[u8], size: usize) -> usize
 {
     let words = size >> 3;
     let mut sum = word_set_bits(map, words);
-    let mut i = 8 * words;
-    while i < size {
+    for i in 8 * words..size {
         sum += ones_in(map[i]);
-        i += 1;
     }
     sum
 }

@@ -2,6 +2,8 @@
 ghost use Rattle.std.specs.Prelude.{◌≡◌, ◌+◌, ◌<◌, ◌≤◌, length};
 ghost use Rattle.layout.specs.Bytes.{byte, number_at, Written};
 
+use crate::part::put_part;
+
 // The byte at a place; behind the end it is 0.
 pub fn byte_at(s: &[u8], at: usize) -> u8
     ensures { result ≡ byte s.now at }
@@ -14,19 +16,10 @@ pub fn read_u16(s: &[u8], at: usize) -> u16
     ensures { result ≡ number_at 2 s.now at }
 {
     if at < s.len() {
-        let low = byte_at(s, at) as u16;
-        let high = byte_at(s, at + 1) as u16;
-        low + 256 * high
+        u16::from_le_bytes([byte_at(s, at), byte_at(s, at + 1)])
     } else {
         0
     }
-}
-
-// A byte as a number of 32 bits.
-fn wide(b: u8) -> u32
-    ensures { (result ≡ b) × (result < 256) }
-{
-    b as u32
 }
 
 // The number in the four bytes at a place, all of them there.
@@ -34,7 +27,7 @@ fn whole_u32(s: &[u8], at: usize) -> u32
     requires { at + 4 ≤ length s.now }
     ensures { result ≡ number_at 4 s.now at }
 {
-    wide(s[at]) + 256 * (wide(s[at + 1]) + 256 * (wide(s[at + 2]) + 256 * wide(s[at + 3])))
+    u32::from_le_bytes([s[at], s[at + 1], s[at + 2], s[at + 3]])
 }
 
 // The number in the four bytes at a place, where some may be behind the end; those count as 0.
@@ -103,51 +96,19 @@ pub fn read_u64(s: &[u8], at: usize) -> u64
 pub fn write_u16(s: &mut [u8], at: usize, n: u16) -> bool
     ensures { Written 2 s.old at n result s.new }
 {
-    if s.len() < at {
-        return false;
-    }
-    if s.len() - at < 2 {
-        return false;
-    }
-    s[at] = (n % 256) as u8;
-    s[at + 1] = (n / 256 % 256) as u8;
-    true
+    put_part(s, at, &n.to_le_bytes())
 }
 
 // The same with four bytes.
 pub fn write_u32(s: &mut [u8], at: usize, n: u32) -> bool
     ensures { Written 4 s.old at n result s.new }
 {
-    if s.len() < at {
-        return false;
-    }
-    if s.len() - at < 4 {
-        return false;
-    }
-    s[at] = (n % 256) as u8;
-    s[at + 1] = (n / 0x100 % 256) as u8;
-    s[at + 2] = (n / 0x1_0000 % 256) as u8;
-    s[at + 3] = (n / 0x100_0000 % 256) as u8;
-    true
+    put_part(s, at, &n.to_le_bytes())
 }
 
 // The same with eight bytes.
 pub fn write_u64(s: &mut [u8], at: usize, n: u64) -> bool
     ensures { Written 8 s.old at n result s.new }
 {
-    if s.len() < at {
-        return false;
-    }
-    if s.len() - at < 8 {
-        return false;
-    }
-    s[at] = (n % 256) as u8;
-    s[at + 1] = (n / 0x100 % 256) as u8;
-    s[at + 2] = (n / 0x1_0000 % 256) as u8;
-    s[at + 3] = (n / 0x100_0000 % 256) as u8;
-    s[at + 4] = (n / 0x1_0000_0000 % 256) as u8;
-    s[at + 5] = (n / 0x100_0000_0000 % 256) as u8;
-    s[at + 6] = (n / 0x1_0000_0000_0000 % 256) as u8;
-    s[at + 7] = (n / 0x100_0000_0000_0000 % 256) as u8;
-    true
+    put_part(s, at, &n.to_le_bytes())
 }

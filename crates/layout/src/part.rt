@@ -6,8 +6,8 @@ ghost use Rattle.layout.specs.Bytes.{part, PartWritten};
 pub fn part_of(s: &[u8], from: usize, to: usize) -> &[u8]
     ensures { result.now ≡ part s.now from to }
 {
-    let end = if to < s.len() { to } else { s.len() };
-    let start = if from < end { from } else { end };
+    let end = to.min(s.len());
+    let start = from.min(end);
     &s[start..end]
 }
 
@@ -21,10 +21,7 @@ pub fn put_part(s: &mut [u8], at: usize, bytes: &[u8]) -> bool
     if s.len() - at < bytes.len() {
         return false;
     }
-    let mut i = 0;
-    while i < bytes.len() {
-        s[at + i] = bytes[i];
-        i += 1;
-    }
+    let end = at + bytes.len();
+    s[at..end].copy_from_slice(bytes);
     true
 }

@@ -1,4 +1,5 @@
 -- The lines of a listing: how long they are, and whether they fit. Assumes nothing.
+use Rattle.std.specs.Prelude.{Some, None}
 use mathlib.Core.Path.{◌≡◌, refl, sym, ap, ap₂, ◌∙◌}
 use mathlib.Core.Bool.{Bool, true, false, not}
 use mathlib.Core.List.{List, [], ◌∷◌, ◌++◌}
@@ -13,7 +14,6 @@ use Rattle.scalar.specs.Entry.{Entry, Outcome}
 use Rattle.scalar.specs.declared.value.Value.{Value}
 use Rattle.table.specs.Parts.{ValueGives}
 use Rattle.scalar.specs.TryCast.{or_null}
-use Rattle.listing.specs.declared.put.PutAnswer.TheVariants.{Ends, Full}
 use Rattle.listing.specs.declared.shown.Shown.{Shown}
 use Rattle.listing.specs.Listing.{digits, places, decimal, entry_bytes, row_line, rows_word, type_words, head_line, refused_word, refused_line}
 use Rattle.listing.specs.Putting.{Wrote, Put, entry_of, shown_bytes, Shows}
@@ -23,7 +23,7 @@ use Rattle.listing.proofs.DigitLaws.{length_decimal}
 -- ---- room
 
 -- there is none
-pub no_room : {out : List ℕ} {at : ℕ} (xs : List ℕ) {size : ℕ} {r : Bool} → r ≡ leb (at + size) (length out) → not r ≡ true → size ≡ length xs → Put out at xs Full out
+pub no_room : {out : List ℕ} {at : ℕ} (xs : List ℕ) {size : ℕ} {r : Bool} → r ≡ leb (at + size) (length out) → not r ≡ true → size ≡ length xs → Put out at xs None out
 no_room {out} {at} xs {size} {r} e h q =
     let over : length out < at + size = leb-false (at + size) (length out) (sym e ∙ not-true r h) in
     put_full xs (omega arith)
@@ -78,19 +78,19 @@ head_as rows d b e q w = wrote_as (ap₂ (λ (x y : ℕ). rows_word ++ decimal r
 -- ---- an entry
 
 -- the place lies behind the buffer
-pub past_end : {out : List ℕ} {at : ℕ} (xs : List ℕ) → length out < at → Put out at xs Full out
+pub past_end : {out : List ℕ} {at : ℕ} (xs : List ℕ) → length out < at → Put out at xs None out
 past_end xs h = put_full xs (omega arith)
 
 module _ (bytes : List ℕ) {v : Value} {s : Shown} (w : Shows v s) {out : List ℕ} {at : ℕ} where
   -- what is shown doesn't fit
-  pub entry_full : at ≤ length out → {r : Bool} → r ≡ leb (length (shown_bytes bytes s)) (length out - at) → not r ≡ true → Put out at (entry_bytes (entry_of bytes v)) Full out
+  pub entry_full : at ≤ length out → {r : Bool} → r ≡ leb (length (shown_bytes bytes s)) (length out - at) → not r ≡ true → Put out at (entry_bytes (entry_of bytes v)) None out
   entry_full h {r} e q =
       let over : length out - at < length (shown_bytes bytes s) = leb-false (length (shown_bytes bytes s)) (length out - at) (sym e ∙ not-true r q) in
       let size : length (shown_bytes bytes s) ≡ length (entry_bytes (entry_of bytes v)) = ap length (w.says bytes) in
       put_full (entry_bytes (entry_of bytes v)) (omega arith)
 
   -- what is shown is put
-  pub entry_put : {p : ℕ} {m : List ℕ} → Wrote out at (shown_bytes bytes s) p m → Put out at (entry_bytes (entry_of bytes v)) (Ends p) m
+  pub entry_put : {p : ℕ} {m : List ℕ} → Wrote out at (shown_bytes bytes s) p m → Put out at (entry_bytes (entry_of bytes v)) (Some p) m
   entry_put x = put_fits (wrote_as (w.says bytes) x)
 
 -- what is shown fits

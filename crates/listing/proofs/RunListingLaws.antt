@@ -1,4 +1,5 @@
 -- The listing of a run, by what its evaluation says. Assumes nothing.
+use Rattle.std.specs.Prelude.{Option}
 use mathlib.Core.Path.{◌≡◌, refl, sym, ap, ap₂, ◌∙◌}
 use mathlib.Core.List.{List}
 use Prim.Native.Nat.{ℕ, zero, suc, ◌-◌}
@@ -18,7 +19,6 @@ use Rattle.writer.specs.Written.{output_after}
 use Rattle.case.specs.Run.{run}
 use Rattle.case.specs.Promise.{call_run, Evaluated}
 use Rattle.case.proofs.RunLaws.{answered_run, refused_run}
-use Rattle.listing.specs.declared.put.PutAnswer.{PutAnswer}
 use Rattle.listing.specs.Listing.{refused_line, listing, rows_in, run_lines, run_listing}
 use Rattle.listing.specs.Putting.{Put, Listed}
 use Rattle.listing.proofs.WholeLaws.{put_as}
@@ -42,7 +42,7 @@ front_is l output k e =
     let size : k - 0 ≡ length l = omega arith in
     ap (λ (n : ℕ). take n (output_after (ok l) output)) size ∙ take-append_seam l (drop (length l) output)
 
-module _ {rule table work output : List ℕ} {a : RunAnswer} {work' output' : List ℕ} (g : Evaluated rule table work output a work' output') {out : List ℕ} {r : PutAnswer} {out' : List ℕ} where
+module _ {rule table work output : List ℕ} {a : RunAnswer} {work' output' : List ℕ} (g : Evaluated rule table work output a work' output') {out : List ℕ} {r : Option ℕ} {out' : List ℕ} where
   -- the run is refused
   pub listed_refused : {n : ℕ} → a ≡ Refused n → Put out 0 (refused_line n) r out' → Listed rule table work output out r work' output' out'
   unfolding run_listing

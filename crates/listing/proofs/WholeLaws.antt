@@ -1,4 +1,5 @@
 -- A listing's lines, one behind the other: how long they are, and their writing. Assumes nothing.
+use Rattle.std.specs.Prelude.{Option}
 use mathlib.Core.Path.{◌≡◌, refl, sym, ap, subst, ◌∙◌}
 use mathlib.Core.List.{List, [], ◌∷◌, ◌++◌, append-nil, append_assoc}
 use Prim.Native.Nat.{ℕ, zero, suc, ◌+◌, ◌<◌, ◌≤◌}
@@ -15,7 +16,6 @@ use Rattle.table.specs.Column.{TableColumn, entry_at}
 use Rattle.table.specs.Parts.{ValueGives}
 use Rattle.table.specs.Places.{column_in, place_in, AloneRead}
 use Rattle.table.specs.Reading.{read_alone}
-use Rattle.listing.specs.declared.put.PutAnswer.{PutAnswer}
 use Rattle.listing.specs.declared.shown.Shown.{Shown}
 use Rattle.listing.specs.Listing.{places, decimal, row_line, head_line, refused_line, row_lines, column_lines, listing, listing_most}
 use Rattle.listing.specs.Putting.{Wrote, Put, shown_bytes, Shows}
@@ -162,5 +162,5 @@ module _ {l : List ℕ} {rows : ℕ} {r : PlaceAnswer} (a : AloneRead l rows r) 
     lines_short bytes = lines_most l rows (column_in l r.place) bytes reads
 
 -- bytes put by another name
-pub put_as : {out : List ℕ} {at : ℕ} {xs ys : List ℕ} {r : PutAnswer} {m : List ℕ} → xs ≡ ys → Put out at xs r m → Put out at ys r m
+pub put_as : {out : List ℕ} {at : ℕ} {xs ys : List ℕ} {r : Option ℕ} {m : List ℕ} → xs ≡ ys → Put out at xs r m → Put out at ys r m
 put_as {out} {at} {xs} {ys} {r} {m} e p = subst (λ (l : List ℕ). Put out at l r m) e p

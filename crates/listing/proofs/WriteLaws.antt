@@ -1,4 +1,5 @@
 -- Bytes written at a place: one run behind another, byte by byte, and whether they fit. Assumes nothing.
+use Rattle.std.specs.Prelude.{Some, None}
 use mathlib.Core.Path.{◌≡◌, refl, sym, ap, ap₂, subst, ◌∙◌}
 use mathlib.Core.Bool.{Bool, true, false, cond}
 use mathlib.Core.List.{List, [], ◌∷◌, ◌++◌, append-nil, append_assoc}
@@ -9,7 +10,7 @@ use native.Mathlib.Omega.{arith}
 use lib.ListN.{length, take, drop, set, get_or, length-append, length-drop, length-set, take-append-drop}
 use lib.Seq.{length-take-le, take_at, drop_at, drop-drop, sets, sets-eq, take-length, paste, paste-zero, paste-suc, set-append_left, take-set-lt, take-suc-set, append_snoc}
 use borrow.Author.Tests.{le-leb, lt-leb}
-use Rattle.listing.specs.declared.put.PutAnswer.TheVariants.{Ends, Full}
+use Rattle.layout.specs.Bytes.{PartWritten}
 use Rattle.listing.specs.Putting.{wrote, Wrote, fits_at, Put}
 
 -- what stands before the end
@@ -73,54 +74,34 @@ pub wrote_sets : {out : List ℕ} {at : ℕ} {p : ℕ} {m : List ℕ} (xs : List
 unfolding wrote
 wrote_sets {out} {at} xs h e s = record { fits = h; ends = e; holds = s ∙ sets-eq xs out at h }
 
--- ---- a copy, byte by byte
-
--- where the loop stands: i bytes are copied
-pub record PastedSoFar (out : List ℕ) (at : ℕ) (text : List ℕ) (i : ℕ) (m : List ℕ) : Type 0 where
-  pub few : i ≤ length text
-  pub long : length m ≡ length out
-  pub holds : m ≡ paste out at text i
-
-pub pasted_none : {out : List ℕ} {at : ℕ} {text : List ℕ} → PastedSoFar out at text 0 out
-pasted_none {out} {at} {text} = record { few = omega arith; long = refl; holds = paste-zero out at text }
-
-pub pasted_more : {out : List ℕ} {at : ℕ} {text : List ℕ} {i : ℕ} {m : List ℕ} → PastedSoFar out at text i m → at + length text ≤ length out → i < length text
-    → PastedSoFar out at text (i + 1) (set m (at + i) (get_or text i 0))
-pasted_more {out} {at} {text} {i} {m} s room more = record {
-  few = omega arith;
-  long = length-set m (at + i) (get_or text i 0) ∙ s.long;
-  holds = ap (λ (l : List ℕ). set l (at + i) (get_or text i 0)) s.holds ∙ paste-suc out at text i 0 (omega arith) more ∙ ap (paste out at text) (sym (add-one i));
-}
-
-pub pasted_all : {out : List ℕ} {at : ℕ} {text : List ℕ} {i : ℕ} {m : List ℕ} → PastedSoFar out at text i m → at + length text ≤ length out → length text ≤ i
-    → Wrote out at text (at + length text) m
+-- a part that was put where it fits
+pub wrote_part : {out : List ℕ} {at : ℕ} {xs : List ℕ} {done : Bool} {m : List ℕ} → at + length xs ≤ length out → PartWritten out at xs done m → Wrote out at xs (at + length xs) m
 unfolding wrote
-pasted_all {out} {at} {text} {i} {m} s room all =
-    let few = s.few in
-    let e : i ≡ length text = omega arith in
+wrote_part {out} {at} {xs} room p =
+    let t = le-leb (at + length xs) (length out) room in
     record {
       fits = room;
       ends = refl;
-      holds = s.holds ∙ ap (paste out at text) e ∙ ap (λ (l : List ℕ). take at out ++ l ++ drop (at + length text) out) (take-length text);
+      holds = p.holds ∙ ap (λ (b : Bool). cond b (take at out ++ xs ++ drop (at + length xs) out) out) (p.says ∙ t);
     }
 
 -- ---- whether they fit
 
 -- where they fit, what was written is put
-pub put_fits : {out : List ℕ} {at : ℕ} {xs : List ℕ} {p : ℕ} {m : List ℕ} → Wrote out at xs p m → Put out at xs (Ends p) m
+pub put_fits : {out : List ℕ} {at : ℕ} {xs : List ℕ} {p : ℕ} {m : List ℕ} → Wrote out at xs p m → Put out at xs (Some p) m
 put_fits {out} {at} {xs} {p} {m} w =
     let t : fits_at out at xs ≡ true = le-leb (at + length xs) (length out) w.fits in
     record {
-      says = ap Ends w.ends ∙ ap (λ (b : Bool). cond b (Ends (at + length xs)) Full) (sym t);
+      says = ap Some w.ends ∙ ap (λ (b : Bool). cond b (Some (at + length xs)) None) (sym t);
       holds = w.holds ∙ ap (λ (b : Bool). cond b (wrote out at xs) out) (sym t);
     }
 
 -- where they don't, nothing is
-pub put_full : {out : List ℕ} {at : ℕ} (xs : List ℕ) → length out < at + length xs → Put out at xs Full out
+pub put_full : {out : List ℕ} {at : ℕ} (xs : List ℕ) → length out < at + length xs → Put out at xs None out
 put_full {out} {at} xs h =
     let t : fits_at out at xs ≡ false = lt-leb (at + length xs) (length out) h in
     record {
-      says = ap (λ (b : Bool). cond b (Ends (at + length xs)) Full) (sym t);
+      says = ap (λ (b : Bool). cond b (Some (at + length xs)) None) (sym t);
       holds = ap (λ (b : Bool). cond b (wrote out at xs) out) (sym t);
     }
 

@@ -1,5 +1,5 @@
 -- What the writers of a listing promise: bytes at a place of a buffer, or nothing where they don't fit.
-use Rattle.std.specs.Prelude.{◌≡◌, Bool, cond, List, [], ◌∷◌, ◌++◌, ℕ, ◌+◌, ◌≤◌, leb, ℤ, length, take, drop}
+use Rattle.std.specs.Prelude.{◌≡◌, Bool, cond, List, [], ◌∷◌, ◌++◌, ℕ, ◌+◌, ◌≤◌, leb, ℤ, length, take, drop, Option, Some, None}
 use Rattle.scalar.specs.declared.value.Value.{Value}
 use Rattle.scalar.specs.Entry.{Entry}
 use Rattle.scalar.specs.TryCast.{or_null}
@@ -7,8 +7,6 @@ use Rattle.scalar.specs.Value.{meaning, place_text}
 use Rattle.writer.specs.Written.{output_after}
 use Rattle.case.specs.Run.{work_after}
 use Rattle.case.specs.Promise.{call_run}
-use Rattle.listing.specs.declared.put.PutAnswer.{PutAnswer}
-use Rattle.listing.specs.declared.put.PutAnswer.TheVariants.{Ends, Full}
 use Rattle.listing.specs.declared.shown.Shown.{Shown}
 use Rattle.listing.specs.declared.shown.Shown.TheVariants.{Null, Truth, Number, Negative, Bits, Text}
 use Rattle.listing.specs.Listing.{digits, decimal, hex_bytes, null_word, truth_word, integer_bytes, entry_bytes, run_listing}
@@ -27,13 +25,13 @@ pub record Wrote (out : List ℕ) (at : ℕ) (bytes : List ℕ) (end : ℕ) (out
 abbrev pub fits_at : List ℕ → ℕ → List ℕ → Bool
 fits_at out at bytes = leb (at + length bytes) (length out)
 
--- where the bytes fit, they stand at the place, nothing else is changed and the answer is the place behind them; where they don't, nothing is changed and the answer says so
-pub record Put (out : List ℕ) (at : ℕ) (bytes : List ℕ) (r : PutAnswer) (out' : List ℕ) : Type 0 where
-  pub says : r ≡ cond (fits_at out at bytes) (Ends (at + length bytes)) Full
+-- where the bytes fit, they stand at the place, nothing else is changed and the answer is the place behind them; where they don't, nothing is changed and the answer is none
+pub record Put (out : List ℕ) (at : ℕ) (bytes : List ℕ) (r : Option ℕ) (out' : List ℕ) : Type 0 where
+  pub says : r ≡ cond (fits_at out at bytes) (Some (at + length bytes)) None
   pub holds : out' ≡ cond (fits_at out at bytes) (wrote out at bytes) out
 
 -- the listing of a run at the front of a buffer, where it fits, and the final state of the run's buffers
-pub record Listed (rule table work output out : List ℕ) (r : PutAnswer) (work' output' out' : List ℕ) : Type 0 where
+pub record Listed (rule table work output out : List ℕ) (r : Option ℕ) (work' output' out' : List ℕ) : Type 0 where
   pub put : Put out 0 (run_listing rule table (length work) (length output)) r out'
   pub work_is : work' ≡ work_after (call_run rule table work output) work
   pub output_is : output' ≡ output_after (call_run rule table work output) output

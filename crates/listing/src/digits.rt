@@ -4,27 +4,27 @@ ghost use Rattle.listing.specs.Listing.{places, digits, decimal, hex_bytes};
 ghost use Rattle.listing.specs.Listing.{digit as digitOf};
 ghost use Rattle.listing.specs.Putting.{Wrote, Put};
 
-use crate::put::{PutAnswer, room};
+use crate::put::room;
 
 // A number in decimal, at a place.
-pub fn put_decimal(n: u64, at: usize, out: &mut [u8]) -> PutAnswer
+pub fn put_decimal(n: u64, at: usize, out: &mut [u8]) -> Option<usize>
     ensures { Put out.old at (decimal n) result out.new }
 {
     let k = decimal_places(n);
     if !room(out.len(), at, k) {
-        return PutAnswer::Full;
+        return None;
     }
-    PutAnswer::Ends(write_digits(n, 10, k, at, out))
+    Some(write_digits(n, 10, k, at, out))
 }
 
 // So many hex digits of a number, the last ones, at a place.
-pub fn put_hex(n: u64, k: usize, at: usize, out: &mut [u8]) -> PutAnswer
+pub fn put_hex(n: u64, k: usize, at: usize, out: &mut [u8]) -> Option<usize>
     ensures { Put out.old at (digits 16 k n) result out.new }
 {
     if !room(out.len(), at, k) {
-        return PutAnswer::Full;
+        return None;
     }
-    PutAnswer::Ends(write_digits(n, 16, k, at, out))
+    Some(write_digits(n, 16, k, at, out))
 }
 
 // How many decimal digits a number has.
@@ -63,21 +63,12 @@ pub(crate) fn write_digits(n: u64, base: u64, k: usize, at: usize, out: &mut [u8
     requires { (0 < base) × (base ≤ 16) × (at + k ≤ length out.old) }
     ensures { Wrote out.old at (digits base k n) result out.new }
 {
-    let mut i = k;
     let mut rest = n;
-    while 0 < i {
-        i -= 1;
+    for i in (0..k).rev() {
         out[at + i] = digit(rest % base);
         rest /= base;
     }
     at + k
-}
-
-// A byte as a number.
-fn wide(b: u8) -> u64
-    ensures { result ≡ b }
-{
-    b as u64
 }
 
 // A text's bytes in hex, where they fit.
@@ -86,10 +77,8 @@ pub(crate) fn write_text(text: &[u8], at: usize, out: &mut [u8]) -> usize
     ensures { Wrote out.old at (hex_bytes text.now) result out.new }
 {
     let mut p = at;
-    let mut i = 0;
-    while i < text.len() {
-        p = write_digits(wide(text[i]), 16, 2, p, out);
-        i += 1;
+    for &byte in text {
+        p = write_digits(u64::from(byte), 16, 2, p, out);
     }
     p
 }

@@ -4,23 +4,23 @@ ghost use Rattle.listing.specs.Listing.{decimal, hex_bytes, truth_word, entry_by
 ghost use Rattle.listing.specs.Putting.{Wrote, Put, entry_of, shown_bytes};
 
 use crate::digits::{decimal_places, write_decimal, write_digits, write_text};
-use crate::put::{PutAnswer, write_byte, write_bytes};
+use crate::put::{write_byte, write_bytes};
 use crate::shown::{Shown, show};
 use scalar::text::place_text;
 use scalar::value::Value;
 
 // The entry that a value is, with the table's bytes, at a place.
-pub fn put_entry(bytes: &[u8], v: Value, at: usize, out: &mut [u8]) -> PutAnswer
+pub fn put_entry(bytes: &[u8], v: Value, at: usize, out: &mut [u8]) -> Option<usize>
     ensures { Put out.old at (entry_bytes (entry_of bytes.now v)) result out.new }
 {
     if out.len() < at {
-        return PutAnswer::Full;
+        return None;
     }
     let s = show(v);
     if !shown_fits(bytes, s, out.len() - at) {
-        return PutAnswer::Full;
+        return None;
     }
-    PutAnswer::Ends(write_shown(bytes, s, at, out))
+    Some(write_shown(bytes, s, at, out))
 }
 
 // Whether a text in hex and one byte before it fit.

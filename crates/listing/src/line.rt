@@ -6,19 +6,19 @@ ghost use Rattle.listing.specs.Putting.{Wrote, Put, shown_bytes};
 
 use crate::digits::{decimal_places, digit, write_decimal};
 use crate::entry::write_shown;
-use crate::put::{PutAnswer, room, write_byte, write_bytes};
+use crate::put::{room, write_byte, write_bytes};
 use crate::shown::Shown;
 use scalar::types::DataType;
 
 // The line of a refusal with a number, at a place.
-pub(crate) fn put_refused(n: u8, at: usize, out: &mut [u8]) -> PutAnswer
+pub(crate) fn put_refused(n: u8, at: usize, out: &mut [u8]) -> Option<usize>
     ensures { Put out.old at (refused_line n) result out.new }
 {
     let k = decimal_places(n as u64);
     if !room(out.len(), at, k + 9) {
-        return PutAnswer::Full;
+        return None;
     }
-    PutAnswer::Ends(write_refused(n as u64, at, out))
+    Some(write_refused(n as u64, at, out))
 }
 
 // A row's line with what is shown of its entry, where it fits.

@@ -2,12 +2,7 @@
 ghost use Rattle.std.specs.Prelude.{[], ◌∷◌, ◌+◌, ◌≤◌, ◌≡◌, leb, length};
 ghost use Rattle.listing.specs.Putting.{Wrote};
 
-// Where the bytes that were put end, or that they don't fit.
-#[derive(Clone, Copy)]
-pub enum PutAnswer {
-    Ends(usize),
-    Full,
-}
+use layout::part::put_part;
 
 // Whether so many bytes fit at a place of a buffer of a length.
 pub(crate) fn room(length: usize, at: usize, size: usize) -> bool
@@ -33,10 +28,6 @@ pub(crate) fn write_bytes(bytes: &[u8], at: usize, out: &mut [u8]) -> usize
     requires { at + length bytes.now ≤ length out.old }
     ensures { Wrote out.old at bytes.now result out.new }
 {
-    let mut i = 0;
-    while i < bytes.len() {
-        out[at + i] = bytes[i];
-        i += 1;
-    }
+    put_part(out, at, bytes);
     at + bytes.len()
 }

@@ -9,7 +9,7 @@ ghost use Rattle.listing.specs.Putting.{Wrote, Put, Listed};
 use crate::digits::decimal_places;
 use crate::entry::shown_size;
 use crate::line::{put_refused, write_head, write_row};
-use crate::put::{PutAnswer, room};
+use crate::put::room;
 use crate::shown::show;
 use case::evaluate::evaluate;
 use layout::part::part_of;
@@ -23,7 +23,7 @@ use writer::RunAnswer;
 pub const LISTING_MOST: usize = 144409;
 
 // The listing of the one column of so many rows that the bytes are, at a place: the head line and each row's in order, or the refusal's.
-pub fn put_column(bytes: &[u8], rows: usize, at: usize, out: &mut [u8]) -> PutAnswer
+pub fn put_column(bytes: &[u8], rows: usize, at: usize, out: &mut [u8]) -> Option<usize>
     ensures { Put out.old at (listing rows (read_alone rows bytes.now)) result out.new }
 {
     let answer = read_alone(bytes, rows);
@@ -33,9 +33,9 @@ pub fn put_column(bytes: &[u8], rows: usize, at: usize, out: &mut [u8]) -> PutAn
     let place = answer.place;
     let size = lines_size(bytes, place, rows);
     if !room(out.len(), at, size) {
-        return PutAnswer::Full;
+        return None;
     }
-    PutAnswer::Ends(write_lines(bytes, place, rows, at, out))
+    Some(write_lines(bytes, place, rows, at, out))
 }
 
 // Evaluates a rule over a table in the lent work buffer and output, and puts the listing of the run at the front of the last buffer.
@@ -45,7 +45,7 @@ pub fn put_listing(
     work: &mut [u8],
     output: &mut [u8],
     out: &mut [u8],
-) -> PutAnswer
+) -> Option<usize>
     ensures { Listed rule.now table.now work.old output.old out.old result work.new output.new out.new }
 {
     match evaluate(rule, table, work, output) {
@@ -73,10 +73,8 @@ fn lines_size(bytes: &[u8], place: ColumnPlace, rows: usize) -> usize
     ensures { result ≡ length (column_lines (column_in bytes.now place) rows) }
 {
     let mut size = decimal_places(rows as u64) + 24;
-    let mut row = 0;
-    while row < rows {
+    for row in 0..rows {
         size += row_size(bytes, place, row);
-        row += 1;
     }
     size
 }
@@ -88,11 +86,9 @@ fn write_lines(bytes: &[u8], place: ColumnPlace, rows: usize, at: usize, out: &m
 {
     let kind = place.data_type;
     let mut p = write_head(rows, kind, place.nullable, at, out);
-    let mut row = 0;
-    while row < rows {
+    for row in 0..rows {
         let s = show(entry_in(bytes, place, row));
         p = write_row(bytes, s, row, p, out);
-        row += 1;
     }
     p
 }

@@ -2,7 +2,7 @@
 use mathlib.Core.Path.{◌≡◌, refl, ap, ap₂, sym, subst, ◌∙◌}
 use mathlib.Core.Bool.{Bool, true, false, cond}
 use mathlib.Core.List.{List, ◌++◌}
-use Prim.Native.Nat.{ℕ, ◌+◌, ◌-◌, ◌*◌, ◌%◌, ◌<◌, ◌≤◌}
+use Prim.Native.Nat.{ℕ, suc, ◌+◌, ◌-◌, ◌*◌, ◌%◌, ◌<◌, ◌≤◌}
 use native.Mathlib.Omega.{arith}
 use lib.Dec.{eqb}
 use lib.ListN.{length}
@@ -186,12 +186,13 @@ module _ {rule target : List ℕ} {at end count depth : ℕ} {base : Value} {to 
   tested t m = test-gives.means ∙ ap₂ (on_entries equal_entry) (m rule) (when_gives.means t.when_tree t.when_at_lem rule)
 
   -- it doesn't pass: the later branches
-  pub branches_next : {passed : Bool} → PassGives test passed → passed ≡ false → BranchesLeft rule at end count base to target depth next (left - 1)
-  branches_next pass is = record {
+  pub branches_next : {less : ℕ} {passed : Bool} → suc less ≡ left → PassGives test passed → passed ≡ false → BranchesLeft rule at end count base to target depth next less
+  branches_next {less} fewer pass is = record {
     stand = λ bs els b t n m.
         let (cs, u, k, same) = inv.stand bs els b t n m in
         let v = turn cs els b u k some e f in
-        (v.more, v.more_at, v.one_less, sym (pass_none b (eval (replaced v.when_tree target) unread) (eval (replaced v.then_tree target) unread) (branches_outcome v.more (equals_test b) els to target) (ap may_pass (sym (tested v m)) ∙ sym (pass rule rule) ∙ is)) ∙ v.gives ∙ same);
+        let k : branch_count v.more ≡ less = omega (arith, v.one_less) in
+        (v.more, v.more_at, k, sym (pass_none b (eval (replaced v.when_tree target) unread) (eval (replaced v.then_tree target) unread) (branches_outcome v.more (equals_test b) els to target) (ap may_pass (sym (tested v m)) ∙ sym (pass rule rule) ∙ is)) ∙ v.gives ∙ same);
   }
 
   -- it failed

@@ -14,12 +14,15 @@ use Rattle.scalar.specs.declared.types.DataType.{DataType}
 use Rattle.scalar.specs.declared.types.DataType.TheVariants.{Boolean, Utf8}
 use Rattle.scalar.specs.Types.{type_number, type_numbered, mark_number, mark_numbered, same_type, is_number}
 use Rattle.scalar.specs.Entry.{Entry, null, boolean, utf8, is_null}
+use Rattle.std.specs.Prelude.{Result as RustResult, Ok, Err}
+use Rattle.layout.specs.declared.refusal.Refusal.{Refusal}
+use Rattle.layout.specs.declared.refusal.Refusal.TheVariants.{RuleContent, RuleTypes}
 use Rattle.rule.specs.declared.node.FieldFound.{FieldFound}
 use Rattle.rule.specs.Tree.{Column, Expr, column, literal, negation, is_not_null}
 use Rattle.rule.specs.Typing.{type_of, node_typed}
 use Rattle.rule.specs.Reading.{Read, unlike_earlier, read_column, number_of, literal_value, marked_value, read_literal}
 use Rattle.rule.specs.Seen.{mark_of, Marked}
-use Rattle.rule.specs.Steps.{accepted, ReadGives, meet_column, value_of, ValueGives, unary_of}
+use Rattle.rule.specs.Steps.{ReadGives, meet_column, value_of, ValueGives, unary_of}
 use Rattle.rule.proofs.SeenLaws.{unlike_marks, seen_met}
 use Rattle.rule.proofs.StepLaws.{gives_refusal, gives_read, on_ok, on_refused, empty_drop, some_drop}
 
@@ -38,9 +41,9 @@ no_mark (suc (suc k)) h = refl
 
 -- a column behind its type
 module _ (index : ℕ) (t : DataType) (mark : ℕ) (cols : List Column) (outer : List ℕ) (end : ℕ) where
-  pub meet_unmarked : {r : FieldFound} {after : List ℕ} → 1 < mark → r.refused ≡ 3 → ReadGives outer (meet_column index t mark cols (drop end outer)) r after
+  pub meet_unmarked : {after : List ℕ} → 1 < mark → ReadGives outer (meet_column index t mark cols (drop end outer)) (Err RuleContent) after
   unfolding meet_column
-  meet_unmarked h e = on_refused (mark_numbered 3 mark) _ 3 (no_mark mark h) (omega arith) e
+  meet_unmarked h = on_refused (mark_numbered 3 mark) _ 3 (no_mark mark h) refl
 
   -- k is the type's number
   module _ (before : List ℕ) (s : Marked cols before) (low : mark ≤ 1) (k : ℕ) (k-is : k ≡ type_number t) where
@@ -56,12 +59,12 @@ module _ (index : ℕ) (t : DataType) (mark : ℕ) (cols : List Column) (outer :
     unlike_is : unlike_earlier named cols ≡ (not (eqb old 0) && not (eqb old (k + 8 * mark)))
     unlike_is = unlike_marks cols named s.all_alike ∙ ap₂ (λ (x y : ℕ). not (eqb x 0) && not (eqb x y)) (sym (s.marked index)) (sym named_mark)
 
-    pub meet_unlike : {r : FieldFound} {after : List ℕ} → (old ≡ 0 → ⊥) → (old ≡ k + 8 * mark → ⊥) → r.refused ≡ 7 → ReadGives outer (meet_column index t mark cols (drop end outer)) r after
+    pub meet_unlike : {after : List ℕ} → (old ≡ 0 → ⊥) → (old ≡ k + 8 * mark → ⊥) → ReadGives outer (meet_column index t mark cols (drop end outer)) (Err RuleTypes) after
     unfolding meet_column
-    meet_unlike p q e =
+    meet_unlike p q =
         let u : unlike_earlier named cols ≡ true = unlike_is ∙ ap₂ (λ (x y : Bool). not x && not y) (ne_eqb _ _ p) (ne_eqb _ _ q) in
         on_ok (mark_numbered 3 mark) _ (mark_of_lem mark low).0 (mark_of_lem mark low).1
-        (on_refused (require (not (unlike_earlier named cols)) 7) _ 7 (ap (λ (x : Bool). require (not x) 7) u) (omega arith) e)
+        (on_refused (require (not (unlike_earlier named cols)) 7) _ 7 (ap (λ (x : Bool). require (not x) 7) u) refl)
 
     like_is : ((old ≡ 0 → ⊥) → old ≡ k + 8 * mark) → unlike_earlier named cols ≡ false
     like_is h = unlike_is ∙ go (eqb old 0) refl
@@ -70,31 +73,30 @@ module _ (index : ℕ) (t : DataType) (mark : ℕ) (cols : List Column) (outer :
         go true e = refl
         go false e = ap not (eq-eqb old (k + 8 * mark) (h (eqb-false old 0 e)))
 
-    pub meet_like : {r : FieldFound} {after : List ℕ} → index < 256 → ((old ≡ 0 → ⊥) → old ≡ k + 8 * mark)
-        → r ≡ accepted t false end → after ≡ set before index (k + 8 * mark)
-        → ReadGives outer (meet_column index t mark cols (drop end outer)) r after
+    pub meet_like : {after : List ℕ} → index < 256 → ((old ≡ 0 → ⊥) → old ≡ k + 8 * mark) → after ≡ set before index (k + 8 * mark)
+        → ReadGives outer (meet_column index t mark cols (drop end outer)) (Ok (record { result = t; null = false; next = end })) after
     unfolding meet_column type_of
-    meet_like {r} few h e after_is =
+    meet_like few h after_is =
         let u = like_is h in
         let met = subst (λ (x : ℕ). Marked (named ∷ cols) (set before index x)) (sym named_mark) (seen_met cols before named s few u) in
         on_ok (mark_numbered 3 mark) _ (mark_of_lem mark low).0 (mark_of_lem mark low).1
         (on_ok (require (not (unlike_earlier named cols)) 7) _ tt (ap (λ (x : Bool). require (not x) 7) u)
-        (rw (e, after_is) (gives_read (record { tree = column named; seen = named ∷ cols; rest = drop end outer }) refl refl
+        (rw after_is (gives_read (record { tree = column named; seen = named ∷ cols; rest = drop end outer }) _ refl refl
         (record { type_is = refl; null_is = refl; behind = record { rest_is = refl; seen_are = met } }))))
 
 -- a column
-module _ (content : List ℕ) (cols : List Column) (outer : List ℕ) (end : ℕ) {r : FieldFound} {after : List ℕ} where
-  pub column_sized : (length content ≡ 3 → ⊥) → r.refused ≡ 3 → ReadGives outer (read_column (record { tag = 16; content = content; rest = drop end outer }) cols) r after
+module _ (content : List ℕ) (cols : List Column) (outer : List ℕ) (end : ℕ) {after : List ℕ} where
+  pub column_sized : (length content ≡ 3 → ⊥) → ReadGives outer (read_column (record { tag = 16; content = content; rest = drop end outer }) cols) (Err RuleContent) after
   unfolding read_column
-  column_sized h e = on_refused (require (eqb (length content) 3) 3) _ 3 (ap (λ (x : Bool). require x 3) (ne_eqb _ _ h)) (omega arith) e
+  column_sized h = on_refused (require (eqb (length content) 3) 3) _ 3 (ap (λ (x : Bool). require x 3) (ne_eqb _ _ h)) refl
 
-  pub column_typed : length content ≡ 3 → type_numbered 3 (byte content 1) ≡ refused 3 → r.refused ≡ 3
-      → ReadGives outer (read_column (record { tag = 16; content = content; rest = drop end outer }) cols) r after
+  pub column_typed : length content ≡ 3 → type_numbered 3 (byte content 1) ≡ refused 3
+      → ReadGives outer (read_column (record { tag = 16; content = content; rest = drop end outer }) cols) (Err RuleContent) after
   unfolding read_column
-  column_typed h p e =
-      on_ok (require (eqb (length content) 3) 3) _ tt (ap (λ (x : Bool). require x 3) (eq-eqb _ _ h)) (on_refused (type_numbered 3 (byte content 1)) _ 3 p (omega arith) e)
+  column_typed h p =
+      on_ok (require (eqb (length content) 3) 3) _ tt (ap (λ (x : Bool). require x 3) (eq-eqb _ _ h)) (on_refused (type_numbered 3 (byte content 1)) _ 3 p refl)
 
-  pub column_met : (t : DataType) → length content ≡ 3 → type_numbered 3 (byte content 1) ≡ ok t
+  pub column_met : {r : RustResult FieldFound Refusal} (t : DataType) → length content ≡ 3 → type_numbered 3 (byte content 1) ≡ ok t
       → ReadGives outer (meet_column (byte content 0) t (byte content 2) cols (drop end outer)) r after
       → ReadGives outer (read_column (record { tag = 16; content = content; rest = drop end outer }) cols) r after
   unfolding read_column meet_column
@@ -179,45 +181,45 @@ one_byte (suc (suc (suc (suc zero)))) = refl
 one_byte (suc (suc (suc (suc (suc zero))))) = refl
 one_byte (suc (suc (suc (suc (suc (suc k)))))) = refl
 
-module _ (cols : List Column) (outer : List ℕ) (end : ℕ) {r : FieldFound} {after : List ℕ} where
-  pub literal_sized : (content : List ℕ) → length content < 2 → r.refused ≡ 3 → ReadGives outer (read_literal (record { tag = 17; content = content; rest = drop end outer }) cols) r after
+module _ (cols : List Column) (outer : List ℕ) (end : ℕ) {after : List ℕ} where
+  pub literal_sized : (content : List ℕ) → length content < 2 → ReadGives outer (read_literal (record { tag = 17; content = content; rest = drop end outer }) cols) (Err RuleContent) after
   unfolding read_literal
-  literal_sized [] h e = gives_refusal 3 refl (omega arith) e
-  literal_sized (a ∷ []) h e = gives_refusal 3 (one_byte a) (omega arith) e
-  literal_sized (a ∷ b ∷ l) h e = absurd (omega arith)
+  literal_sized [] h = gives_refusal 3 refl refl
+  literal_sized (a ∷ []) h = gives_refusal 3 (one_byte a) refl
+  literal_sized (a ∷ b ∷ l) h = absurd (omega arith)
 
-  pub literal_typed : (content : List ℕ) → 2 ≤ length content → type_numbered 3 (byte content 0) ≡ refused 3 → r.refused ≡ 3
-      → ReadGives outer (read_literal (record { tag = 17; content = content; rest = drop end outer }) cols) r after
+  pub literal_typed : (content : List ℕ) → 2 ≤ length content → type_numbered 3 (byte content 0) ≡ refused 3
+      → ReadGives outer (read_literal (record { tag = 17; content = content; rest = drop end outer }) cols) (Err RuleContent) after
   unfolding read_literal
-  literal_typed [] h p e = absurd (omega arith)
-  literal_typed (a ∷ l) h p e = on_refused (type_numbered 3 a) _ 3 p (omega arith) e
+  literal_typed [] h p = absurd (omega arith)
+  literal_typed (a ∷ l) h p = on_refused (type_numbered 3 a) _ 3 p refl
 
   module _ (t : DataType) where
     pub literal_unfit : (content : List ℕ) → 2 ≤ length content → type_numbered 3 (byte content 0) ≡ ok t
-        → (fits : Bool) → ValueGives (byte content 1) (value_of t (byte content 1) (drop 2 content)) fits → fits ≡ false → r.refused ≡ 3
-        → ReadGives outer (read_literal (record { tag = 17; content = content; rest = drop end outer }) cols) r after
+        → (fits : Bool) → ValueGives (byte content 1) (value_of t (byte content 1) (drop 2 content)) fits → fits ≡ false
+        → ReadGives outer (read_literal (record { tag = 17; content = content; rest = drop end outer }) cols) (Err RuleContent) after
     unfolding read_literal value_of
-    literal_unfit [] h p fits v f e = absurd (omega arith)
-    literal_unfit (a ∷ []) h p fits v f e = absurd (omega arith)
-    literal_unfit (a ∷ b ∷ l) h p fits v f e =
+    literal_unfit [] h p fits v f = absurd (omega arith)
+    literal_unfit (a ∷ []) h p fits v f = absurd (omega arith)
+    literal_unfit (a ∷ b ∷ l) h p fits v f =
         on_ok (type_numbered 3 a) _ t p
-        (subst (λ (d : Result (Read Expr)). ReadGives outer d r after) (in_turn (mark_numbered 3 b) (λ m. marked_value m t l) _)
-        (on_refused (value_of t b l) (λ x. ok (record { tree = literal t x; seen = cols; rest = drop end outer })) 3 (v.unfitting f) (omega arith) e))
+        (subst (λ (d : Result (Read Expr)). ReadGives outer d (Err RuleContent) after) (in_turn (mark_numbered 3 b) (λ m. marked_value m t l) _)
+        (on_refused (value_of t b l) (λ x. ok (record { tree = literal t x; seen = cols; rest = drop end outer })) 3 (v.unfitting f) refl))
 
     pub literal_read : (content : List ℕ) → 2 ≤ length content → type_numbered 3 (byte content 0) ≡ ok t
         → (fits : Bool) → ValueGives (byte content 1) (value_of t (byte content 1) (drop 2 content)) fits → fits ≡ true
-        → Marked cols after → r ≡ accepted t (eqb (byte content 1) 1) end
-        → ReadGives outer (read_literal (record { tag = 17; content = content; rest = drop end outer }) cols) r after
+        → Marked cols after
+        → ReadGives outer (read_literal (record { tag = 17; content = content; rest = drop end outer }) cols) (Ok (record { result = t; null = eqb (byte content 1) 1; next = end })) after
     unfolding read_literal value_of type_of
-    literal_read [] h p fits v f s e = absurd (omega arith)
-    literal_read (a ∷ []) h p fits v f s e = absurd (omega arith)
-    literal_read (a ∷ b ∷ l) h p fits v f s e =
+    literal_read [] h p fits v f s = absurd (omega arith)
+    literal_read (a ∷ []) h p fits v f s = absurd (omega arith)
+    literal_read (a ∷ b ∷ l) h p fits v f s =
         let (x, gives, is) = v.fitting f in
         on_ok (type_numbered 3 a) _ t p
-        (subst (λ (d : Result (Read Expr)). ReadGives outer d r after) (in_turn (mark_numbered 3 b) (λ m. marked_value m t l) _)
+        (subst (λ (d : Result (Read Expr)). ReadGives outer d (Ok (record { result = t; null = eqb b 1; next = end })) after) (in_turn (mark_numbered 3 b) (λ m. marked_value m t l) _)
         (on_ok (value_of t b l) (λ x. ok (record { tree = literal t x; seen = cols; rest = drop end outer })) x gives
-        (rw e (gives_read (record { tree = literal t x; seen = cols; rest = drop end outer }) refl refl
-        (record { type_is = refl; null_is = is; behind = record { rest_is = refl; seen_are = s } })))))
+        (gives_read (record { tree = literal t x; seen = cols; rest = drop end outer }) _ refl refl
+        (record { type_is = refl; null_is = is; behind = record { rest_is = refl; seen_are = s } }))))
 
 -- a node of one child, by its tag
 module _ (tag : ℕ) (e : Expr) {child : DataType} (is : child ≡ type_of e) where

@@ -9,7 +9,7 @@ use lib.ListN.{length, take, drop, length-append, length-drop, take-append-drop,
 use lib.Seq.{length-take-le, drop-drop, take_at, drop_at, get_or-drop}
 use borrow.Author.Tests.{ltb-true, leb-true}
 use Rattle.layout.specs.declared.field.FieldPlace.{FieldPlace}
-use Rattle.layout.specs.declared.field.Header.TheVariants.{Found, Cut}
+use Rattle.std.specs.Prelude.{Some, None}
 use Rattle.layout.specs.Bytes.{Bytes, byte, part, number_bytes}
 use Rattle.layout.specs.Field.{header, field_bytes}
 use Rattle.layout.specs.Place.{header_of, header_at}
@@ -95,7 +95,7 @@ held_byte {rule} {bytes} {start} {end} i at h k e =
 
 -- the header of a field that is held
 held_header : {rule : List ℕ} (tag : ℕ) (content : List ℕ) {start end : ℕ} → HeldAt rule start end (field_bytes tag content)
-    → header_at rule start ≡ Found (record { tag = tag; start = start + 3; end = end })
+    → header_at rule start ≡ Some (record { tag = tag; start = start + 3; end = end })
 unfolding field_bytes number_bytes
 held_header {rule} tag content {start} {end} h =
     let size = held_size h in
@@ -103,7 +103,7 @@ held_header {rule} tag content {start} {end} h =
     let inside = h.inside in
     let is = ap (header 2) (held_behind h) ∙ header_field 2 tag content (drop end rule) (omega arith) in
     let e : start + 3 + length content ≡ end = omega arith in
-    ap (header_of start) is ∙ ap (λ (n : ℕ). Found (record { tag = tag; start = start + 3; end = n })) e
+    ap (header_of start) is ∙ ap (λ (n : ℕ). Some (record { tag = tag; start = start + 3; end = n })) e
 
 -- and its content
 held_content : {rule : List ℕ} (tag : ℕ) (content : List ℕ) {start end : ℕ} → HeldAt rule start end (field_bytes tag content) → HeldAt rule (start + 3) end content
@@ -241,7 +241,7 @@ node_held {rule} {start} {end} {depth} {e} n =
 
 -- the header at a node's start says its tag and where it ends
 pub node_header : {rule : List ℕ} {start end depth : ℕ} {e : Expr} → NodeAt rule start end e depth
-    → header_at rule start ≡ Found (record { tag = node_tag e; start = start + 3; end = end })
+    → header_at rule start ≡ Some (record { tag = node_tag e; start = start + 3; end = end })
 node_header {e = e} n = held_header (node_tag e) (head_bytes e ++ trees_bytes (children_of e)) (node_held n)
 
 -- behind it stand the bytes before the children, and then the children
@@ -288,14 +288,14 @@ trees_split {rule} {start} {end} {depth} {e} {es} t =
     )
 
 -- what the header at a node's start says
-pub node_found : {rule : List ℕ} {start end depth : ℕ} {e : Expr} {p : FieldPlace} → NodeAt rule start end e depth → header_at rule start ≡ Found p
+pub node_found : {rule : List ℕ} {start end depth : ℕ} {e : Expr} {p : FieldPlace} → NodeAt rule start end e depth → header_at rule start ≡ Some p
     → (p.tag ≡ node_tag e) × (p.start ≡ start + 3) × (p.end ≡ end)
 node_found {start = start} {end} {e = e} {p} n h =
     let is : record { tag = node_tag e; start = start + 3; end = end } ≡ p = let k = node_header n in cc in
     (ap (λ (q : FieldPlace). q.tag) (sym is), ap (λ (q : FieldPlace). q.start) (sym is), ap (λ (q : FieldPlace). q.end) (sym is))
 
 -- it is there
-pub node_not_cut : {rule : List ℕ} {start end depth : ℕ} {e : Expr} → NodeAt rule start end e depth → header_at rule start ≡ Cut → ⊥
+pub node_not_cut : {rule : List ℕ} {start end depth : ℕ} {e : Expr} → NodeAt rule start end e depth → header_at rule start ≡ None → ⊥
 node_not_cut n h = let k = node_header n in let z : ◌≡◌ {A = ℕ} 0 1 = cc in omega arith
 
 -- a node takes at least its header

@@ -16,7 +16,7 @@ use Rattle.rule.specs.Constant.{columns_of, constant_fails}
 use Rattle.rule.specs.Reading.{kind_among, unlike_earlier, read_column, literal_value, marked_value, read_literal, close_node, read_unary, read_cast, read_binary, read_branches, read_optional, read_parts, read_case, read_limited_case, read_kind, read_field, read_root, read_tree, read_rule}
 use Rattle.rule.specs.Nullable.{stripped, replaced, reachable, nullable}
 use Rattle.rule.specs.Answers.{nullable_answer}
-use Rattle.rule.specs.declared.answer.NullableAnswer.TheVariants.{Nullable}
+use Rattle.std.specs.Prelude.{Ok}
 
 -- column 0, a nullable Boolean
 abbrev c0 : List ℕ
@@ -67,7 +67,7 @@ base_case_of b w t e = let l = b ++ w ++ t ++ e in 25 ∷ (2 + length l) ∷ 0 �
 
 -- what is answered of a rule
 abbrev Says : List ℕ → Bool → Type 0
-Says rule b = nullable_answer (read_rule rule) ≡ Nullable b
+Says rule b = nullable_answer (read_rule rule) ≡ Ok b
 
 -- an ELSE that may turn null, and one that never does
 pub record ElseExamples : Type 0 where

@@ -2,7 +2,7 @@
 use mathlib.Core.Path.{◌≡◌, refl, ap, ap₂, sym, subst, ◌∙◌}
 use mathlib.Core.Bool.{Bool, true, false, ◌&&◌, ◌||◌, or-false, or-true}
 use mathlib.Core.List.{List, [], ◌∷◌, ◌++◌}
-use Prim.Native.Nat.{ℕ, ◌+◌, ◌-◌, ◌%◌, ◌<◌, ◌≤◌}
+use Prim.Native.Nat.{ℕ, suc, ◌+◌, ◌-◌, ◌%◌, ◌<◌, ◌≤◌}
 use native.Mathlib.Omega.{arith}
 use lib.Dec.{eqb}
 use lib.ListN.{length}
@@ -234,12 +234,12 @@ module _ {rule : List ℕ} {at end count depth place left then next : ℕ} {base
       go no_more els most n t = absurd (omega arith)
       go (branch w u cs) els most n t = ap (λ (x : Bool). x || nullable_then cs base) (sym is ∙ (branch_is most t).0)
 
-  pub thens_next : null ≡ false → NullableLeft rule at end count base depth next (left - 1)
+  pub thens_next : {less : ℕ} → suc less ≡ left → null ≡ false → NullableLeft rule at end count base depth next less
   unfolding nullable branch_count
-  thens_next is = record { stand = λ bs els most n t. let (cs, size, trees, same) = inv.stand bs els most n t in go cs els most size trees same }
+  thens_next {less} fewer is = record { stand = λ bs els most n t. let (cs, size, trees, same) = inv.stand bs els most n t in go cs els most size trees same }
     where
       go : {b : Bool} (cs : Branches) (els : Optional) → depth ≤ 8 → branch_count cs ≡ left → TreesAt rule place end (branch_trees cs ++ optional_trees els) depth → b ≡ nullable_then cs base
-          → (ds : Branches) × (branch_count ds ≡ left - 1) × TreesAt rule next end (branch_trees ds ++ optional_trees els) depth × (b ≡ nullable_then ds base)
+          → (ds : Branches) × (branch_count ds ≡ less) × TreesAt rule next end (branch_trees ds ++ optional_trees els) depth × (b ≡ nullable_then ds base)
       go no_more els most n t same = absurd (omega arith)
       go (branch w u cs) els most n t same =
           let (null_is, later) = branch_is most t in

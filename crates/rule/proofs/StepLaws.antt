@@ -1,12 +1,17 @@
 -- Steps of the reading beside their definitions. Assumes nothing.
+use Rattle.std.specs.Prelude.{Option, Some, None, ok_or, IsErrAnd, Result as RustResult, Ok, Err}
+use Rattle.std.proofs.lemmas.Result.{err_from_is_err_and}
 use mathlib.Core.Path.{◌≡◌, refl, ap, sym, subst, ◌∙◌}
 use mathlib.Core.Bool.{Bool, true, false, cond}
 use mathlib.Core.List.{List, [], ◌∷◌}
 use Prim.Native.Nat.{ℕ, zero, suc, ◌<◌, ◌≤◌}
 use native.Mathlib.Omega.{arith}
-use lib.Dec.{eqb, ltb}
+use lib.Dec.{ltb}
 use lib.ListN.{length, drop}
-use borrow.Author.Tests.{ltb-true, ltb-false, eq-eqb, ne_eqb}
+use borrow.Author.Tests.{ltb-true, ltb-false}
+use Rattle.layout.specs.declared.refusal.Refusal.{Refusal}
+use Rattle.layout.specs.declared.refusal.Refusal.TheVariants.{RuleContent, RuleTypes}
+use Rattle.layout.specs.Refusals.{refusal_numbered}
 use Rattle.layout.specs.Result.{Result, refused, ok, ◌>>=◌, require}
 use Rattle.layout.proofs.ResultLaws.{refused_not_ok, ok_injective}
 use Rattle.scalar.specs.declared.types.DataType.{DataType}
@@ -16,53 +21,65 @@ use Rattle.rule.specs.Typing.{type_of, node_typed}
 use Rattle.rule.specs.Constant.{is_empty}
 use Rattle.rule.specs.Reading.{Read, close_node}
 use Rattle.rule.specs.Seen.{Marked}
-use Rattle.rule.specs.Steps.{refusal, accepted, closed, Gives, Behind, ReadGives}
+use Rattle.rule.specs.Steps.{closed, Gives, Behind, ReadGives}
 
-module _ {A : Type 0} {good : A → Type 0} {m : Result A} {k : ℕ} where
+ok_not_err : {A : Type 0} {e : Refusal} {x : A} → Ok x ≡ Err e → ⊥
+ok_not_err e = cc
+
+module _ {A B : Type 0} {good : B → A → Type 0} {m : Result A} {k : RustResult B Refusal} where
   -- a definition that refuses
-  pub gives_refusal : (n : ℕ) → m ≡ refused n → 0 < n → k ≡ n → Gives good m k
-  gives_refusal n e p q = record {
-    refuses = λ j h. let same : n ≡ j = cc in (q ∙ same, subst (λ (i : ℕ). 0 < i) same p);
+  pub gives_refusal : (n : ℕ) → m ≡ refused n → k ≡ Err (refusal_numbered n) → Gives good m k
+  gives_refusal n e q = record {
+    refuses = λ j h. let same : n ≡ j = cc in q ∙ ap (λ (i : ℕ). Err (refusal_numbered i)) same;
     reads = λ x h. absurd (refused_not_ok n x (sym e ∙ h));
   }
 
   -- a definition that reads
-  pub gives_read : (x : A) → m ≡ ok x → k ≡ 0 → good x → Gives good m k
-  gives_read x e z g = record {
+  pub gives_read : (x : A) (y : B) → m ≡ ok x → k ≡ Ok y → good y x → Gives good m k
+  gives_read x y e z g = record {
     refuses = λ n h. absurd (refused_not_ok n x (sym h ∙ e));
-    reads = λ y h. (z, subst good (ok_injective (sym e ∙ h)) g);
+    reads = λ w h. (y, z, subst (good y) (ok_injective (sym e ∙ h)) g);
   }
 
 -- taken backwards
-module _ {A : Type 0} {good : A → Type 0} {k : ℕ} where
-  pub was_refused : (m : Result A) → Gives good m k → (k ≡ 0 → ⊥) → (m ≡ refused k) × (0 < k)
-  was_refused (refused n) g z = let i = g.refuses n refl in (ap refused (sym i.0), subst (λ (j : ℕ). 0 < j) (sym i.0) i.1)
-  was_refused (ok x) g z = absurd (z (g.reads x refl).0)
+module _ {A B : Type 0} {good : B → A → Type 0} {k : RustResult B Refusal} where
+  pub was_refused : (m : Result A) {e : Refusal} → Gives good m k → k ≡ Err e → (n : ℕ) × (m ≡ refused n) × (e ≡ refusal_numbered n)
+  was_refused (refused n) g z = let i = g.refuses n refl in (n, refl, cc)
+  was_refused (ok x) g z = let (y, is, i) = g.reads x refl in absurd (ok_not_err (sym is ∙ z))
 
-  pub was_read : (m : Result A) → Gives good m k → k ≡ 0 → (x : A) × (m ≡ ok x) × good x
-  was_read (refused n) g z = let i = g.refuses n refl in absurd (omega (arith, i.0, i.1))
-  was_read (ok x) g z = (x, refl, (g.reads x refl).1)
+  pub was_read : (m : Result A) {y : B} → Gives good m k → k ≡ Ok y → (x : A) × (m ≡ ok x) × good y x
+  was_read (refused n) g z = let i = g.refuses n refl in absurd (ok_not_err (sym z ∙ i))
+  was_read (ok x) {y} g z = let (w, is, i) = g.reads x refl in let same : w ≡ y = cc in (x, refl, subst (λ (v : B). good v x) same i)
 
-module _ {A B : Type 0} {good : B → Type 0} {k : ℕ} where
+module _ {A B C : Type 0} {good : C → B → Type 0} {k : RustResult C Refusal} where
   -- a step that goes on, and one that refuses
   pub on_ok : (m : Result A) (f : A → Result B) (a : A) → m ≡ ok a → Gives good (f a) k → Gives good (m >>= f) k
   on_ok m f a e g = subst (λ (x : Result A). Gives good (x >>= f) k) (sym e) g
 
-  pub on_refused : (m : Result A) (f : A → Result B) (n : ℕ) → m ≡ refused n → 0 < n → k ≡ n → Gives good (m >>= f) k
-  on_refused m f n e p q = gives_refusal n (ap (λ (x : Result A). x >>= f) e) p q
+  pub on_refused : (m : Result A) (f : A → Result B) (n : ℕ) → m ≡ refused n → k ≡ Err (refusal_numbered n) → Gives good (m >>= f) k
+  on_refused m f n e q = gives_refusal n (ap (λ (x : Result A). x >>= f) e) q
 
-module _ {A B : Type 0} {first : A → Type 0} {good : B → Type 0} {j k : ℕ} where
-  -- behind a part that was read, and behind one that was refused
-  pub behind_read : (m : Result A) (f : A → Result B) → Gives first m j → j ≡ 0 → ((x : A) → first x → Gives good (f x) k) → Gives good (m >>= f) k
-  behind_read m f g z h = let (x, is, read) = was_read m g z in on_ok m f x is (h x read)
+  module _ {D : Type 0} {first : D → A → Type 0} {j : RustResult D Refusal} where
+    -- behind a part that was read, and behind one that was refused
+    pub behind_read : (m : Result A) (f : A → Result B) {y : D} → Gives first m j → j ≡ Ok y → ((x : A) → first y x → Gives good (f x) k) → Gives good (m >>= f) k
+    behind_read m f g z h = let (x, is, read) = was_read m g z in on_ok m f x is (h x read)
 
-  pub behind_refused : (m : Result A) (f : A → Result B) → Gives first m j → (j ≡ 0 → ⊥) → k ≡ j → Gives good (m >>= f) k
-  behind_refused m f g z q = let (is, some) = was_refused m g z in on_refused m f j is some q
+    pub behind_refused : (m : Result A) (f : A → Result B) {e : Refusal} → Gives first m j → j ≡ Err e → k ≡ Err e → Gives good (m >>= f) k
+    behind_refused m f g z q = let (n, is, same) = was_refused m g z in on_refused m f n is (q ∙ ap Err same)
 
-  -- a part that makes up the whole
-  pub gives_map : (m : Result A) (h : A → B) → Gives first m j → k ≡ j → ((x : A) → first x → good (h x)) → Gives good (m >>= λ x. ok (h x)) k
-  gives_map (refused n) h g e f = let i = g.refuses n refl in gives_refusal n refl i.1 (e ∙ i.0)
-  gives_map (ok x) h g e f = let i = g.reads x refl in gives_read (h x) refl (e ∙ i.0) (f x i.1)
+-- a part that makes up the whole
+pub gives_map : {A B C : Type 0} {first : C → A → Type 0} {good : C → B → Type 0} {j : RustResult C Refusal} (m : Result A) (h : A → B) → Gives first m j
+    → ((y : C) (x : A) → first y x → good y (h x)) → Gives good (m >>= λ x. ok (h x)) j
+gives_map (refused n) h g f = gives_refusal n refl (g.refuses n refl)
+gives_map (ok x) h g f = let (y, is, i) = g.reads x refl in gives_read (h x) y refl is (f y x i)
+
+-- what the exit of a `?` returns
+pub passed_on : {B : Type 0} {e : Refusal} (r : RustResult B Refusal) → IsErrAnd r (λ d. d ≡ e) → r ≡ Err e
+passed_on r h = let p = err_from_is_err_and r h in p.1 ∙ ap Err p.2
+
+-- and where a value was none
+pub none_of : {A : Type 0} (e : Refusal) {d : Refusal} (o : Option A) → o ≡ None → Err d ≡ ok_or o e → d ≡ e
+none_of {A} e {d} o z is = let same : ◌≡◌ {A = RustResult A Refusal} (Err d) (Err e) = is ∙ ap (λ (p : Option A). ok_or p e) z in cc
 
 -- bytes left over
 pub empty_drop : (n : ℕ) (l : List ℕ) → length l ≤ n → is_empty (drop n l) ≡ true
@@ -79,43 +96,35 @@ some_drop n [] h = absurd (omega arith)
 some_drop zero (a ∷ l) h = refl
 some_drop (suc n) (a ∷ l) h = some_drop n l (omega arith)
 
--- a node behind its last child, with the marks `after`
-module _ {A : Type 0} {good : Read A → Type 0} (node : A → Expr) (bytes outer after : List ℕ) (last : FieldFound) (size : ℕ) (fits : Bool) (t : DataType) (end : ℕ)
-    (size_is : size ≡ length bytes)
-    (fine : (x : Read A) → good x → Behind bytes last.next after x × (fits ≡ node_typed (node x.tree)) × (t ≡ type_of (node x.tree)) × (false ≡ is_null_literal (node x.tree))) where
-  typed_gives : (x : Read A) → good x → size ≤ last.next → (b : Bool) → fits ≡ b
-      → ReadGives outer (close_node (node x.tree) x.seen x.rest (drop end outer)) (cond b (accepted t false end) (refusal 7)) after
+-- a node behind its last child, which was read, with the marks `after`
+module _ {A : Type 0} (node : A → Expr) (bytes outer after : List ℕ) (next size : ℕ) (fits : Bool) (t : DataType) (end : ℕ) (size_is : size ≡ length bytes) (x : Read A)
+    (behind : Behind bytes next after x) (fits_is : fits ≡ node_typed (node x.tree)) (type_is : t ≡ type_of (node x.tree)) (null_is : false ≡ is_null_literal (node x.tree)) where
+  abbrev typed : Bool → RustResult FieldFound Refusal
+  typed b = cond b (Ok (record { result = t; null = false; next = end })) (Err RuleTypes)
+
+  abbrev ClosedBy : RustResult FieldFound Refusal → Type 0
+  ClosedBy r = ReadGives outer (close_node (node x.tree) x.seen x.rest (drop end outer)) r after
+
+  typed_gives : size ≤ next → (b : Bool) → node_typed (node x.tree) ≡ b → ClosedBy (typed b)
   unfolding close_node
-  typed_gives x g h b e =
-      let (behind, fits_is, type_is, null_is) = fine x g in
-      let none : is_empty x.rest ≡ true = ap is_empty behind.rest_is ∙ empty_drop last.next bytes (omega arith) in
-      on_ok (require (is_empty x.rest) 3) _ tt (ap (λ (q : Bool). require q 3) none) (go b (sym fits_is ∙ e) type_is null_is behind.seen_are)
+  typed_gives h b e =
+      let none : is_empty x.rest ≡ true = ap is_empty behind.rest_is ∙ empty_drop next bytes (omega arith) in
+      on_ok (require (is_empty x.rest) 3) _ tt (ap (λ (q : Bool). require q 3) none) (go b e)
     where
-      go : (b : Bool) → node_typed (node x.tree) ≡ b → t ≡ type_of (node x.tree) → false ≡ is_null_literal (node x.tree) → Marked x.seen after
-          → ReadGives outer (require (node_typed (node x.tree)) 7 >>= λ _. ok (record { tree = node x.tree; seen = x.seen; rest = drop end outer }))
-          (cond b (accepted t false end) (refusal 7)) after
-      go true e type_is null_is seen_are =
+      go : (b : Bool) → node_typed (node x.tree) ≡ b
+          → ReadGives outer (require (node_typed (node x.tree)) 7 >>= λ _. ok (record { tree = node x.tree; seen = x.seen; rest = drop end outer })) (typed b) after
+      go true e =
           on_ok (require (node_typed (node x.tree)) 7) _ tt (ap (λ (q : Bool). require q 7) e)
-          (gives_read (record { tree = node x.tree; seen = x.seen; rest = drop end outer }) refl refl
-          (record { type_is = type_is; null_is = null_is; behind = record { rest_is = refl; seen_are = seen_are } }))
-      go false e type_is null_is seen_are =
-          on_refused (require (node_typed (node x.tree)) 7) _ 7 (ap (λ (q : Bool). require q 7) e) (omega arith) refl
+          (gives_read (record { tree = node x.tree; seen = x.seen; rest = drop end outer }) _ refl refl
+          (record { type_is = type_is; null_is = null_is; behind = record { rest_is = refl; seen_are = behind.seen_are } }))
+      go false e = on_refused (require (node_typed (node x.tree)) 7) _ 7 (ap (λ (q : Bool). require q 7) e) refl
 
-  left_gives : (x : Read A) → good x → (b : Bool) → ltb last.next size ≡ b
-      → ReadGives outer (close_node (node x.tree) x.seen x.rest (drop end outer))
-      (cond b (refusal 3) (cond fits (accepted t false end) (refusal 7))) after
+  pub close_gives : ClosedBy (closed next size fits t end)
   unfolding close_node
-  left_gives x g true e =
-      let some : is_empty x.rest ≡ false = ap is_empty (fine x g).0.rest_is ∙ some_drop last.next bytes (subst (λ (n : ℕ). last.next < n) size_is (ltb-true _ _ e)) in
-      on_refused (require (is_empty x.rest) 3) _ 3 (ap (λ (q : Bool). require q 3) some) (omega arith) refl
-  left_gives x g false e = typed_gives x g (ltb-false _ _ e) fits refl
-
-  pub close_gives : (m : Result (Read A)) → Gives good m last.refused
-      → ReadGives outer (m >>= λ x. close_node (node x.tree) x.seen x.rest (drop end outer)) (closed last size fits t end) after
-  close_gives (refused n) h =
-      let i = h.refuses n refl in
-      let is : eqb last.refused 0 ≡ false = ne_eqb last.refused 0 (λ z. omega (arith, i.0, i.1)) in
-      rw is (gives_refusal n refl i.1 i.0)
-  close_gives (ok x) h =
-      let i = h.reads x refl in
-      rw (eq-eqb last.refused 0 i.0) (left_gives x i.1 (ltb last.next size) refl)
+  close_gives = go (ltb next size) refl
+    where
+      go : (b : Bool) → ltb next size ≡ b → ClosedBy (cond b (Err RuleContent) (typed fits))
+      go true e =
+          let some : is_empty x.rest ≡ false = ap is_empty behind.rest_is ∙ some_drop next bytes (subst (λ (n : ℕ). next < n) size_is (ltb-true _ _ e)) in
+          on_refused (require (is_empty x.rest) 3) _ 3 (ap (λ (q : Bool). require q 3) some) refl
+      go false e = typed_gives (ltb-false _ _ e) fits (sym fits_is)

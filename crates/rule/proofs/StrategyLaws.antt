@@ -112,13 +112,13 @@ unfolding literals_there
 literals_found rule place {left = zero} same some read is = absurd (omega arith)
 literals_found rule place {left = suc n} same some read is = let k = ne_eqb (byte rule place) 17 (λ p. is (read ∙ p)) in sym (ap (λ (b : Bool). b && literals_there rule (field_end rule place) n) k) ∙ same
 
-pub literals_next : (rule : List ℕ) (place : ℕ) {left tag next : ℕ} {all : Bool} → literals_there rule place left ≡ all → 0 < left → tag ≡ byte rule place → tag ≡ 17 → next ≡ field_end rule place
-    → literals_there rule next (left - 1) ≡ all
+pub literals_next : (rule : List ℕ) (place : ℕ) {left less tag next : ℕ} {all : Bool} → literals_there rule place left ≡ all → suc less ≡ left → tag ≡ byte rule place → tag ≡ 17
+    → next ≡ field_end rule place → literals_there rule next less ≡ all
 unfolding literals_there
 literals_next rule place {left = zero} same some read is ends = absurd (omega arith)
-literals_next rule place {left = suc n} same some read is ends =
+literals_next rule place {left = suc n} {less} same some read is ends =
     let k = eq-eqb (byte rule place) 17 (sym read ∙ is) in
-    let one : suc n - 1 ≡ n = omega arith in
+    let one : less ≡ n = omega arith in
     ap₂ (literals_there rule) ends one ∙ sym (ap (λ (b : Bool). b && literals_there rule (field_end rule place) n) k) ∙ same
 
 pub literals_end : (rule : List ℕ) (place : ℕ) {left : ℕ} {all : Bool} → literals_there rule place left ≡ all → left ≤ 0 → true ≡ all
@@ -137,12 +137,12 @@ unfolding when_there
 whens_found rule place {left = zero} same more read is = absurd (omega arith)
 whens_found rule place {left = suc n} same more read is = sym (ap (λ (b : Bool). not b || when_there rule (behind_fields rule place 2) n) (sym read ∙ is)) ∙ same
 
-pub whens_next : (rule : List ℕ) (place : ℕ) {left next : ℕ} {null some : Bool} → when_there rule place left ≡ some → 0 < left → null ≡ null_there rule place → null ≡ true
-    → next ≡ behind_fields rule place 2 → when_there rule next (left - 1) ≡ some
+pub whens_next : (rule : List ℕ) (place : ℕ) {left less next : ℕ} {null some : Bool} → when_there rule place left ≡ some → suc less ≡ left → null ≡ null_there rule place → null ≡ true
+    → next ≡ behind_fields rule place 2 → when_there rule next less ≡ some
 unfolding when_there
 whens_next rule place {left = zero} same more read is behind = absurd (omega arith)
-whens_next rule place {left = suc n} same more read is behind =
-    let one : suc n - 1 ≡ n = omega arith in
+whens_next rule place {left = suc n} {less} same more read is behind =
+    let one : less ≡ n = omega arith in
     ap₂ (when_there rule) behind one ∙ sym (ap (λ (b : Bool). not b || when_there rule (behind_fields rule place 2) n) (sym read ∙ is)) ∙ same
 
 pub whens_end : (rule : List ℕ) (place : ℕ) {left : ℕ} {some : Bool} → when_there rule place left ≡ some → left ≤ 0 → false ≡ some

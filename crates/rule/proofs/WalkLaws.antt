@@ -2,14 +2,13 @@
 use mathlib.Core.Path.{◌≡◌, refl, ap, sym, subst, ◌∙◌}
 use mathlib.Core.Bool.{Bool, true, false, cond}
 use mathlib.Core.List.{List, [], ◌∷◌, ◌++◌}
-use Prim.Native.Nat.{ℕ, zero, suc, ◌+◌, ◌-◌, ◌*◌, ◌%◌, ◌<◌, ◌≤◌}
+use Prim.Native.Nat.{ℕ, zero, suc, ◌+◌, ◌*◌, ◌%◌, ◌<◌, ◌≤◌}
 use native.Mathlib.Omega.{arith}
 use lib.Dec.{leb}
 use lib.ListN.{length, drop, get_or-eq_default}
 use borrow.Author.Tests.{leb-true, leb-false, le-leb, lt-leb, ne_eqb}
 use Rattle.layout.specs.declared.field.FieldPlace.{FieldPlace}
-use Rattle.layout.specs.declared.field.Header.{Header}
-use Rattle.layout.specs.declared.field.Header.TheVariants.{Found, Cut}
+use Rattle.std.specs.Prelude.{Option, Some, None}
 use Rattle.layout.specs.Result.{Result, refused, ok}
 use Rattle.layout.specs.Bytes.{byte}
 use Rattle.layout.specs.Field.{Field, header}
@@ -22,10 +21,10 @@ use Rattle.rule.specs.Walked.{header_end, field_end, behind_fields, leaf_tag, he
 use Rattle.rule.proofs.NodeLaws.{Tagged, tagged_by, node_found, node_not_cut, node_tag_lem, node_children, node_size, node_end, trees_split}
 
 -- a field that is found takes at least its header
-found_size : (l : List ℕ) (at : ℕ) (p : FieldPlace) → header_at l at ≡ Found p → at + 3 ≤ p.end
+found_size : (l : List ℕ) (at : ℕ) (p : FieldPlace) → header_at l at ≡ Some p → at + 3 ≤ p.end
 found_size l at p = go (header 2 (drop at l))
   where
-    go : (h : Result Field) → header_of at h ≡ Found p → at + 3 ≤ p.end
+    go : (h : Result Field) → header_of at h ≡ Some p → at + 3 ≤ p.end
     go (refused n) e = let z : ◌≡◌ {A = ℕ} 0 1 = cc in absurd (omega arith)
     go (ok f) e =
         let same : record { tag = f.tag; start = at + 3; end = at + 3 + length f.content } ≡ p = cc in
@@ -54,7 +53,7 @@ unfolding field_end
 end_behind rule {at} none = rw (le-leb (length rule) at none)
 
 -- and by its header
-pub end_told : (rule : List ℕ) {at : ℕ} {h : Header} → at < length rule → header_at rule at ≡ h → header_end (length rule) h ≡ field_end rule at
+pub end_told : (rule : List ℕ) {at : ℕ} {h : Option FieldPlace} → at < length rule → header_at rule at ≡ h → header_end (length rule) h ≡ field_end rule at
 unfolding field_end
 end_told rule {at} room is =
     sym (ap (λ (b : Bool). cond b at (header_end (length rule) (header_at rule at))) (lt-leb (length rule) at room) ∙ ap (header_end (length rule)) is)
@@ -64,12 +63,12 @@ pub end_gives : {rule : List ℕ} {at r : ℕ} → r ≡ field_end rule at → E
 unfolding field_end
 end_gives {rule} {at} is = subst (EndGives rule at) (sym is) (go (leb (length rule) at) refl (header_at rule at) refl)
   where
-    go : (b : Bool) → leb (length rule) at ≡ b → (h : Header) → header_at rule at ≡ h → EndGives rule at (cond b at (header_end (length rule) h))
+    go : (b : Bool) → leb (length rule) at ≡ b → (h : Option FieldPlace) → header_at rule at ≡ h → EndGives rule at (cond b at (header_end (length rule) h))
     go true p h q =
         let none : length rule ≤ at = leb-true _ _ p in
         record { ends = λ end e depth n. absurd (let k = nothing_behind n in omega arith); onward = omega arith; farther = λ k. absurd (omega arith) }
-    go false p (Found f) q = let size = found_size rule at f q in record { ends = λ end e depth n. (node_found n q).2; onward = omega arith; farther = λ k. omega arith }
-    go false p Cut q =
+    go false p (Some f) q = let size = found_size rule at f q in record { ends = λ end e depth n. (node_found n q).2; onward = omega arith; farther = λ k. omega arith }
+    go false p None q =
         let room : at < length rule = leb-false _ _ p in
         record { ends = λ end e depth n. absurd (node_not_cut n q); onward = omega arith; farther = λ k. k }
 
@@ -152,10 +151,10 @@ first_two e f trees =
     (first, second, later)
 
 -- what stands behind so many fields, one field on
-pub behind_next : (rule : List ℕ) (place : ℕ) {left next : ℕ} → 0 < left → next ≡ field_end rule place → behind_fields rule next (left - 1) ≡ behind_fields rule place left
+pub behind_next : (rule : List ℕ) (place : ℕ) {left less next : ℕ} → suc less ≡ left → next ≡ field_end rule place → behind_fields rule next less ≡ behind_fields rule place left
 unfolding behind_fields
 behind_next rule place {left = zero} some is = absurd (omega arith)
-behind_next rule place {left = suc n} {next} some is = let k : suc n - 1 ≡ n = omega arith in ap (behind_fields rule next) k ∙ ap (λ (x : ℕ). behind_fields rule x n) is
+behind_next rule place {left = suc n} {less} {next} some is = let k : less ≡ n = omega arith in ap (behind_fields rule next) k ∙ ap (λ (x : ℕ). behind_fields rule x n) is
 
 -- and behind none
 pub behind_none : (rule : List ℕ) {place left : ℕ} → left ≤ 0 → place ≡ behind_fields rule place left

@@ -1,7 +1,6 @@
 -- What the walks over a rule's bytes give at every place, whatever stands there (01, Bytes of a rule).
-use Rattle.std.specs.Prelude.{Bool, cond, ◌||◌, List, ℕ, zero, suc, ◌+◌, ◌-◌, ◌%◌, eqb, leb, ltb, length}
-use Rattle.layout.specs.declared.field.Header.{Header}
-use Rattle.layout.specs.declared.field.Header.TheVariants.{Found, Cut}
+use Rattle.std.specs.Prelude.{Bool, cond, ◌||◌, List, ℕ, zero, suc, ◌+◌, ◌-◌, ◌%◌, eqb, leb, ltb, length, Option, Some, None}
+use Rattle.layout.specs.declared.field.FieldPlace.{FieldPlace}
 use Rattle.layout.specs.Result.{Result, refused, ok}
 use Rattle.layout.specs.Bytes.{byte, number_at}
 use Rattle.layout.specs.Place.{header_at}
@@ -13,9 +12,9 @@ use Rattle.scalar.specs.Types.{type_numbered}
 use Rattle.scalar.specs.Value.{float_value}
 
 -- the end that a header says; where the field is cut, the end of the rule
-abbrev pub header_end : ℕ → Header → ℕ
-header_end size (Found p) = p.end
-header_end size Cut = size
+abbrev pub header_end : ℕ → Option FieldPlace → ℕ
+header_end size (Some p) = p.end
+header_end size None = size
 
 -- where the field at a place ends; behind the rule's end, the place itself
 unfoldable pub field_end : List ℕ → ℕ → ℕ

@@ -165,8 +165,7 @@ fn constant_branches(
     ensures { BranchesGives rule.now at end count base to target.now depth result }
 {
     let mut place = at;
-    let mut left = count;
-    while left > 0 {
+    for _ in 0..count {
         let then = field_end(rule, place);
         let next = field_end(rule, then);
         let when = constant(rule, place, then, target, depth);
@@ -179,7 +178,6 @@ fn constant_branches(
             return constant(rule, then, next, target, depth);
         }
         place = next;
-        left -= 1;
     }
     constant_else(rule, place, end, to, target, depth)
 }

@@ -3,52 +3,54 @@ ghost use Rattle.std.specs.Prelude.{drop};
 ghost use Rattle.rule.specs.Reading.{read_column, read_literal};
 ghost use Rattle.rule.specs.Steps.{NodeGives, meet_column, value_of, ValueGives};
 
-use crate::node::{FieldFound, accept, refuse};
-use crate::types::type_number;
+use crate::node::FieldFound;
 use layout::number::byte_at;
-use scalar::types::{DataType, TypeAnswer, type_numbered};
+use layout::refusal::Refusal;
+use scalar::types::DataType;
 
 // A column behind its type: nullable, and that it is like the earlier ones of its index.
 pub(crate) fn meet_column(
     index: u8,
-    res: DataType,
+    data_type: DataType,
     mark: u8,
     end: usize,
     marks: &mut [u8; 256],
-) -> FieldFound
-    ensures { NodeGives end marks.old (meet_column index res mark) result marks.new }
+) -> Result<FieldFound, Refusal>
+    ensures { NodeGives end marks.old (meet_column index data_type mark) result marks.new }
 {
     if 1 < mark {
-        return refuse(3);
+        return Err(Refusal::RuleContent);
     }
-    let new = type_number(res) + 8 * mark;
+    let new = data_type.number() + 8 * mark;
     let i = index as usize;
     let old = marks[i];
     if old != 0 {
         if old != new {
-            return refuse(7);
+            return Err(Refusal::RuleTypes);
         }
     }
     marks[i] = new;
-    accept(res, false, end)
+    Ok(FieldFound {
+        result: data_type,
+        null: false,
+        next: end,
+    })
 }
 
 // A column: index, type, nullable, a byte each.
-pub(crate) fn read_column(content: &[u8], end: usize, marks: &mut [u8; 256]) -> FieldFound
+pub(crate) fn read_column(content: &[u8], end: usize, marks: &mut [u8; 256]) -> Result<FieldFound, Refusal>
     ensures { NodeGives end marks.old (λ cols rest. read_column (record { tag = 16; content = content.now; rest = rest }) cols) result marks.new }
 {
     if content.len() != 3 {
-        return refuse(3);
+        return Err(Refusal::RuleContent);
     }
-    match type_numbered(content[1]) {
-        TypeAnswer::Known(t) => meet_column(content[0], t, content[2], end, marks),
-        TypeAnswer::Unknown => refuse(3),
-    }
+    let data_type = DataType::numbered(content[1]).ok_or(Refusal::RuleContent)?;
+    meet_column(content[0], data_type, content[2], end, marks)
 }
 
 // Whether the value of a literal is as its type and its null mark want it: none if null, a Boolean a byte 0 or 1, numbers 4 or 8 bytes, text any.
-pub(crate) fn value_fits(res: DataType, mark: u8, content: &[u8]) -> bool
-    ensures { ValueGives mark (value_of res mark (drop 2 content.now)) result }
+pub(crate) fn value_fits(data_type: DataType, mark: u8, content: &[u8]) -> bool
+    ensures { ValueGives mark (value_of data_type mark (drop 2 content.now)) result }
 {
     if 1 < mark {
         return false;
@@ -57,7 +59,7 @@ pub(crate) fn value_fits(res: DataType, mark: u8, content: &[u8]) -> bool
     if mark == 1 {
         return size <= 2;
     }
-    match res {
+    match data_type {
         DataType::Boolean => {
             if size != 3 {
                 return false;
@@ -72,20 +74,20 @@ pub(crate) fn value_fits(res: DataType, mark: u8, content: &[u8]) -> bool
 }
 
 // A literal: type, null mark, value.
-pub(crate) fn read_literal(content: &[u8], end: usize, marks: &mut [u8; 256]) -> FieldFound
+pub(crate) fn read_literal(content: &[u8], end: usize, marks: &mut [u8; 256]) -> Result<FieldFound, Refusal>
     ensures { NodeGives end marks.old (λ cols rest. read_literal (record { tag = 17; content = content.now; rest = rest }) cols) result marks.new }
 {
     if content.len() < 2 {
-        return refuse(3);
+        return Err(Refusal::RuleContent);
     }
-    match type_numbered(content[0]) {
-        TypeAnswer::Known(t) => {
-            let mark = content[1];
-            if value_fits(t, mark, content) {
-                return accept(t, mark == 1, end);
-            }
-            refuse(3)
-        }
-        TypeAnswer::Unknown => refuse(3),
+    let data_type = DataType::numbered(content[0]).ok_or(Refusal::RuleContent)?;
+    let mark = content[1];
+    if !value_fits(data_type, mark, content) {
+        return Err(Refusal::RuleContent);
     }
+    Ok(FieldFound {
+        result: data_type,
+        null: mark == 1,
+        next: end,
+    })
 }

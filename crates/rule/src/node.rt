@@ -4,95 +4,57 @@ ghost use Rattle.scalar.specs.Types.{same_type};
 ghost use Rattle.scalar.specs.Cast.{listed};
 ghost use Rattle.rule.specs.Tree.{Expr};
 ghost use Rattle.rule.specs.Typing.{type_of, node_typed};
-ghost use Rattle.rule.specs.Steps.{refusal, accepted, closed, unbranched, branched, unary_of};
+ghost use Rattle.rule.specs.Steps.{closed, branched, unary_of};
 
 use crate::seen::Seen;
-use crate::types::{is_listed, is_number, same_type, type_or};
-use scalar::types::{DataType, TypeAnswer};
+use crate::types::{is_listed, is_number, same_type};
+use layout::refusal::Refusal;
+use scalar::types::DataType;
 
-// What reading a rule found: the number with which it is refused (0: none), its type, and the columns met.
+// What reading a rule found: its type, and the columns met.
 #[derive(Drop)]
 pub(crate) struct RuleFound {
-    pub(crate) refused: u8,
     pub(crate) result: DataType,
     pub(crate) seen: Seen,
 }
 
-// What reading a field found, beside the marks, which are lent: the number with which it is refused (0: none), its type, whether it is a
-// null literal, and where it ends in the slice.
+// What reading a field found, beside the marks, which are lent: its type, whether it is a null literal, and where it ends in the slice.
 #[derive(Clone, Copy)]
 pub(crate) struct FieldFound {
-    pub(crate) refused: u8,
     pub(crate) result: DataType,
     pub(crate) null: bool,
     pub(crate) next: usize,
 }
 
-// What reading branches found: the number with which they are refused (0: none), the type of their THENs, whether all types fit, and
-// where they end.
+// What reading branches found: the type of their THENs, whether all types fit, and where they end.
 #[derive(Clone, Copy)]
 pub(crate) struct BranchesRead {
-    pub(crate) refused: u8,
     pub(crate) result: DataType,
     pub(crate) fits: bool,
     pub(crate) next: usize,
 }
 
-// A rule that is refused.
-pub(crate) fn refuse_rule(n: u8) -> RuleFound
-    ensures { result.refused ≡ n }
-{
-    RuleFound {
-        refused: n,
-        result: DataType::Boolean,
-        seen: Seen { marks: [0u8; 256] },
-    }
-}
-
-// A refusal.
-pub(crate) fn refuse(n: u8) -> FieldFound
-    ensures { result ≡ refusal n }
-{
-    FieldFound {
-        refused: n,
-        result: DataType::Boolean,
-        null: false,
-        next: 0,
-    }
-}
-
-// A field of a type that ends at a place.
-pub(crate) fn accept(res: DataType, null: bool, next: usize) -> FieldFound
-    ensures { result ≡ accepted res null next }
-{
-    FieldFound {
-        refused: 0,
-        result: res,
-        null,
-        next,
-    }
-}
-
-// A node behind its last child, of so many bytes of content: bytes left over, then types that don't fit.
+// A node whose last child ends at `next` of so many bytes of content: bytes left over, then types that don't fit.
 pub(crate) fn close(
-    last: FieldFound,
+    next: usize,
     size: usize,
     fits: bool,
-    res: DataType,
+    data_type: DataType,
     end: usize,
-) -> FieldFound
-    ensures { result ≡ closed last size fits res end }
+) -> Result<FieldFound, Refusal>
+    ensures { result ≡ closed next size fits data_type end }
 {
-    if last.refused != 0 {
-        return last;
-    }
-    if last.next < size {
-        return refuse(3);
+    if next < size {
+        return Err(Refusal::RuleContent);
     }
     if fits {
-        return accept(res, false, end);
+        return Ok(FieldFound {
+            result: data_type,
+            null: false,
+            next: end,
+        });
     }
-    refuse(7)
+    Err(Refusal::RuleTypes)
 }
 
 // Whether NOT, negative or IS NOT NULL takes a type.
@@ -128,30 +90,6 @@ pub(crate) fn case_fits(branches: bool, null: bool, from: DataType, to: DataType
     false
 }
 
-// Branches that are refused.
-pub(crate) fn refuse_branches(n: u8) -> BranchesRead
-    ensures { result.refused ≡ n }
-{
-    BranchesRead {
-        refused: n,
-        result: DataType::Boolean,
-        fits: false,
-        next: 0,
-    }
-}
-
-// No branch.
-pub(crate) fn no_branches(earlier: TypeAnswer, next: usize) -> BranchesRead
-    ensures { result ≡ unbranched earlier next }
-{
-    BranchesRead {
-        refused: 0,
-        result: type_or(earlier, DataType::Boolean),
-        fits: true,
-        next,
-    }
-}
-
 // Whether a branch fits, before later ones that do or don't.
 fn branch_fits(w: DataType, when: DataType, t: DataType, res: DataType, later: bool) -> bool
     ensures { result ≡ (same_type w when && same_type t res && later) }
@@ -175,7 +113,6 @@ pub(crate) fn add_branch(
 {
     let result = later.result;
     BranchesRead {
-        refused: later.refused,
         result,
         fits: branch_fits(w, when, t, result, later.fits),
         next: later.next,

@@ -120,8 +120,7 @@ fn nullable_branches(
     ensures { BranchesNullableGives rule.now start at end count base depth result }
 {
     let mut place = at;
-    let mut left = count;
-    while left > 0 {
+    for _ in 0..count {
         let then = field_end(rule, place);
         let next = field_end(rule, then);
         let null = nullable_branch(rule, place, then, next, base, depth);
@@ -129,7 +128,6 @@ fn nullable_branches(
             return true;
         }
         place = next;
-        left -= 1;
     }
     if place == end {
         return true;

@@ -7,26 +7,24 @@ ghost use Rattle.rule.specs.Seen.{SeenIs};
 
 use crate::seen::Seen;
 
-// The first `count` of `columns`.
-#[derive(Drop)]
-pub(crate) struct ColumnList {
-    pub(crate) count: usize,
-    pub(crate) columns: [u8; 256],
+// The columns that a rule names, each once, rising: the first `count` of `columns`.
+#[derive(Clone, Copy, Debug, PartialEq, Eq)]
+pub struct Projection {
+    pub count: usize,
+    pub columns: [u8; 256],
 }
 
 // The indexes of the columns met.
-pub(crate) fn projected(seen: Seen) -> ColumnList
+pub(crate) fn projected(seen: Seen) -> Projection
     ensures { (cols : List Column) → SeenIs cols seen → (result.count ≡ length (indexes cols)) × (result.columns ≡ columns_in256 (indexes cols)) }
 {
     let mut columns = [0u8; 256];
     let mut count = 0;
-    let mut i = 0;
-    while i < 256 {
+    for i in 0..256 {
         if seen.marks[i] != 0 {
             columns[count] = i as u8;
             count += 1;
         }
-        i += 1;
     }
-    ColumnList { count, columns }
+    Projection { count, columns }
 }

@@ -7,21 +7,20 @@ ghost use Rattle.rule.specs.Steps.{TreeGives, RuleGives, RootGives, FieldGives, 
 use crate::fails::constant_fails;
 use crate::leaf::{read_column, read_literal};
 use crate::node::{
-    BranchesRead, FieldFound, RuleFound, accept, add_branch, case_fits, close, no_branches, refuse,
-    refuse_branches, refuse_rule, unary_fits, unary_type,
+    BranchesRead, FieldFound, RuleFound, add_branch, case_fits, close, unary_fits, unary_type,
 };
 use crate::nullable::nullable_of;
 use crate::seen::Seen;
-use crate::types::{is_listed, same_type, type_or};
-use layout::field::{Header, field_at};
+use crate::tag;
+use crate::types::{is_listed, same_type};
+use layout::field::field_at;
 use layout::part::part_of;
-use scalar::types::{DataType, TypeAnswer, type_numbered};
+use layout::refusal::Refusal;
+use scalar::types::DataType;
 
-// What an evaluation takes from a rule: the number with which it is refused (0: none), the result's type, the nullability answer, and the
-// columns met.
+// What an evaluation takes from a rule: the result's type, the nullability answer, and the columns met.
 #[derive(Drop)]
 pub struct RuleReading {
-    pub refused: u8,
     pub result: DataType,
     pub nullable: bool,
     pub seen: Seen,
@@ -29,26 +28,19 @@ pub struct RuleReading {
 
 // The field at a place of a slice; so much depth and so many CASEs are left on the path.
 #[cycle(read)]
-fn read_field(s: &[u8], at: usize, depth: usize, cases: usize, marks: &mut [u8; 256]) -> FieldFound
+fn read_field(s: &[u8], at: usize, depth: usize, cases: usize, marks: &mut [u8; 256]) -> Result<FieldFound, Refusal>
     ensures { FieldGives s.now marks.old (read_field depth cases (drop at s.now)) result marks.new }
 {
-    match field_at(s, at) {
-        Header::Found(f) => {
-            let tag = f.tag;
-            if tag < 16 {
-                return refuse(3);
-            }
-            if 25 < tag {
-                return refuse(3);
-            }
-            if depth == 0 {
-                return refuse(4);
-            }
-            let content = part_of(s, f.start, f.end);
-            read_kind(content, tag, f.end, depth - 1, cases, marks)
-        }
-        Header::Cut => refuse(2),
+    let f = field_at(s, at).ok_or(Refusal::RuleCut)?;
+    let tag = f.tag;
+    if tag < tag::COLUMN || tag::CASE < tag {
+        return Err(Refusal::RuleContent);
     }
+    if depth == 0 {
+        return Err(Refusal::RuleDepth);
+    }
+    let content = part_of(s, f.start, f.end);
+    read_kind(content, tag, f.end, depth - 1, cases, marks)
 }
 
 // A field of a tag from 16 to 25 by its content; it ends at a place of its parent.
@@ -60,25 +52,19 @@ fn read_kind(
     depth: usize,
     cases: usize,
     marks: &mut [u8; 256],
-) -> FieldFound
+) -> Result<FieldFound, Refusal>
     ensures { NodeGives end marks.old (λ cols rest. read_tagged (read_field depth) cases (record { tag = tag; content = content.now; rest = rest }) cols) result marks.new }
 {
-    if tag == 16 {
-        return read_column(content, end, marks);
+    match tag {
+        tag::COLUMN => read_column(content, end, marks),
+        tag::LITERAL => read_literal(content, end, marks),
+        tag::NOT | tag::NEGATIVE | tag::IS_NOT_NULL => {
+            read_unary(content, tag, end, depth, cases, marks)
+        }
+        tag::CAST | tag::TRY_CAST => read_cast(content, tag, end, depth, cases, marks),
+        tag::EQUAL | tag::LESS => read_binary(content, tag, end, depth, cases, marks),
+        _ => read_case(content, end, depth, cases, marks),
     }
-    if tag == 17 {
-        return read_literal(content, end, marks);
-    }
-    if tag < 21 {
-        return read_unary(content, tag, end, depth, cases, marks);
-    }
-    if tag < 23 {
-        return read_cast(content, tag, end, depth, cases, marks);
-    }
-    if tag < 25 {
-        return read_binary(content, tag, end, depth, cases, marks);
-    }
-    read_case(content, end, depth, cases, marks)
 }
 
 // NOT, negative or IS NOT NULL: one child.
@@ -90,16 +76,16 @@ fn read_unary(
     depth: usize,
     cases: usize,
     marks: &mut [u8; 256],
-) -> FieldFound
+) -> Result<FieldFound, Refusal>
     ensures { NodeGives end marks.old (read_unary (unary_of tag) (read_field depth cases) content.now) result marks.new }
 {
-    let a = read_field(content, 0, depth, cases, marks);
-    let t = a.result;
+    let a = read_field(content, 0, depth, cases, marks)?;
+    let child = a.result;
     close(
-        a,
+        a.next,
         content.len(),
-        unary_fits(tag, t),
-        unary_type(tag, t),
+        unary_fits(tag, child),
+        unary_type(tag, child),
         end,
     )
 }
@@ -113,20 +99,16 @@ fn read_cast(
     depth: usize,
     cases: usize,
     marks: &mut [u8; 256],
-) -> FieldFound
+) -> Result<FieldFound, Refusal>
     ensures { NodeGives end marks.old (read_cast (cast_of tag) (read_field depth cases) content.now) result marks.new }
 {
     if content.len() == 0 {
-        return refuse(3);
+        return Err(Refusal::RuleContent);
     }
-    match type_numbered(content[0]) {
-        TypeAnswer::Known(t) => {
-            let a = read_field(content, 1, depth, cases, marks);
-            let from = a.result;
-            close(a, content.len(), is_listed(from, t), t, end)
-        }
-        TypeAnswer::Unknown => refuse(3),
-    }
+    let to = DataType::numbered(content[0]).ok_or(Refusal::RuleContent)?;
+    let a = read_field(content, 1, depth, cases, marks)?;
+    let from = a.result;
+    close(a.next, content.len(), is_listed(from, to), to, end)
 }
 
 // Equal or less: two children.
@@ -138,18 +120,15 @@ fn read_binary(
     depth: usize,
     cases: usize,
     marks: &mut [u8; 256],
-) -> FieldFound
+) -> Result<FieldFound, Refusal>
     ensures { NodeGives end marks.old (read_binary (binary_of tag) (read_field depth cases) content.now) result marks.new }
 {
-    let a = read_field(content, 0, depth, cases, marks);
-    if a.refused != 0 {
-        return a;
-    }
-    let b = read_field(content, a.next, depth, cases, marks);
+    let a = read_field(content, 0, depth, cases, marks)?;
+    let b = read_field(content, a.next, depth, cases, marks)?;
     let first = a.result;
     let second = b.result;
     close(
-        b,
+        b.next,
         content.len(),
         same_type(first, second),
         DataType::Boolean,
@@ -165,25 +144,25 @@ fn read_case(
     depth: usize,
     cases: usize,
     marks: &mut [u8; 256],
-) -> FieldFound
+) -> Result<FieldFound, Refusal>
     ensures { NodeGives end marks.old (read_limited_case (read_field depth) cases content.now) result marks.new }
 {
     if cases == 0 {
-        return refuse(4);
+        return Err(Refusal::RuleDepth);
     }
     if content.len() < 2 {
-        return refuse(3);
+        return Err(Refusal::RuleContent);
     }
     let flags = content[0];
     let count = content[1];
     if 3 < flags {
-        return refuse(3);
+        return Err(Refusal::RuleContent);
     }
     if count == 0 {
-        return refuse(5);
+        return Err(Refusal::CaseEmpty);
     }
     if 32 < count {
-        return refuse(6);
+        return Err(Refusal::CaseBranches);
     }
     read_parts(content, flags, count, end, depth, cases - 1, marks)
 }
@@ -198,32 +177,17 @@ fn read_parts(
     depth: usize,
     cases: usize,
     marks: &mut [u8; 256],
-) -> FieldFound
+) -> Result<FieldFound, Refusal>
     ensures { NodeGives end marks.old (read_parts (read_field depth cases) flags count (drop 2 content.now)) result marks.new }
 {
-    let b = read_optional(content, 2, flags % 2 == 1, depth, cases, marks);
-    if b.refused != 0 {
-        return b;
-    }
+    let b = read_optional(content, 2, flags % 2 == 1, depth, cases, marks)?;
     let when = b.result;
-    let bs = read_branches(
-        content,
-        b.next,
-        count,
-        when,
-        TypeAnswer::Unknown,
-        depth,
-        cases,
-        marks,
-    );
-    if bs.refused != 0 {
-        return refuse(bs.refused);
-    }
-    let e = read_optional(content, bs.next, 2 <= flags, depth, cases, marks);
+    let bs = read_branches(content, b.next, count, when, None, depth, cases, marks)?;
+    let e = read_optional(content, bs.next, 2 <= flags, depth, cases, marks)?;
     let from = e.result;
     let result = bs.result;
     close(
-        e,
+        e.next,
         content.len(),
         case_fits(bs.fits, e.null, from, result),
         result,
@@ -240,13 +204,17 @@ fn read_optional(
     depth: usize,
     cases: usize,
     marks: &mut [u8; 256],
-) -> FieldFound
+) -> Result<FieldFound, Refusal>
     ensures { OptionalGives s.now marks.old (read_optional there (read_field depth cases) (drop at s.now)) result marks.new }
 {
     if there {
         return read_field(s, at, depth, cases, marks);
     }
-    accept(DataType::Boolean, true, at)
+    Ok(FieldFound {
+        result: DataType::Boolean,
+        null: true,
+        next: at,
+    })
 }
 
 // So many branches; the type of a THEN may be known from earlier ones.
@@ -256,20 +224,21 @@ fn read_branches(
     at: usize,
     count: u8,
     when: DataType,
-    earlier: TypeAnswer,
+    earlier: Option<DataType>,
     depth: usize,
     cases: usize,
     marks: &mut [u8; 256],
-) -> BranchesRead
+) -> Result<BranchesRead, Refusal>
     ensures { BranchesGive s.now marks.old when earlier (read_branches (read_field depth cases) count (drop at s.now)) result marks.new }
 {
     if count == 0 {
-        return no_branches(earlier, at);
+        return Ok(BranchesRead {
+            result: earlier.unwrap_or(DataType::Boolean),
+            fits: true,
+            next: at,
+        });
     }
-    let w = read_field(s, at, depth, cases, marks);
-    if w.refused != 0 {
-        return refuse_branches(w.refused);
-    }
+    let w = read_field(s, at, depth, cases, marks)?;
     read_then(s, w, count - 1, when, earlier, depth, cases, marks)
 }
 
@@ -280,108 +249,73 @@ fn read_then(
     w: FieldFound,
     count: u8,
     when: DataType,
-    earlier: TypeAnswer,
+    earlier: Option<DataType>,
     depth: usize,
     cases: usize,
     marks: &mut [u8; 256],
-) -> BranchesRead
+) -> Result<BranchesRead, Refusal>
     ensures { BranchGives s.now w marks.old when earlier (λ x. read_then (read_field depth cases) x.tree count x.rest x.seen) result marks.new }
 {
-    let t = read_field(s, w.next, depth, cases, marks);
-    if t.refused != 0 {
-        return refuse_branches(t.refused);
-    }
+    let t = read_field(s, w.next, depth, cases, marks)?;
     let own = t.result;
-    let result = type_or(earlier, own);
-    let later = read_branches(
-        s,
-        t.next,
-        count,
-        when,
-        TypeAnswer::Known(result),
-        depth,
-        cases,
-        marks,
-    );
+    let result = earlier.unwrap_or(own);
+    let later = read_branches(s, t.next, count, when, Some(result), depth, cases, marks)?;
     let tested = w.result;
-    add_branch(tested, when, own, later)
+    Ok(add_branch(tested, when, own, later))
 }
 
 // The root of a rule: a CASE.
-fn read_root(rule: &[u8], marks: &mut [u8; 256]) -> FieldFound
+fn read_root(rule: &[u8], marks: &mut [u8; 256]) -> Result<FieldFound, Refusal>
     ensures { RootGives rule.now marks.old (read_root rule.now) result marks.new }
 {
-    match field_at(rule, 0) {
-        Header::Found(f) => {
-            if f.tag != 25 {
-                return refuse(3);
-            }
-            read_field(rule, 0, 8, 3, marks)
-        }
-        Header::Cut => refuse(2),
+    let f = field_at(rule, 0).ok_or(Refusal::RuleCut)?;
+    if f.tag != tag::CASE {
+        return Err(Refusal::RuleContent);
     }
+    read_field(rule, 0, 8, 3, marks)
 }
 
 // A rule but for its constant casts: one CASE field of at most 4,096 bytes, with no byte after it.
-fn read_tree(rule: &[u8]) -> RuleFound
+fn read_tree(rule: &[u8]) -> Result<RuleFound, Refusal>
     ensures { TreeGives (read_tree rule.now) result }
 {
     if rule.len() == 0 {
-        return refuse_rule(1);
+        return Err(Refusal::RuleSize);
     }
     if 4096 < rule.len() {
-        return refuse_rule(1);
+        return Err(Refusal::RuleSize);
     }
     let mut marks = [0u8; 256];
-    let r = read_root(rule, &mut marks);
-    if r.refused != 0 {
-        return refuse_rule(r.refused);
-    }
+    let r = read_root(rule, &mut marks)?;
     if r.next < rule.len() {
-        return refuse_rule(3);
+        return Err(Refusal::RuleContent);
     }
     let result = r.result;
     let seen = Seen { marks };
-    RuleFound {
-        refused: 0,
-        result,
-        seen,
-    }
+    Ok(RuleFound { result, seen })
 }
 
 // A rule: its tree, and that no constant cast fails.
-pub(crate) fn read_accepted(rule: &[u8]) -> RuleFound
+pub(crate) fn read_accepted(rule: &[u8]) -> Result<RuleFound, Refusal>
     ensures { RuleGives (read_rule rule.now) result }
 {
-    let r = read_tree(rule);
-    if r.refused != 0 {
-        return r;
-    }
+    let r = read_tree(rule)?;
     if constant_fails(rule) {
-        return refuse_rule(8);
+        return Err(Refusal::ConstantCast);
     }
-    r
+    Ok(r)
 }
 
 // Reads a rule for an evaluation.
-pub fn read_rule(rule: &[u8]) -> RuleReading
+pub fn read_rule(rule: &[u8]) -> Result<RuleReading, Refusal>
     ensures { result ≡ rule_reading (read_rule rule.now) }
 {
-    let r = read_accepted(rule);
-    if r.refused != 0 {
-        return RuleReading {
-            refused: r.refused,
-            result: DataType::Boolean,
-            nullable: false,
-            seen: Seen { marks: [0u8; 256] },
-        };
-    }
+    let r = read_accepted(rule)?;
     let result = r.result;
     let seen = r.seen;
-    RuleReading {
-        refused: 0,
+    Ok(RuleReading {
         result,
         nullable: nullable_of(rule),
         seen,
-    }
+    })
 }

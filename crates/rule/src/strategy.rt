@@ -3,7 +3,6 @@ ghost use Rattle.std.specs.Prelude.{◌≡◌};
 ghost use Rattle.rule.specs.WalkedStrategy.{null_there, else_there, literals_there, when_there, else_serves_at, table_serves_at, single_at, strategy_at};
 
 use crate::type_of::type_of;
-use crate::types::type_number;
 use crate::walk::{behind_fields, field_end};
 use layout::number::byte_at;
 
@@ -42,13 +41,11 @@ fn all_literals(rule: &[u8], at: usize, count: usize) -> bool
     ensures { result ≡ literals_there rule.now at count }
 {
     let mut place = at;
-    let mut left = count;
-    while left > 0 {
+    for _ in 0..count {
         if byte_at(rule, place) != 17 {
             return false;
         }
         place = field_end(rule, place);
-        left -= 1;
     }
     true
 }
@@ -58,14 +55,12 @@ fn some_when(rule: &[u8], at: usize, count: u8) -> bool
     ensures { result ≡ when_there rule.now at count }
 {
     let mut place = at;
-    let mut left = count;
-    while left > 0 {
+    for _ in 0..count {
         let null = is_null_literal(rule, place);
         if !null {
             return true;
         }
         place = behind_fields(rule, place, 2);
-        left -= 1;
     }
     false
 }
@@ -81,7 +76,7 @@ fn else_serves(rule: &[u8], at: usize, end: usize, then: usize) -> bool
     if byte_at(rule, at) != 17 {
         return false;
     }
-    type_number(type_of(rule, at)) == type_number(type_of(rule, then))
+    type_of(rule, at).number() == type_of(rule, then).number()
 }
 
 // Whether a lookup table serves: at least two branches, all literals, some WHEN not null, and an ELSE that serves.

@@ -2,7 +2,7 @@
 ghost use Rattle.std.specs.Prelude.{◌≡◌};
 ghost use Rattle.rule.specs.Walked.{field_end, children_at, behind_fields};
 
-use layout::field::{Header, field_at};
+use layout::field::field_at;
 
 // Where the field at a place ends.
 pub fn field_end(rule: &[u8], at: usize) -> usize
@@ -12,8 +12,8 @@ pub fn field_end(rule: &[u8], at: usize) -> usize
         return at;
     }
     match field_at(rule, at) {
-        Header::Found(p) => p.end,
-        Header::Cut => rule.len(),
+        Some(p) => p.end,
+        None => rule.len(),
     }
 }
 
@@ -39,10 +39,8 @@ pub fn behind_fields(rule: &[u8], at: usize, count: usize) -> usize
     ensures { result ≡ behind_fields rule.now at count }
 {
     let mut place = at;
-    let mut left = count;
-    while left > 0 {
+    for _ in 0..count {
         place = field_end(rule, place);
-        left -= 1;
     }
     place
 }

@@ -10,8 +10,7 @@ mod text;
 ghost use Rattle.std.specs.Prelude.{◌≡◌, length};
 ghost use Rattle.listing.specs.Listing.{listing_most};
 
-use files::{fail, large_buffer, open, read_full};
-use layout::part::part_of;
+use files::{large_buffer, load};
 use listing::whole::LISTING_MOST;
 use record::{Kind, Tally, replay};
 use std::io;
@@ -42,11 +41,11 @@ fn listing_buffer() -> [u8; LISTING_MOST]
 fn print_tally(rt: &impl Print, name: &str, t: Tally) -> io::Result<()> {
     let agree = t.agree;
     let total = t.total;
-    let first = t.first;
-    if first == 0 {
-        println!(rt; "{name}: {agree} of {total} agree")
-    } else {
-        println!(rt; "{name}: {agree} of {total} agree, the first that differs is {first}")
+    match t.first {
+        None => println!(rt; "{name}: {agree} of {total} agree"),
+        Some(first) => {
+            println!(rt; "{name}: {agree} of {total} agree, the first that differs is {first}")
+        }
     }
 }
 
@@ -66,16 +65,11 @@ fn replay_file(
     path: &[u8],
     kind: Kind,
 ) -> io::Result<()> {
-    let mut file = match open(rt, path) {
-        Ok(file) => file,
-        Err(error) => {
-            fail(rt, path, error);
-            return Ok(());
-        }
-    };
     let mut buffer = file_buffer();
-    let size = read_full(&mut file, &mut buffer);
-    replay_all(rt, name, part_of(&buffer, 0, size), kind)
+    match load(rt, path, &mut buffer) {
+        Some(size) => replay_all(rt, name, &buffer[..size], kind),
+        None => Ok(()),
+    }
 }
 
 fn main(rt: HostRuntime) -> io::Result<()> {

@@ -1,11 +1,9 @@
-// Records of cases: the lengths of the rule, the table, the work buffer, the output and what is wanted, four bytes each, then the rule, the
-// table and what is wanted: of a listing its text, of a run its refusal number, or 0 and the answer's bytes.
+// Records of cases, replayed: what is wanted is of a listing its text, of a run its refusal number, or 0 and the answer's bytes.
 ghost use Rattle.std.specs.Prelude.{◌≡◌, ◌+◌, ◌≤◌, ◌<◌};
 
 use crate::run::run_agrees;
 use crate::text::listing_agrees;
-use layout::number::read_u32;
-use layout::part::part_of;
+use files::record::{Record, first_record};
 
 // What the cases of a file are.
 #[derive(Clone, Copy)]
@@ -14,56 +12,34 @@ pub(crate) enum Kind {
     Run,
 }
 
-// How many cases there were, how many agree, and the number of the first that doesn't, or 0.
-#[derive(Drop)]
+// How many cases there were, how many agree, and the number, from 1, of the first that doesn't.
+#[derive(Clone, Copy)]
 pub(crate) struct Tally {
     pub(crate) total: usize,
     pub(crate) agree: usize,
-    pub(crate) first: usize,
+    pub(crate) first: Option<usize>,
 }
 
-// The bytes before the rule.
-const HEAD: usize = 20;
-
-// Whether the record that is the whole of a slice agrees, in buffers of the lengths that it asks for.
-fn case_agrees(s: &[u8], kind: Kind, work: &mut [u8], output: &mut [u8], lines: &mut [u8]) -> bool {
-    let table_at = HEAD + (read_u32(s, 0) as usize);
-    let want_at = table_at + (read_u32(s, 4) as usize);
-    let rule = part_of(s, HEAD, table_at);
-    let table = part_of(s, table_at, want_at);
-    let want = part_of(s, want_at, s.len());
+// Whether a case agrees, in buffers that are cut to the lengths that it asks for.
+fn case_agrees(
+    case: Record<'_>,
+    kind: Kind,
+    work: &mut [u8],
+    output: &mut [u8],
+    lines: &mut [u8],
+) -> bool {
+    if work.len() < case.work {
+        return false;
+    }
+    if output.len() < case.output {
+        return false;
+    }
+    let work = &mut work[..case.work];
+    let output = &mut output[..case.output];
     match kind {
-        Kind::Listing => listing_agrees(rule, table, want, work, output, lines),
-        Kind::Run => run_agrees(rule, table, want, work, output),
+        Kind::Listing => listing_agrees(case.rule, case.table, case.want, work, output, lines),
+        Kind::Run => run_agrees(case.rule, case.table, case.want, work, output),
     }
-}
-
-// The same in a work buffer of the length that it asks for, and an output that is cut to what it asks for.
-fn cut_output(s: &[u8], kind: Kind, work: &mut [u8], output: &mut [u8], lines: &mut [u8]) -> bool {
-    let size = read_u32(s, 12) as usize;
-    if output.len() < size {
-        return false;
-    }
-    case_agrees(s, kind, work, &mut output[..size], lines)
-}
-
-// The same in buffers that are cut to what it asks for.
-fn cut_work(s: &[u8], kind: Kind, work: &mut [u8], output: &mut [u8], lines: &mut [u8]) -> bool {
-    let size = read_u32(s, 8) as usize;
-    if work.len() < size {
-        return false;
-    }
-    cut_output(s, kind, &mut work[..size], output, lines)
-}
-
-// How many bytes the record at the start of a slice has.
-fn record_size(s: &[u8]) -> usize
-    ensures { 0 < result }
-{
-    let rule = read_u32(s, 0) as usize;
-    let table = read_u32(s, 4) as usize;
-    let want = read_u32(s, 16) as usize;
-    HEAD + rule + table + want
 }
 
 // The tally with one case more.
@@ -79,11 +55,10 @@ fn counted(t: Tally, agrees: bool) -> Tally
             first: t.first,
         };
     }
-    let first = if t.first == 0 { total } else { t.first };
     Tally {
         total,
         agree: t.agree,
-        first,
+        first: t.first.or(Some(total)),
     }
 }
 
@@ -98,18 +73,16 @@ pub(crate) fn replay(
     let mut t = Tally {
         total: 0,
         agree: 0,
-        first: 0,
+        first: None,
     };
-    let mut at = 0;
-    while at < s.len() {
-        let size = record_size(&s[at..]);
-        if s.len() - at < size {
+    let mut rest = s;
+    while !rest.is_empty() {
+        let Some((case, behind)) = first_record(rest) else {
             return counted(t, false);
-        }
-        let next = at + size;
-        let agrees = cut_work(&s[at..next], kind, work, output, lines);
+        };
+        let agrees = case_agrees(case, kind, work, output, lines);
         t = counted(t, agrees);
-        at = next;
+        rest = behind;
     }
     t
 }

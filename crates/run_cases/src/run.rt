@@ -1,5 +1,5 @@
 // A run, compared with its stored outcome: a refusal number, or 0 and the answer's bytes.
-use crate::bytes::{FILLING, all_are, fill, same};
+use crate::bytes::{FILLING, all_are};
 use case::evaluate::evaluate;
 use layout::number::byte_at;
 use layout::part::part_of;
@@ -13,7 +13,7 @@ fn answer_agrees(want: &[u8], size: usize, work: &[u8], output: &[u8]) -> bool {
     if output.len() < size {
         return false;
     }
-    if !same(part_of(output, 0, size), part_of(want, 1, want.len())) {
+    if part_of(output, 0, size) != part_of(want, 1, want.len()) {
         return false;
     }
     if !all_are(part_of(output, size, output.len()), FILLING) {
@@ -53,8 +53,8 @@ pub(crate) fn run_agrees(
     work: &mut [u8],
     output: &mut [u8],
 ) -> bool {
-    fill(work, FILLING);
-    fill(output, FILLING);
+    work.fill(FILLING);
+    output.fill(FILLING);
     match evaluate(rule, table, work, output) {
         RunAnswer::Answered(size) => answer_agrees(want, size, work, output),
         RunAnswer::Refused(n) => refusal_agrees(want, n, work, output),

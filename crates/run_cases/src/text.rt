@@ -1,7 +1,5 @@
 // The listing of a run, compared with the stored text.
-use crate::bytes::same;
 use layout::part::part_of;
-use listing::put::PutAnswer;
 use listing::whole::put_listing;
 
 // Whether the listing of a run in the lent buffers is the stored text.
@@ -14,7 +12,7 @@ pub(crate) fn listing_agrees(
     lines: &mut [u8],
 ) -> bool {
     match put_listing(rule, table, work, output, lines) {
-        PutAnswer::Ends(size) => same(part_of(lines, 0, size), want),
-        PutAnswer::Full => false,
+        Some(size) => part_of(lines, 0, size) == want,
+        None => false,
     }
 }

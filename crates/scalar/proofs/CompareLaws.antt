@@ -5,25 +5,16 @@ use lib.Signed.{lt_z}
 use Rattle.scalar.specs.declared.order.Order.{Order}
 use Rattle.scalar.specs.declared.order.Order.TheVariants.{Less, Equal, Greater, SomeNull, SomeFailed, Unlike}
 use Rattle.scalar.specs.declared.value.Value.{Value}
-use Rattle.scalar.specs.declared.value.Value.TheVariants.{Null, Boolean, Failed}
+use Rattle.scalar.specs.declared.value.Value.TheVariants.{Null}
 use Rattle.scalar.specs.Integer.{signed, signed_less}
 use Rattle.scalar.specs.Float.{total_less}
 use Rattle.scalar.specs.Text.{same_bytes, text_less}
 use Rattle.scalar.specs.Entry.{Entry, boolean, Outcome, entry, unfit, on_entries}
 use Rattle.scalar.specs.Pair.{Pair, both_null, one_null, unlike, booleans, int32s, int64s, float64s, texts, pair_of}
 use Rattle.scalar.specs.Compare.{equal_pair, equal_entry, less_pair, less_entry}
-use Rattle.scalar.specs.Order.{order_of_pair, order_of, Numbered}
+use Rattle.scalar.specs.Order.{order_of_pair, order_of, Numbered, compared}
 use Rattle.scalar.specs.Value.{meaning, value_saying, on_values, Storable, GivesBoth}
 use Rattle.scalar.proofs.OrderLaws.{numbers_order}
-
--- the value of a comparison, by what it says of a less, an equal and a greater first side
-abbrev pub compared : Bool → Bool → Bool → Order → Value
-compared x y z Less = Boolean x
-compared x y z Equal = Boolean y
-compared x y z Greater = Boolean z
-compared x y z SomeNull = Null
-compared x y z SomeFailed = Failed
-compared x y z Unlike = Null
 
 compared_stores : (x y z : Bool) (o : Order) → Storable (compared x y z o)
 compared_stores x y z Less = tt

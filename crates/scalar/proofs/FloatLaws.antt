@@ -1,9 +1,8 @@
 -- Floats by their bits: the value of some bits means them, the sign is turned within the width, and integers as floats. Assumes nothing.
 use Rattle.std.proofs.Common.{◌≡◌, ℕ, zero, suc, ◌+◌, ◌-◌, ◌*◌, ◌^◌, ◌<◌, ◌≤◌, Bool, true, false, cond, not, T, ltb, List, ℤ, pos, negsuc, sym, refl, ap, ◌∙◌, subst, pow-suc, arith, ltb-true}
 use mathlib.Core.Bool.{false≢true}
-use lib.Ieee.{Format, Float, nan, inf, fin, binary64, nan_bits, of_bits, to_bits, fits, is_nan, neg, odd, units, round, of_int, ne, low, emax, prec}
+use lib.Ieee.{Format, Float, nan, inf, fin, binary64, nan_bits, of_bits, to_bits, fits, is_nan, neg, odd, units, round, of_int, low, emax, prec}
 use lib.Ieee.Bits.{is_false, to_bits-lt, to_bits-of_bits, of_bits-fits, of_bits-to_bits, nan_bits_is}
-use lib.Ieee.Compare.{differs_from_itself, nan_differs}
 use lib.Ieee.Fits.{of_int-fits}
 use Rattle.scalar.specs.declared.value.Value.TheVariants.{Float64, Nan}
 use Rattle.scalar.specs.Integer.{signed}
@@ -50,17 +49,16 @@ float_back f t u =
     let q : nan_bits binary64 (to_bits binary64 f) ≡ false = nan_bits_is binary64 (to_bits binary64 f) ∙ ap is_nan e ∙ is_false (is_nan f) u in
     ap (λ (b : Bool). cond b (Nan (to_bits binary64 f)) (Float64 (of_bits binary64 (to_bits binary64 f)))) q ∙ ap Float64 e
 
--- a float that differs from itself has the bits of the fixed NaN
-pub nan_bits_lem : (f : Float) → ne f f ≡ true → 0x7ff8_0000_0000_0000 ≡ to_bits binary64 f
-unfolding to_bits
-nan_bits_lem f p = sym (ap (to_bits binary64) (differs_from_itself f (subst T (sym p) tt)))
+-- a NaN has the bits of the fixed one
+pub nan_bits_lem : (f : Float) → is_nan f ≡ true → 0x7ff8_0000_0000_0000 ≡ to_bits binary64 f
+unfolding to_bits is_nan
+nan_bits_lem nan p = refl
+nan_bits_lem (inf s) p = absurd (false≢true p)
+nan_bits_lem (fin s m e) p = absurd (false≢true p)
 
--- one that doesn't is no NaN
-pub no_nan : (f : Float) → ne f f ≡ false → T (not (is_nan f))
-unfolding is_nan
-no_nan nan p = absurd (false≢true (sym p ∙ nan_differs))
-no_nan (inf s) p = tt
-no_nan (fin s m e) p = tt
+-- any other float is none
+pub no_nan : (f : Float) → is_nan f ≡ false → T (not (is_nan f))
+no_nan f p = subst (λ (b : Bool). T (not b)) (sym p) tt
 
 -- two floats that are no NaN and each other's negation
 record Turned (x y : Float) : Type 0 where

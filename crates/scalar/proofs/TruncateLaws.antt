@@ -76,3 +76,10 @@ module _ (h : ℕ) (made : ℕ → Entry) (b : ℕ) (narrow : h ≤ 63) where
       let p : 2 ^ suc h ≡ 2 ^ h * 2 = pow-suc 2 h in
       let y : (m - 1) % 2 ^ suc h ≡ m - 1 = mod-eq_of_lt (let q : m - 1 < 2 ^ suc h = omega arith in q) in
       fits (omega arith) (negsuc (m - 1)) (signed_suc (m - 1) s v) (let q : m - 1 < 2 ^ h = omega arith in q) n (omega arith)
+
+-- one, shifted below the sign
+pub shifted_one : (h : ℕ) → h ≤ 63 → 1 * 2 ^ h % 18446744073709551616 ≡ 2 ^ h
+shifted_one h narrow =
+    let r : 2 ^ h ≤ 2 ^ 63 = pow-le-pow_right {n = 2} (omega arith) narrow in
+    let one : 1 * 2 ^ h ≡ 2 ^ h = omega arith in
+    ap (λ (n : ℕ). n % 18446744073709551616) one ∙ mod-eq_of_lt (let q : 2 ^ h < 2 ^ 64 = omega arith in q)

@@ -1,11 +1,11 @@
 -- Casts of values, and what their steps give.
-use Rattle.std.specs.Prelude.{ℕ, Bool, cond, ◌&&◌, ◌==◌}
+use Rattle.std.specs.Prelude.{ℕ, Bool, cond, ◌&&◌, ◌==◌, Option, Some, None}
 use Rattle.scalar.specs.declared.types.DataType.{DataType}
 use Rattle.scalar.specs.declared.types.DataType.TheVariants as type
 use Rattle.scalar.specs.declared.value.Value.{Value}
 use Rattle.scalar.specs.declared.value.Value.TheVariants.{Null, Failed}
 use Rattle.scalar.specs.Types.{same_type}
-use Rattle.scalar.specs.Entry.{float64}
+use Rattle.scalar.specs.Entry.{Entry, float64, Outcome, entry, unfit}
 use Rattle.scalar.specs.Cast.{cast_entry}
 use Rattle.scalar.specs.Value.{kind_of, value_saying, on_value}
 
@@ -16,6 +16,11 @@ kept_as own to v = cond (same_type to own) v Failed
 -- a float, by its bits, as a type of integers: its whole part, or failed
 abbrev pub truncated_as : DataType → ℕ → Value
 truncated_as to bits = value_saying Null (cast_entry to (float64 bits))
+
+-- the outcome of a number, as an entry of a type; of no number it is unfit
+abbrev pub outcome_made : (ℕ → Entry) → Option ℕ → Outcome
+outcome_made made None = unfit
+outcome_made made (Some n) = entry (made n)
 
 -- a float that has some bits: kept as it is held, or made of the bits
 abbrev pub float_as : DataType → Value → ℕ → Value

@@ -37,6 +37,15 @@ order_of (entry a) unfit = SomeFailed
 order_of unfit (entry b) = SomeFailed
 order_of unfit unfit = SomeFailed
 
+-- the value of a comparison, by what it says of a less, an equal and a greater first side
+abbrev pub compared : Bool → Bool → Bool → Order → Value
+compared x y z Less = Boolean x
+compared x y z Equal = Boolean y
+compared x y z Greater = Boolean z
+compared x y z SomeNull = Null
+compared x y z SomeFailed = Failed
+compared x y z Unlike = Null
+
 -- how a value is compared: Booleans by 0 and 1, integers by their bits with the sign turned, floats by a number that goes with totalOrder
 abbrev pub key_of : Value → Key
 key_of Null = Keys.Null

@@ -11,29 +11,14 @@ use crate::truncate::{truncated_int32, truncated_int64};
 use crate::types::{DataType, is_integer, mark_number};
 use crate::value::{Value, float_bits};
 
-// Whether an Int64 can fail to fit the type that it is cast to: Int32 alone.
-fn int64_can_fail(to: DataType) -> bool
-    ensures { result ≡ can_fail_to_fit DataType.Int64 to }
-{
-    match to {
-        DataType::Boolean => false,
-        DataType::Int32 => true,
-        DataType::Int64 => false,
-        DataType::Float64 => false,
-        DataType::Utf8 => false,
-    }
-}
-
 // Whether a cast from a type to a type can fail to fit: Int64 to Int32, Float64 to an integer.
 pub fn can_fail_to_fit(from: DataType, to: DataType) -> bool
     ensures { result ≡ can_fail_to_fit from to }
 {
     match from {
-        DataType::Boolean => false,
-        DataType::Int32 => false,
-        DataType::Int64 => int64_can_fail(to),
+        DataType::Int64 => to == DataType::Int32,
         DataType::Float64 => is_integer(to),
-        DataType::Utf8 => false,
+        _ => false,
     }
 }
 

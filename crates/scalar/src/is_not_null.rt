@@ -12,13 +12,7 @@ pub fn is_not_null(v: Value) -> Value
 {
     match v {
         Value::Null => Value::Boolean(false),
-        Value::Boolean(_) => Value::Boolean(true),
-        Value::Int32(_) => Value::Boolean(true),
-        Value::Int64(_) => Value::Boolean(true),
-        Value::Float64(_) => Value::Boolean(true),
-        Value::Nan(_) => Value::Boolean(true),
-        Value::RuleText(_, _) => Value::Boolean(true),
-        Value::TableText(_, _) => Value::Boolean(true),
         Value::Failed => Value::Failed,
+        _ => Value::Boolean(true),
     }
 }

@@ -12,14 +12,14 @@ use crate::value::{Value, float_bits, float_value};
 pub fn negated_int32(n: u32) -> u32
     ensures { result ≡ negated 31 n }
 {
-    std::num::wrapping_sub_u32(0, n)
+    n.wrapping_neg()
 }
 
 // The bits of the negated Int64.
 pub fn negated_int64(n: u64) -> u64
     ensures { result ≡ negated 63 n }
 {
-    std::num::wrapping_sub_u64(0, n)
+    n.wrapping_neg()
 }
 
 // The bits of a float with its sign turned, a NaN's too.
@@ -38,14 +38,11 @@ pub fn negative(v: Value) -> Value
     ensures { (result ≡ on_value (λ e. entry (negative_entry e)) v) × (meaning [] [] result ≡ on_entry (λ e. entry (negative_entry e)) (meaning [] [] v)) }
 {
     match v {
-        Value::Null => Value::Null,
-        Value::Boolean(_) => Value::Null,
         Value::Int32(n) => Value::Int32(negated_int32(n)),
         Value::Int64(n) => Value::Int64(negated_int64(n)),
         Value::Float64(f) => float_value(sign_turned(float_bits(f))),
         Value::Nan(n) => float_value(sign_turned(n)),
-        Value::RuleText(_, _) => Value::Null,
-        Value::TableText(_, _) => Value::Null,
         Value::Failed => Value::Failed,
+        _ => Value::Null,
     }
 }

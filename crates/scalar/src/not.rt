@@ -13,12 +13,7 @@ pub fn not_value(v: Value) -> Value
     match v {
         Value::Null => Value::Null,
         Value::Boolean(b) => Value::Boolean(!b),
-        Value::Int32(_) => Value::Null,
-        Value::Int64(_) => Value::Null,
-        Value::Float64(_) => Value::Null,
-        Value::Nan(_) => Value::Null,
-        Value::RuleText(_, _) => Value::Null,
-        Value::TableText(_, _) => Value::Null,
         Value::Failed => Value::Failed,
+        _ => Value::Null,
     }
 }

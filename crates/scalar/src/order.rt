@@ -7,9 +7,10 @@ ghost use Rattle.scalar.specs.Value.{meaning};
 use crate::negative::sign_turned;
 use crate::text::{place_text, same_bytes, text_less};
 use crate::value::{Value, float_bits};
+use std::cmp::Ordering;
 
 // How two values stand to each other.
-#[derive(Clone, Copy)]
+#[derive(Clone, Copy, Debug, PartialEq, Eq)]
 pub enum Order {
     Less,
     Equal,
@@ -20,7 +21,7 @@ pub enum Order {
 }
 
 // A value as it is compared: by a number of 64 bits among those of its type, or as text.
-#[derive(Clone, Copy)]
+#[derive(Clone, Copy, Debug, PartialEq, Eq)]
 pub enum Key {
     Null,
     Failed,
@@ -57,17 +58,12 @@ pub fn key_of(v: Value) -> Key
 {
     match v {
         Value::Null => Key::Null,
-        Value::Boolean(b) => if b {
-            Key::Number(1, 1)
-        } else {
-            Key::Number(1, 0)
-        },
+        Value::Boolean(b) => Key::Number(1, u64::from(b)),
         Value::Int32(n) => Key::Number(2, int32_key(n)),
         Value::Int64(n) => Key::Number(3, sign_turned(n)),
         Value::Float64(f) => Key::Number(4, float_key(float_bits(f))),
         Value::Nan(n) => Key::Number(4, float_key(n)),
-        Value::RuleText(_, _) => Key::Text,
-        Value::TableText(_, _) => Key::Text,
+        Value::RuleText(_, _) | Value::TableText(_, _) => Key::Text,
         Value::Failed => Key::Failed,
     }
 }
@@ -89,13 +85,11 @@ pub fn text_order(s: &[u8], t: &[u8]) -> Order
 pub fn number_order(x: u64, y: u64) -> Order
     ensures { result ≡ number_order x y }
 {
-    if x == y {
-        return Order::Equal;
+    match x.cmp(&y) {
+        Ordering::Less => Order::Less,
+        Ordering::Equal => Order::Equal,
+        Ordering::Greater => Order::Greater,
     }
-    if x < y {
-        return Order::Less;
-    }
-    Order::Greater
 }
 
 // A number of a kind beside another key.
@@ -119,10 +113,8 @@ fn null_beside(other: Key) -> Order
     ensures { result ≡ key_order Key.Null other Order.Unlike }
 {
     match other {
-        Key::Null => Order::SomeNull,
         Key::Failed => Order::SomeFailed,
-        Key::Number(_, _) => Order::SomeNull,
-        Key::Text => Order::SomeNull,
+        Key::Null | Key::Number(_, _) | Key::Text => Order::SomeNull,
     }
 }
 
@@ -133,8 +125,7 @@ fn no_text_beside(other: Key) -> Order
     match other {
         Key::Null => Order::SomeNull,
         Key::Failed => Order::SomeFailed,
-        Key::Number(_, _) => Order::Unlike,
-        Key::Text => Order::Unlike,
+        Key::Number(_, _) | Key::Text => Order::Unlike,
     }
 }
 
@@ -154,11 +145,7 @@ pub fn key_order(a: Key, b: Key) -> Order
 pub fn is_text(v: Value) -> bool
     ensures { result ≡ is_text (key_of v) }
 {
-    match v {
-        Value::RuleText(_, _) => true,
-        Value::TableText(_, _) => true,
-        _ => false,
-    }
+    matches!(v, Value::RuleText(_, _) | Value::TableText(_, _))
 }
 
 // The bytes of a text value whose place is in these bytes; none of any other value.
@@ -166,8 +153,9 @@ pub fn text_in(bytes: &[u8], v: Value) -> &[u8]
     ensures { result.now ≡ text_in bytes.now bytes.now v }
 {
     match v {
-        Value::RuleText(start, size) => place_text(bytes, start, size),
-        Value::TableText(start, size) => place_text(bytes, start, size),
+        Value::RuleText(start, size) | Value::TableText(start, size) => {
+            place_text(bytes, start, size)
+        }
         _ => &bytes[..0],
     }
 }

@@ -20,10 +20,8 @@ pub fn same_bytes(a: &[u8], b: &[u8]) -> bool
     if a.len() != b.len() {
         return false;
     }
-    let mut left = a.len();
-    while 0 < left {
-        left -= 1;
-        if a[left] != b[left] {
+    for i in (0..a.len()).rev() {
+        if a[i] != b[i] {
             return false;
         }
     }
@@ -34,18 +32,13 @@ pub fn same_bytes(a: &[u8], b: &[u8]) -> bool
 pub fn text_less(a: &[u8], b: &[u8]) -> bool
     ensures { result ≡ text_less a.now b.now }
 {
-    let mut i = 0;
-    while i < a.len() {
+    for i in 0..a.len() {
         if i == b.len() {
             return false;
         }
-        if a[i] < b[i] {
-            return true;
+        if a[i] != b[i] {
+            return a[i] < b[i];
         }
-        if b[i] < a[i] {
-            return false;
-        }
-        i += 1;
     }
-    i < b.len()
+    a.len() < b.len()
 }

@@ -1,8 +1,10 @@
 // Float64 to an integer, by the float's bits: the fraction is dropped toward zero.
-ghost use Rattle.std.specs.Prelude.{◌≡◌, ◌-◌, ◌/◌, ◌^◌, ◌<◌, min};
+ghost use Rattle.std.specs.Prelude.{◌≡◌, ℕ, suc, ◌-◌, ◌/◌, ◌^◌, ◌<◌, ◌≤◌, min, IfSome};
 ghost use Rattle.scalar.specs.declared.types.DataType.TheVariants.{Int32, Int64};
 ghost use Rattle.scalar.specs.WholePart.{whole_of};
-ghost use Rattle.scalar.specs.Casts.{truncated_as};
+ghost use Rattle.scalar.specs.Entry.{Entry};
+ghost use Rattle.scalar.specs.Cast.{truncated};
+ghost use Rattle.scalar.specs.Casts.{outcome_made, truncated_as};
 
 use crate::value::Value;
 
@@ -32,42 +34,42 @@ fn magnitude(bits: u64) -> u64
     0xffff_ffff_ffff_ffff
 }
 
+// The two's-complement bits of the whole part, with so many below the sign; none where it doesn't fit them.
+fn whole_number(bits: u64, below: u32) -> Option<u64>
+    requires { below ≤ 63 }
+    ensures means { (made : ℕ → Entry) → truncated below made bits ≡ outcome_made made result }
+    ensures within { IfSome result (λ n. n < 2 ^ suc below) }
+{
+    let limit = 1u64 << below;
+    let m = magnitude(bits);
+    if bits < 0x8000_0000_0000_0000 {
+        return if m < limit { Some(m) } else { None };
+    }
+    if limit < m {
+        return None;
+    }
+    if m == 0 {
+        return Some(0);
+    }
+    Some(limit - m + limit)
+}
+
 // Float64 to Int32.
 pub fn truncated_int32(bits: u64) -> Value
     ensures { result ≡ truncated_as Int32 bits }
 {
-    let m = magnitude(bits);
-    if bits < 0x8000_0000_0000_0000 {
-        if m < 0x8000_0000 {
-            return Value::Int32(m as u32);
-        }
-        return Value::Failed;
+    match whole_number(bits, 31) {
+        Some(n) => Value::Int32(n as u32),
+        None => Value::Failed,
     }
-    if 0x8000_0000 < m {
-        return Value::Failed;
-    }
-    if m == 0 {
-        return Value::Int32(0);
-    }
-    Value::Int32((0x1_0000_0000 - m) as u32)
 }
 
 // Float64 to Int64.
 pub fn truncated_int64(bits: u64) -> Value
     ensures { result ≡ truncated_as Int64 bits }
 {
-    let m = magnitude(bits);
-    if bits < 0x8000_0000_0000_0000 {
-        if m < 0x8000_0000_0000_0000 {
-            return Value::Int64(m);
-        }
-        return Value::Failed;
+    match whole_number(bits, 63) {
+        Some(n) => Value::Int64(n),
+        None => Value::Failed,
     }
-    if 0x8000_0000_0000_0000 < m {
-        return Value::Failed;
-    }
-    if m == 0 {
-        return Value::Int64(0);
-    }
-    Value::Int64(0xffff_ffff_ffff_ffff - m + 1)
 }

@@ -13,9 +13,8 @@ pub fn try_cast(to: DataType, v: Value) -> Value
     if let Value::Failed = v {
         return Value::Failed;
     }
-    let r = cast(to, v);
-    if let Value::Failed = r {
-        return Value::Null;
+    match cast(to, v) {
+        Value::Failed => Value::Null,
+        fits => fits,
     }
-    r
 }

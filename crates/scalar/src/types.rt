@@ -44,13 +44,7 @@ impl DataType {
 pub(crate) fn is_integer(t: DataType) -> bool
     ensures { result ≡ is_integer t }
 {
-    match t {
-        DataType::Boolean => false,
-        DataType::Int32 => true,
-        DataType::Int64 => true,
-        DataType::Float64 => false,
-        DataType::Utf8 => false,
-    }
+    matches!(t, DataType::Int32 | DataType::Int64)
 }
 
 // The number of a mark: 1 or 0.

@@ -31,10 +31,10 @@ pub fn float_value(bits: u64) -> Value
 pub fn float_bits(f: f64) -> u64
     ensures { result ≡ payload_of (Value.Float64 f) }
 {
-    if f != f {
+    if f.is_nan() {
         0x7ff8_0000_0000_0000
     } else {
-        f64::to_bits(f)
+        f.to_bits()
     }
 }
 
@@ -47,8 +47,7 @@ pub fn kind(v: Value) -> u8
         Value::Boolean(_) => 1,
         Value::Int32(_) => 2,
         Value::Int64(_) => 3,
-        Value::Float64(_) => 4,
-        Value::Nan(_) => 4,
+        Value::Float64(_) | Value::Nan(_) => 4,
         Value::RuleText(_, _) => 5,
         Value::TableText(_, _) => 6,
         Value::Failed => 7,
@@ -69,15 +68,12 @@ pub fn payload(v: Value) -> u64
     ensures { result ≡ payload_of v }
 {
     match v {
-        Value::Null => 0,
-        Value::Boolean(b) => if b { 1 } else { 0 },
-        Value::Int32(n) => n as u64,
-        Value::Int64(n) => n,
+        Value::Null | Value::Failed => 0,
+        Value::Boolean(b) => u64::from(b),
+        Value::Int32(n) => u64::from(n),
+        Value::Int64(n) | Value::Nan(n) => n,
         Value::Float64(f) => float_bits(f),
-        Value::Nan(n) => n,
-        Value::RuleText(start, size) => place_payload(start, size),
-        Value::TableText(start, size) => place_payload(start, size),
-        Value::Failed => 0,
+        Value::RuleText(start, size) | Value::TableText(start, size) => place_payload(start, size),
     }
 }
 

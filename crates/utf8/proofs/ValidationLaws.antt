@@ -11,9 +11,8 @@ use borrow.Author.Tests.{eq-eqb, ne_eqb}
 use Rattle.layout.proofs.TestLaws.{both_hold}
 use Rattle.utf8.specs.WellFormed.{Range, within, Line, byte_sequences, begins_with, sequence_among, sequence_length, ill_formed_from, ill_formed, is_none, well_formed}
 use Rattle.utf8.specs.Ascii.{ascii_length, ascii_end}
-use Rattle.utf8.specs.declared.validation.Validation.{Validation}
-use Rattle.utf8.specs.declared.validation.Validation.TheVariants.{WellFormed, IllFormed}
-use Rattle.utf8.specs.Answers.{validation}
+use Rattle.std.specs.Prelude.{Ok, Err, is_ok, Option as RustOption, Some, None}
+use Rattle.utf8.specs.Answers.{validation, some_length}
 use Rattle.utf8.proofs.SequenceLaws.{of_ascii}
 use Rattle.utf8.proofs.AsciiLaws.{ascii_length_lem, ascii_each, ascii_rest, ascii_all, end_most}
 
@@ -113,31 +112,38 @@ rest_of text at = let e = length-drop at text in ap sequence_length (take_all (l
 pub from_here : (text : List ℕ) (at end : ℕ) → From text at → at ≤ length text → end ≡ ascii_end text at → From text end × (end ≤ length text)
 from_here text at end h k is = let m = end_most text at k in (from_ascii text at end h is, omega arith)
 
+-- a sequence that is there has its length, and one that isn't has none
+pub length_there : (n : ℕ) {o : RustOption ℕ} {size : ℕ} → o ≡ some_length n → o ≡ Some size → (size ≡ n) × (size ≡ 0 → ⊥)
+length_there n {o} {size} e is = go n (sym is ∙ e)
+  where
+    go : (n : ℕ) → Some size ≡ some_length n → (size ≡ n) × (size ≡ 0 → ⊥)
+    go zero p = let z : ◌≡◌ {A = ℕ} 0 1 = cc in absurd (omega arith)
+    go (suc n) p = let same : size ≡ suc n = cc in (same, λ z. omega arith)
+
+pub length_missing : (n : ℕ) {o : RustOption ℕ} → o ≡ some_length n → o ≡ None → 0 ≡ n
+length_missing n {o} e is = go n (sym is ∙ e)
+  where
+    go : (n : ℕ) → None ≡ some_length n → 0 ≡ n
+    go zero p = refl
+    go (suc n) p = let z : ◌≡◌ {A = ℕ} 0 1 = cc in absurd (omega arith)
+
 -- the answers
-pub found_ill : (text : List ℕ) (at size : ℕ) → From text at → at < length text → size ≡ sequence_length (drop at text) → size ≡ 0 → IllFormed at ≡ validation (ill_formed text)
+pub found_ill : (text : List ℕ) (at size : ℕ) → From text at → at < length text → size ≡ sequence_length (drop at text) → size ≡ 0 → Err (record { place = at }) ≡ validation (ill_formed text)
 found_ill text at size h k is z =
     let e = length-drop at text in
     ap validation (sym (h ∙ no_sequence at (drop at text) (omega arith) (sym z ∙ is)))
 
-pub found_none : (text : List ℕ) (at : ℕ) → From text at → length text ≤ at → WellFormed ≡ validation (ill_formed text)
+pub found_none : (text : List ℕ) (at : ℕ) → From text at → length text ≤ at → Ok tt ≡ validation (ill_formed text)
 found_none text at h k = let e = length-drop at text in ap validation (sym (h ∙ at_end at (drop at text) (omega arith)))
 
 -- as a test
-pub told_well : (text : List ℕ) {v : Validation} → v ≡ validation (ill_formed text) → v ≡ WellFormed → true ≡ well_formed text
+pub told : (text : List ℕ) → is_ok (validation (ill_formed text)) ≡ well_formed text
 unfolding well_formed
-told_well text {v} e is = go (ill_formed text) (sym is ∙ e)
+told text = go (ill_formed text)
   where
-    go : (o : Option ℕ) → WellFormed ≡ validation o → true ≡ is_none o
-    go none p = refl
-    go (some n) p = let z : ◌≡◌ {A = ℕ} 0 1 = cc in absurd (omega arith)
-
-pub told_ill : (text : List ℕ) {v : Validation} {place : ℕ} → v ≡ validation (ill_formed text) → v ≡ IllFormed place → false ≡ well_formed text
-unfolding well_formed
-told_ill text {v} {place} e is = go (ill_formed text) (sym is ∙ e)
-  where
-    go : (o : Option ℕ) → IllFormed place ≡ validation o → false ≡ is_none o
-    go (some n) p = refl
-    go none p = let z : ◌≡◌ {A = ℕ} 0 1 = cc in absurd (omega arith)
+    go : (o : Option ℕ) → is_ok (validation o) ≡ is_none o
+    go none = refl
+    go (some n) = refl
 
 -- a text of ASCII alone is well-formed
 pub ascii_well_formed : (text : List ℕ) → ((i : ℕ) → i < length text → get_or text i 0 < 128) → well_formed text ≡ true

@@ -1,6 +1,7 @@
 // The sequences of UTF-8's table, by their bytes.
 ghost use Rattle.std.specs.Prelude.{◌≡◌};
 ghost use Rattle.utf8.specs.WellFormed.{within, sequence_length};
+ghost use Rattle.utf8.specs.Answers.{some_length};
 ghost use Rattle.utf8.specs.Sequence.{trailing_range, second_least, second_greatest, second_range};
 
 use layout::number::byte_at;
@@ -47,34 +48,38 @@ fn second_fits(first: u8, second: u8) -> bool
     second <= second_greatest(first)
 }
 
-// How long the well-formed sequence at the start of bytes is; 0 where there is none. No byte is read before those in front of it fit.
-pub fn sequence_length(bytes: &[u8]) -> usize
-    ensures { result ≡ sequence_length bytes.now }
+// How long the well-formed sequence at the start of bytes is, if there is one. No byte is read before those in front of it fit.
+pub fn sequence_length(bytes: &[u8]) -> Option<usize>
+    ensures { result ≡ some_length (sequence_length bytes.now) }
 {
     if bytes.len() == 0 {
-        return 0;
+        return None;
     }
     let first = bytes[0];
     if first < 0x80 {
-        return 1;
+        return Some(1);
     }
     if first < 0xC2 {
-        return 0;
+        return None;
     }
     if 0xF4 < first {
-        return 0;
+        return None;
     }
     if !second_fits(first, byte_at(bytes, 1)) {
-        return 0;
+        return None;
     }
     if first < 0xE0 {
-        return 2;
+        return Some(2);
     }
     if !trails(byte_at(bytes, 2)) {
-        return 0;
+        return None;
     }
     if first < 0xF0 {
-        return 3;
+        return Some(3);
     }
-    if trails(byte_at(bytes, 3)) { 4 } else { 0 }
+    if trails(byte_at(bytes, 3)) {
+        Some(4)
+    } else {
+        None
+    }
 }

@@ -6,15 +6,14 @@ ghost use Rattle.utf8.specs.Answers.{validation};
 use crate::ascii::ascii_end;
 use crate::sequence::sequence_length;
 
-// Well-formed, or the place of the first ill-formed sequence.
-#[derive(Drop)]
-pub enum Validation {
-    WellFormed,
-    IllFormed(usize),
+// The place of the first ill-formed sequence of a text.
+#[derive(Clone, Copy, Debug, PartialEq, Eq)]
+pub struct IllFormed {
+    pub place: usize,
 }
 
 // Tests a text, sequence by sequence, ASCII eight bytes at a time.
-pub fn validate(text: &[u8]) -> Validation
+pub fn validate(text: &[u8]) -> Result<(), IllFormed>
     ensures { result ≡ validation (ill_formed text.now) }
 {
     let mut at = 0;
@@ -22,22 +21,18 @@ pub fn validate(text: &[u8]) -> Validation
         if text[at] < 0x80 {
             at = ascii_end(text, at);
         } else {
-            let size = sequence_length(&text[at..]);
-            if size == 0 {
-                return Validation::IllFormed(at);
-            }
+            let Some(size) = sequence_length(&text[at..]) else {
+                return Err(IllFormed { place: at });
+            };
             at += size;
         }
     }
-    Validation::WellFormed
+    Ok(())
 }
 
 // Whether a text is well-formed.
 pub fn is_well_formed(text: &[u8]) -> bool
     ensures { result ≡ well_formed text.now }
 {
-    match validate(text) {
-        Validation::WellFormed => true,
-        Validation::IllFormed(_) => false,
-    }
+    validate(text).is_ok()
 }

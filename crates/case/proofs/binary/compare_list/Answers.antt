@@ -24,12 +24,6 @@ truth_code-requires c = tt
 pub bounds-codes-r : goal.bounds-codes-r
 bounds-codes-r c = indices_room c.loop-i.invariant c.requires.rows.0 c.loop-i-test.true c.row_at-r.ensures
 
-pub overflow_add-i : goal.overflow_add-i
-overflow_add-i c = omega (arith, c.requires.rows.0.few, c.loop-i-test.true)
-
-pub loop-i-smaller : goal.loop-i-smaller
-loop-i-smaller c = omega (arith, c.loop-i-test.true)
-
 pub loop-i-preserved : goal.loop-i-preserved
 loop-i-preserved c = indices_more c.loop-i.invariant c.requires.rows.0 c.loop-i-test.true c.row_at-r.ensures (code_right c.args.less c.args.rule.now c.args.table.now c.get_slot-x.ensures.0 c.second_side-y.ensures c.order_at.ensures c.truth_code.ensures)
 

@@ -5,8 +5,8 @@ use Rattle.case.proofs.bytes_like_lookup_table.find_text.Goals as goal
 pub loop-k-preserved : goal.loop-k-preserved
 loop-k-preserved c = search_misses c.loop-k.invariant (omega arith) (sym c.is_text.ensures ∙ c.if-is_text.false)
 
-pub returns-then-k-size : goal.returns-then-k-size
-returns-then-k-size c = search_ends c.loop-k.invariant (omega arith)
-
 pub returns-then-is_text : goal.returns-then-is_text
 returns-then-is_text c = search_hits c.loop-k.invariant (omega arith) (sym c.is_text.ensures ∙ c.if-is_text.true)
+
+pub returns : goal.returns
+returns c = search_ends c.loop-k.invariant (omega arith)

@@ -6,6 +6,3 @@ use Rattle.case.proofs.bytes_like_lookup_table.same_short.Given as goal
 
 abbrev pub invariant-loop-left : goal.invariant-loop-left
 invariant-loop-left l = (l.left ≤ length l.text) × (drop l.left l.text ≡ drop l.left (place_text (bytes_of l.kind l.rule l.table) l.start (length l.text)))
-
-abbrev pub decreases-loop-left : goal.decreases-loop-left
-decreases-loop-left l = l.left

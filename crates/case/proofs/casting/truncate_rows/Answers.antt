@@ -1,4 +1,5 @@
-use Rattle.case.proofs.RowsLaws.{none_yet, row_in, row_fits}
+use Rattle.std.proofs.Common.{arith}
+use Rattle.case.proofs.RowsLaws.{none_yet, ends, row_in, row_fits}
 use Rattle.case.proofs.CastingLaws.{row_done, row_kept}
 use Rattle.case.proofs.casting.truncate_rows.Goals as goal
 
@@ -24,4 +25,4 @@ pub shape_of-work : goal.shape_of-work
 shape_of-work c = c.loop-i.invariant.done.long
 
 pub returns : goal.returns
-returns c = (c.loop-i.invariant.few, c.loop-i.invariant.done)
+returns c = (omega arith, ends c.loop-i.invariant (omega arith))

@@ -1,11 +1,7 @@
 -- `number_rows` gives each row its index. The loop's invariant: the first rows have theirs.
-use Rattle.std.proofs.Common.{◌-◌}
 use Rattle.case.specs.Steps.{RowsIndexed}
 use Rattle.case.specs.LookUpColumns.{NumberRow}
 use Rattle.case.proofs.column_lookup.number_rows.Given as goal
 
 abbrev pub invariant-loop-i : goal.invariant-loop-i
 invariant-loop-i l = RowsIndexed (NumberRow l.validity l.column l.numbers l.indices l.size l.otherwise) l.work 0 l.i l.values
-
-abbrev pub decreases-loop-i : goal.decreases-loop-i
-decreases-loop-i l = l.n - l.i

@@ -11,16 +11,10 @@ loop-i-init c = fitted_none
 pub returns-then-not-index_fits : goal.returns-then-not-index_fits
 returns-then-not-index_fits c = table_misfits c.args.seen c.args.t c.loop-i.i c.if-mark-ne0.true (λ bytes. sym c.if-not-index_fits.true ∙ c.index_fits.ensures bytes)
 
-pub overflow_add-i : goal.overflow_add-i
-overflow_add-i c = omega (arith, c.loop-i-test.true)
-
-pub loop-i-smaller : goal.loop-i-smaller
-loop-i-smaller c = omega (arith, c.loop-i-test.true)
-
 pub loop-i-preserved : goal.loop-i-preserved
 loop-i-preserved c = fitted_more c.loop-i.invariant c.loop-i-test.true (elim c.if-mark-ne0.branch [ then-mark-ne0+else-not-index_fits w ↦ inr (λ bytes. sym w.if-not-index_fits.false ∙ w.index_fits.ensures bytes) | else-mark-ne0 w ↦ inl w.if-mark-ne0.false ])
 
 pub returns : goal.returns
 returns c =
     let long : length c.args.t.columns ≡ 16 = omega arith in
-    beyond_fits (λ (p : ColumnPlace). p) c.args.seen c.args.t (length-map c.args.t.columns (λ (p : ColumnPlace). p) ∙ long) c.loop-i.invariant c.loop-i-test.false c.greatest_beyond.ensures
+    beyond_fits (λ (p : ColumnPlace). p) c.args.seen c.args.t (length-map c.args.t.columns (λ (p : ColumnPlace). p) ∙ long) c.loop-i.invariant c.loop-i-test.false _ c.none_beyond.ensures

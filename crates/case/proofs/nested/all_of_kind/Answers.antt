@@ -1,12 +1,10 @@
-use Rattle.std.proofs.Common.{arith}
-use Rattle.case.proofs.NestedLaws.{kinds_differ, kinds_less, kinds_end}
+use Rattle.std.proofs.Common.{◌+◌, ◌==◌, drop, take, sym, ◌∙◌, arith, rules, tests}
+use Rattle.std.proofs.lemmas.Iterator.{YieldsList-from_slice}
+use Rattle.std.proofs.lemmas.Iterator.Search.{all_from_yields_List}
+use Rattle.case.proofs.NestedLaws.{kinds_all}
 use Rattle.case.proofs.nested.all_of_kind.Goals as goal
 
-pub returns-then-kinds-from : goal.returns-then-kinds-from
-returns-then-kinds-from c = kinds_differ c.loop-left.invariant c.loop-left-test.true c.if-kinds-from.true
-
-pub loop-left-preserved : goal.loop-left-preserved
-loop-left-preserved c = kinds_less c.loop-left.invariant c.loop-left-test.true c.if-kinds-from.false
-
 pub returns : goal.returns
-returns c = kinds_end c.loop-left.invariant (omega (arith, c.loop-left-test.false))
+returns c =
+    all_from_yields_List (λ k. k == c.args.kind) _ _ _ c.all.ensures.ran (YieldsList-from_slice (take c.args.count (drop (c.args.from + 1) c.args.kinds.now)) (search rules)) (λ x b q k. search (rules, tests))
+    ∙ sym (kinds_all c.args.kinds.now c.args.kind c.args.from c.args.count (omega arith))

@@ -1,9 +1,5 @@
 -- `literal_results` looks at THEN by THEN, and promises nothing.
-use Rattle.std.proofs.Common.{◌-◌}
 use Rattle.case.proofs.nested.literal_results.Given as goal
 
 abbrev pub invariant-loop-k : goal.invariant-loop-k
 invariant-loop-k l = Unit {0}
-
-abbrev pub decreases-loop-k : goal.decreases-loop-k
-decreases-loop-k l = l.count - l.k

@@ -27,14 +27,8 @@ shape_of-payloads-then-used-eq0 c = (then_longs c.requires.thens_ask c.requires.
 pub returns-then-used-eq0 : goal.returns-then-used-eq0
 returns-then-used-eq0 c = classed_not c.requires.thens_ask c.requires.framed.list_ok.few c.loop-k.invariant c.nested_then-used.ensures
 
-pub overflow_add-k : goal.overflow_add-k
-overflow_add-k c = omega (arith, c.requires.thens_ask.few, c.loop-k-test.true)
-
-pub loop-k-smaller : goal.loop-k-smaller
-loop-k-smaller c = omega (arith, c.loop-k-test.true)
-
 pub loop-k-preserved : goal.loop-k-preserved
-loop-k-preserved c = classed_next c.requires.thens_ask c.requires.framed.list_ok.few c.loop-k.invariant c.nested_then-used.ensures c.loop-k-test.true (end_gives c.field_end-then.ensures) (end_gives c.field_end-next.ensures) c.if-used-eq0.false
+loop-k-preserved c = classed_next c.requires.thens_ask c.requires.framed.list_ok.few c.loop-k.invariant c.nested_then-used.ensures (omega arith) (end_gives c.field_end-then.ensures) (end_gives c.field_end-next.ensures) c.if-used-eq0.false
 
 pub shape_of-work : goal.shape_of-work
 shape_of-work c = c.loop-k.invariant.long

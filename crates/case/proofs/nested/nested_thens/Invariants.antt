@@ -1,10 +1,6 @@
 -- `nested_thens` goes THEN by THEN. The loop's invariant: the rows of the THENs before have right classes, the other rows have the classes that they had.
-use Rattle.std.proofs.Common.{◌+◌, ◌-◌}
 use Rattle.case.proofs.NestedLaws.{ClassedSoFar}
 use Rattle.case.proofs.nested.nested_thens.Given as goal
 
 abbrev pub invariant-loop-k : goal.invariant-loop-k
 invariant-loop-k l = ClassedSoFar l.rule l.at l.table l.t l.code l.count l.initial.work l.n l.initial.classes l.initial.kinds l.initial.payloads l.work l.classes l.kinds l.payloads l.used l.place l.k
-
-abbrev pub decreases-loop-k : goal.decreases-loop-k
-decreases-loop-k l = l.count + 1 - l.k

@@ -5,38 +5,23 @@ use Rattle.case.proofs.primitive_lookup_table.read_numbers.Goals as goal
 pub loop-k-init : goal.loop-k-init
 loop-k-init c = numbers_none c.requires.numbers_len.0 c.requires.numbers_len.1 c.requires.numbers_len.2
 
-pub shape_of-numbers-then-x-kind : goal.shape_of-numbers-then-x-kind
-shape_of-numbers-then-x-kind c = c.loop-k.invariant.numbers_long ∙ sym c.requires.numbers_len.0
+pub shape_of-numbers-then-of-kind : goal.shape_of-numbers-then-of-kind
+shape_of-numbers-then-of-kind c = c.loop-k.invariant.numbers_long ∙ sym c.requires.numbers_len.0
 
-pub shape_of-hints-then-x-kind : goal.shape_of-hints-then-x-kind
-shape_of-hints-then-x-kind c = c.loop-k.invariant.hinted.long ∙ sym c.requires.numbers_len.1
+pub shape_of-hints-then-of-kind : goal.shape_of-hints-then-of-kind
+shape_of-hints-then-of-kind c = c.loop-k.invariant.hinted.long ∙ sym c.requires.numbers_len.1
 
-pub returns-then-x-kind : goal.returns-then-x-kind
-returns-then-x-kind c = numbers_refused c.loop-k.invariant
-
-pub offset_bounds-numbers-k : goal.offset_bounds-numbers-k
-offset_bounds-numbers-k c = omega (arith, c.requires.kinds_len.2, c.loop-k-test.true)
+pub returns-then-of-kind : goal.returns-then-of-kind
+returns-then-of-kind c = numbers_refused c.loop-k.invariant
 
 pub bounds-numbers-k : goal.bounds-numbers-k
-bounds-numbers-k c = omega (arith, c.loop-k.invariant.numbers_long, c.requires.kinds_len.2, c.loop-k-test.true)
-
-pub overflow_add-hints : goal.overflow_add-hints
-overflow_add-hints c = omega (arith, c.requires.kinds_len.2, c.loop-k-test.true)
-
-pub overflow_cast-hints : goal.overflow_cast-hints
-overflow_cast-hints c = omega (arith, c.requires.kinds_len.2, c.loop-k-test.true)
+bounds-numbers-k c = omega (arith, c.loop-k.invariant.numbers_long)
 
 pub bounds-hints-number_hint : goal.bounds-hints-number_hint
 bounds-hints-number_hint c = omega (arith, c.loop-k.invariant.hinted.long, c.number_hint.ensures)
 
-pub overflow_add-k : goal.overflow_add-k
-overflow_add-k c = omega (arith, c.requires.kinds_len.2, c.loop-k-test.true)
-
-pub loop-k-smaller : goal.loop-k-smaller
-loop-k-smaller c = omega (arith, c.loop-k-test.true)
-
 pub loop-k-preserved : goal.loop-k-preserved
-loop-k-preserved c = numbers_more c.loop-k.invariant c.loop-k-test.true c.requires.kinds_len.2 c.requires.kinds_len.3 (omega (arith, c.type_inv.keys c.loop-k.k)) c.value_of.ensures c.key_of.ensures c.number_key-x.ensures c.if-x-kind.false c.number_hint.ensures
+loop-k-preserved c = numbers_more c.loop-k.invariant (omega arith) c.requires.kinds_len.2 (omega (arith, c.type_inv.keys c.loop-k.k)) c.value_of.ensures c.in-Number.ensures c.if-of-kind.false c.number_hint.ensures
 
 pub shape_of-numbers : goal.shape_of-numbers
 shape_of-numbers c = c.loop-k.invariant.numbers_long ∙ sym c.requires.numbers_len.0

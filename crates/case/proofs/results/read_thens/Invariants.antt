@@ -1,10 +1,6 @@
 -- `read_thens` reads THEN by THEN. The loop's invariant: whatever branches stand there, the literals among the THENs read are held, and the other branches stand at the place.
-use Rattle.std.proofs.Common.{◌+◌, ◌-◌}
 use Rattle.case.proofs.ResultLaws.{ThensSoFar}
 use Rattle.case.proofs.results.read_thens.Given as goal
 
 abbrev pub invariant-loop-k : goal.invariant-loop-k
 invariant-loop-k l = ThensSoFar l.rule l.at l.count l.kinds l.payloads l.place l.k
-
-abbrev pub decreases-loop-k : goal.decreases-loop-k
-decreases-loop-k l = l.count + 1 - l.k

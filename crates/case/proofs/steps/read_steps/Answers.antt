@@ -4,7 +4,7 @@ use Rattle.rule.proofs.WalkLaws.{end_gives}
 use Rattle.case.proofs.steps.read_steps.Goals as goal
 
 pub loop-k-preserved : goal.loop-k-preserved
-loop-k-preserved c = steps_more c.loop-k.invariant c.loop-k-test.true (end_gives c.field_end-then.ensures) c.step_at-s.ensures c.if-s-eq0.false c.if-s-column.false c.if-s-kind.false (end_gives c.field_end-place.ensures)
+loop-k-preserved c = steps_more c.loop-k.invariant c.loop-k-test.true (end_gives c.field_end-then.ensures) c.in-Some.ensures c.if-s-column.false c.if-s-kind.false (end_gives c.field_end-place.ensures)
 
 pub returns : goal.returns
 returns c = steps_all c.loop-k.invariant (omega arith)

@@ -1,10 +1,6 @@
 -- `read_steps` reads WHEN by WHEN. The loop's invariant: whatever branches stand there, those read are steps, and the others stand at the place.
-use Rattle.std.proofs.Common.{◌-◌}
 use Rattle.case.proofs.StepLaws.{StepsSoFar}
 use Rattle.case.proofs.steps.read_steps.Given as goal
 
 abbrev pub invariant-loop-k : goal.invariant-loop-k
 invariant-loop-k l = StepsSoFar l.rule l.at l.count l.column l.kind l.place l.k l.tags l.keys
-
-abbrev pub decreases-loop-k : goal.decreases-loop-k
-decreases-loop-k l = l.count - l.k

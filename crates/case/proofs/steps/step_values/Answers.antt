@@ -5,6 +5,9 @@ use Rattle.table.specs.declared.places.ColumnPlace.{ColumnPlace}
 use Rattle.case.proofs.StepLaws.{table_refused_lem, table_gives}
 use Rattle.case.proofs.steps.step_values.Goals as goal
 
+pub returns-in_default : goal.returns-in_default
+returns-in_default c = table_refused_lem c.requires.values_len
+
 pub returns-then-t-c : goal.returns-then-t-c
 returns-then-t-c c = table_refused_lem c.requires.values_len
 

@@ -8,8 +8,8 @@ use Rattle.case.proofs.steps.step_when.Goals as goal
 pub returns-then-not-asked : goal.returns-then-not-asked
 returns-then-not-asked c = when_refused c.requires.values_len
 
-pub returns-then-s-eq0 : goal.returns-then-s-eq0
-returns-then-s-eq0 c = when_refused c.requires.values_len
+pub returns-in_default : goal.returns-in_default
+returns-in_default c = when_refused c.requires.values_len
 
 pub returns-then-t-c : goal.returns-then-t-c
 returns-then-t-c c = when_refused c.requires.values_len
@@ -20,4 +20,4 @@ returns-then-c-ge16 c = when_refused c.requires.values_len
 pub returns : goal.returns
 returns c =
     let long : length c.args.t.columns ≡ 16 = omega arith in
-    when_gives (λ (p : ColumnPlace). p) c.if-not-asked.false c.step_at-s.ensures c.if-s-eq0.false (length-map c.args.t.columns (λ (p : ColumnPlace). p) ∙ long) (omega (arith, c.if-t-c.false, c.if-c-ge16.false)) c.column_step.ensures
+    when_gives (λ (p : ColumnPlace). p) c.if-not-asked.false c.in-Some.ensures (length-map c.args.t.columns (λ (p : ColumnPlace). p) ∙ long) (omega (arith, c.if-t-c.false, c.if-c-ge16.false)) c.column_step.ensures

@@ -1,11 +1,8 @@
 -- `word_set_bits` counts word by word. Assumes nothing.
 use mathlib.Core.Path.{◌≡◌}
-use Prim.Native.Nat.{◌-◌, ◌*◌, ◌≤◌}
+use Prim.Native.Nat.{◌*◌, ◌≤◌}
 use Rattle.layout.specs.Bytes.{set_bits}
 use Rattle.layout.proofs.bits.word_set_bits.Given as goal
 
 abbrev pub invariant-loop-i : goal.invariant-loop-i
-invariant-loop-i l = (l.i ≤ l.words) × (l.sum ≡ set_bits l.map (64 * l.i)) × (l.sum ≤ 64 * l.i)
-
-abbrev pub decreases-loop-i : goal.decreases-loop-i
-decreases-loop-i l = l.words - l.i
+invariant-loop-i l = (l.sum ≡ set_bits l.map (64 * l.i)) × (l.sum ≤ 64 * l.i)

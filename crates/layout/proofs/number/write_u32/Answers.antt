@@ -1,11 +1,9 @@
--- `write_u32` stores the bytes of its number one behind the other, or changes nothing. Assumes nothing.
-use native.Mathlib.Omega.{arith}
-use native.Mathlib.Numerals.{towards_numerals}
-use native.Mathlib.Nat.{div-div-eq-div-mul}
-use Rattle.layout.specs.Bytes.{number_bytes}
-use Rattle.layout.proofs.NumberLaws.{written}
+-- `write_u32` puts the number's bytes into the part at the place.
+use mathlib.Core.Path.{ap, ◌∙◌}
+use lib.ListN.{length}
+use Rattle.layout.proofs.NumberLaws.{bytes_lowest}
+use Rattle.layout.proofs.PartLaws.{number_written}
 use Rattle.layout.proofs.number.write_u32.Goals as goal
 
 pub returns : goal.returns
-unfolding number_bytes
-returns c = written 4 c.args.s.now c.args.at c.args.n (omega arith) _ (simp (towards_numerals, div-div-eq-div-mul))
+returns c = number_written 4 {n = c.args.n} (c.to_le_bytes.ensures ∙ bytes_lowest 4 c.args.n) (ap length c.to_le_bytes.ensures) c.put_part.ensures

@@ -4,6 +4,3 @@ use Rattle.listing.proofs.digits.write_digits.Given as goal
 
 abbrev pub invariant-loop-i : goal.invariant-loop-i
 invariant-loop-i l = DigitsSoFar l.initial.out l.base l.k l.n l.at l.i l.rest l.out
-
-abbrev pub decreases-loop-i : goal.decreases-loop-i
-decreases-loop-i l = l.i

@@ -1,8 +1,5 @@
-use Rattle.listing.proofs.WriteLaws.{pasted_more, pasted_all}
+use Rattle.listing.proofs.WriteLaws.{wrote_part}
 use Rattle.listing.proofs.put.write_bytes.Goals as goal
 
-pub loop-i-preserved : goal.loop-i-preserved
-loop-i-preserved c = pasted_more c.loop-i.invariant c.requires c.loop-i-test.true
-
 pub returns : goal.returns
-returns c = pasted_all c.loop-i.invariant c.requires c.loop-i-test.false
+returns c = wrote_part c.requires c.put_part.ensures

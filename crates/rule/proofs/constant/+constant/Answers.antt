@@ -27,16 +27,16 @@ pub constant_base-returns : goal.constant_base-returns
 constant_base-returns t c = base_some c.if-at-end.false c.constant.ensures
 
 pub constant_branches-returns-then-kind-eq7 : goal.constant_branches-returns-then-kind-eq7
-constant_branches-returns-then-kind-eq7 t c = branches_failed c.loop-left.invariant c.loop-left-test.true (end_gives c.field_end-then.ensures) (end_gives c.field_end-next.ensures) c.constant-when.ensures (equal_both c.equal-test.ensures) (sym c.kind.ensures ∙ c.if-kind-eq7.true)
+constant_branches-returns-then-kind-eq7 t c = branches_failed c.loop.invariant (omega arith) (end_gives c.field_end-then.ensures) (end_gives c.field_end-next.ensures) c.constant-when.ensures (equal_both c.equal-test.ensures) (sym c.kind.ensures ∙ c.if-kind-eq7.true)
 
 pub constant_branches-returns-then-passed : goal.constant_branches-returns-then-passed
-constant_branches-returns-then-passed t c = branches_then c.loop-left.invariant c.loop-left-test.true (end_gives c.field_end-then.ensures) (end_gives c.field_end-next.ensures) c.constant-when.ensures (equal_both c.equal-test.ensures) c.may_pass-passed.ensures c.if-passed.true (λ p. c.if-kind-eq7.false (c.kind.ensures ∙ p)) c.constant.ensures
+constant_branches-returns-then-passed t c = branches_then c.loop.invariant (omega arith) (end_gives c.field_end-then.ensures) (end_gives c.field_end-next.ensures) c.constant-when.ensures (equal_both c.equal-test.ensures) c.may_pass-passed.ensures c.if-passed.true (λ p. c.if-kind-eq7.false (c.kind.ensures ∙ p)) c.constant.ensures
 
-pub constant_branches-loop-left-preserved : goal.constant_branches-loop-left-preserved
-constant_branches-loop-left-preserved t c = branches_next c.loop-left.invariant c.loop-left-test.true (end_gives c.field_end-then.ensures) (end_gives c.field_end-next.ensures) c.constant-when.ensures (equal_both c.equal-test.ensures) c.may_pass-passed.ensures c.if-passed.false
+pub constant_branches-loop-preserved : goal.constant_branches-loop-preserved
+constant_branches-loop-preserved t c = branches_next c.loop.invariant (omega arith) (end_gives c.field_end-then.ensures) (end_gives c.field_end-next.ensures) c.constant-when.ensures (equal_both c.equal-test.ensures) (omega arith) c.may_pass-passed.ensures c.if-passed.false
 
 pub constant_branches-returns : goal.constant_branches-returns
-constant_branches-returns t c = branches_end c.loop-left.invariant c.loop-left-test.false c.constant_else.ensures
+constant_branches-returns t c = branches_end c.loop.invariant (omega arith) c.constant_else.ensures
 
 pub constant_case-returns-then-rule-start : goal.constant_case-returns-then-rule-start
 constant_case-returns-then-rule-start t c = case_behind c.if-rule-start.true

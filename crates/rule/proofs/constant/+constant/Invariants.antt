@@ -1,7 +1,7 @@
 -- The cycle of calls that works out a node without reading a column. The measure is eight times the depth that is left, and how far a call is
 -- from the next node. The loop's invariant: the branches that are left stand at the place and give what all give.
 use Rattle.rule.proofs.ConstantCase.{BranchesLeft}
-use Prim.Native.Nat.{◌+◌, ◌*◌}
+use Prim.Native.Nat.{◌+◌, ◌-◌, ◌*◌}
 use Rattle.rule.proofs.constant.+constant.Given as goal
 
 abbrev pub decreases-constant : goal.decreases-constant
@@ -13,11 +13,8 @@ decreases-constant_base l = 8 * l.depth + 1
 abbrev pub decreases-constant_branches : goal.decreases-constant_branches
 decreases-constant_branches l = 8 * l.depth + 2
 
-abbrev pub invariant-constant_branches-loop-left : goal.invariant-constant_branches-loop-left
-invariant-constant_branches-loop-left l = BranchesLeft l.rule l.at l.end l.count l.base l.to l.target l.depth l.place l.left
-
-abbrev pub decreases-constant_branches-loop-left : goal.decreases-constant_branches-loop-left
-decreases-constant_branches-loop-left l = l.left
+abbrev pub invariant-constant_branches-loop : goal.invariant-constant_branches-loop
+invariant-constant_branches-loop l = BranchesLeft l.rule l.at l.end l.count l.base l.to l.target l.depth l.place (l.count - l.counter)
 
 abbrev pub decreases-constant_case : goal.decreases-constant_case
 decreases-constant_case l = 8 * l.depth + 4

@@ -1,19 +1,19 @@
 -- A literal is a type, a null mark, and a value that fits them.
 use mathlib.Core.Path.{ap, ◌∙◌, sym}
-use Rattle.rule.specs.declared.node.FieldFound.{FieldFound}
 use Rattle.scalar.specs.Types.{type_means}
 use Rattle.scalar.proofs.TypeLaws.{type_means_lem}
+use Rattle.rule.proofs.StepLaws.{passed_on, none_of}
 use Rattle.rule.proofs.LeafLaws.{literal_sized, literal_typed, literal_unfit, literal_read}
 use Rattle.rule.proofs.leaf.read_literal.Goals as goal
 
 pub returns-then-content-lt2 : goal.returns-then-content-lt2
-returns-then-content-lt2 c = λ cols outer s. literal_sized cols outer c.args.end c.args.content.now c.if-content-lt2.true (ap (λ (x : FieldFound). x.refused) c.refuse.ensures)
+returns-then-content-lt2 c = λ cols outer s. literal_sized cols outer c.args.end c.args.content.now c.if-content-lt2.true
 
-pub returns-then-value_fits : goal.returns-then-value_fits
-returns-then-value_fits c = λ cols outer s. literal_read cols outer c.args.end _ c.args.content.now c.if-content-lt2.false (sym (type_means_lem 3 _ c.type_numbered.ensures) ∙ ap (type_means 3) c.in-Known.is) c.value_fits.result c.value_fits.ensures c.if-value_fits.true s c.accept.ensures
+pub returns-in_err-data_type : goal.returns-in_err-data_type
+returns-in_err-data_type c = λ cols outer s. rw (passed_on c.from_residual.result c.from_residual.ensures.1, none_of _ _ c.in_err-data_type.ensures.ok_part c.in_err-data_type.ensures.value) (literal_typed cols outer c.args.end c.args.content.now c.if-content-lt2.false (sym (type_means_lem 3 _ c.numbered.ensures) ∙ ap (type_means 3) c.in_err-data_type.ensures.ok_part))
 
-pub returns-else-value_fits : goal.returns-else-value_fits
-returns-else-value_fits c = λ cols outer s. literal_unfit cols outer c.args.end _ c.args.content.now c.if-content-lt2.false (sym (type_means_lem 3 _ c.type_numbered.ensures) ∙ ap (type_means 3) c.in-Known.is) c.value_fits.result c.value_fits.ensures c.if-value_fits.false (ap (λ (x : FieldFound). x.refused) c.refuse-in-Known.ensures)
+pub returns-then-not-value_fits : goal.returns-then-not-value_fits
+returns-then-not-value_fits c = λ cols outer s. literal_unfit cols outer c.args.end _ c.args.content.now c.if-content-lt2.false (sym (type_means_lem 3 _ c.numbered.ensures) ∙ ap (type_means 3) c.in_ok-data_type.ensures.ok_part) c.value_fits.result c.value_fits.ensures c.if-not-value_fits.true
 
-pub returns-in-Unknown : goal.returns-in-Unknown
-returns-in-Unknown c = λ cols outer s. literal_typed cols outer c.args.end c.args.content.now c.if-content-lt2.false (sym (type_means_lem 3 _ c.type_numbered.ensures) ∙ ap (type_means 3) c.in-Unknown.is) (ap (λ (x : FieldFound). x.refused) c.refuse-in-Unknown.ensures)
+pub returns : goal.returns
+returns c = λ cols outer s. literal_read cols outer c.args.end _ c.args.content.now c.if-content-lt2.false (sym (type_means_lem 3 _ c.numbered.ensures) ∙ ap (type_means 3) c.in_ok-data_type.ensures.ok_part) c.value_fits.result c.value_fits.ensures c.if-not-value_fits.false s

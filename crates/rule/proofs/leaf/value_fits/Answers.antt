@@ -8,32 +8,32 @@ use Rattle.rule.proofs.leaf.value_fits.Goals as goal
 
 pub returns-then-mark-gt1 : goal.returns-then-mark-gt1
 unfolding literal_value
-returns-then-mark-gt1 c = value_unmarked c.args.res c.args.mark c.args.content.now c.if-mark-gt1.true
+returns-then-mark-gt1 c = value_unmarked c.args.data_type c.args.mark c.args.content.now c.if-mark-gt1.true
 
 pub returns-then-mark-eq1 : goal.returns-then-mark-eq1
 unfolding literal_value
-returns-then-mark-eq1 c = value_null c.args.res c.args.mark c.args.content.now c.if-mark-eq1.true
+returns-then-mark-eq1 c = value_null c.args.data_type c.args.mark c.args.content.now c.if-mark-eq1.true
 
 pub returns-then-size-ne3 : goal.returns-then-size-ne3
 unfolding literal_value
-returns-then-size-ne3 c = value_plain c.args.res c.args.mark c.args.content.now c.if-mark-gt1.false c.if-mark-eq1.false _ (rw c.in-Boolean.is (boolean_sized c.args.content.now c.if-size-ne3.true))
+returns-then-size-ne3 c = value_plain c.args.data_type c.args.mark c.args.content.now c.if-mark-gt1.false c.if-mark-eq1.false _ (rw c.in-Boolean.is (boolean_sized c.args.content.now c.if-size-ne3.true))
 
 pub returns-else-size-ne3 : goal.returns-else-size-ne3
 unfolding literal_value
-returns-else-size-ne3 c = value_plain c.args.res c.args.mark c.args.content.now c.if-mark-gt1.false c.if-mark-eq1.false _ (rw c.in-Boolean.is (boolean_fits c.args.content.now _ c.if-size-ne3.false c.byte_at.ensures))
+returns-else-size-ne3 c = value_plain c.args.data_type c.args.mark c.args.content.now c.if-mark-gt1.false c.if-mark-eq1.false _ (rw c.in-Boolean.is (boolean_fits c.args.content.now _ c.if-size-ne3.false c.byte_at.ensures))
 
 pub returns-in-Int32 : goal.returns-in-Int32
 unfolding literal_value
-returns-in-Int32 c = value_plain c.args.res c.args.mark c.args.content.now c.if-mark-gt1.false c.if-mark-eq1.false _ (rw c.in-Int32.is (number_fits int32 4 c.args.content.now (omega arith) (λ n. refl)))
+returns-in-Int32 c = value_plain c.args.data_type c.args.mark c.args.content.now c.if-mark-gt1.false c.if-mark-eq1.false _ (rw c.in-Int32.is (number_fits int32 4 c.args.content.now (omega arith) (λ n. refl)))
 
 pub returns-in-Int64 : goal.returns-in-Int64
 unfolding literal_value
-returns-in-Int64 c = value_plain c.args.res c.args.mark c.args.content.now c.if-mark-gt1.false c.if-mark-eq1.false _ (rw c.in-Int64.is (number_fits int64 8 c.args.content.now (omega arith) (λ n. refl)))
+returns-in-Int64 c = value_plain c.args.data_type c.args.mark c.args.content.now c.if-mark-gt1.false c.if-mark-eq1.false _ (rw c.in-Int64.is (number_fits int64 8 c.args.content.now (omega arith) (λ n. refl)))
 
 pub returns-in-Float64 : goal.returns-in-Float64
 unfolding literal_value
-returns-in-Float64 c = value_plain c.args.res c.args.mark c.args.content.now c.if-mark-gt1.false c.if-mark-eq1.false _ (rw c.in-Float64.is (number_fits float64 8 c.args.content.now (omega arith) (λ n. refl)))
+returns-in-Float64 c = value_plain c.args.data_type c.args.mark c.args.content.now c.if-mark-gt1.false c.if-mark-eq1.false _ (rw c.in-Float64.is (number_fits float64 8 c.args.content.now (omega arith) (λ n. refl)))
 
 pub returns-in-Utf8 : goal.returns-in-Utf8
 unfolding literal_value
-returns-in-Utf8 c = value_plain c.args.res c.args.mark c.args.content.now c.if-mark-gt1.false c.if-mark-eq1.false _ (rw c.in-Utf8.is (text_fits c.args.content.now))
+returns-in-Utf8 c = value_plain c.args.data_type c.args.mark c.args.content.now c.if-mark-gt1.false c.if-mark-eq1.false _ (rw c.in-Utf8.is (text_fits c.args.content.now))

@@ -20,19 +20,19 @@ pub nullable_any-returns : goal.nullable_any-returns
 nullable_any-returns t c = any_end c.loop-at.invariant c.loop-at-test.false
 
 pub nullable_branches-returns-then-null : goal.nullable_branches-returns-then-null
-nullable_branches-returns-then-null t c = thens_found c.loop-left.invariant c.loop-left-test.true (end_gives c.field_end-then.ensures) (end_gives c.field_end-next.ensures) c.nullable_branch-null.ensures c.if-null.true
+nullable_branches-returns-then-null t c = thens_found c.loop.invariant (omega arith) (end_gives c.field_end-then.ensures) (end_gives c.field_end-next.ensures) c.nullable_branch-null.ensures c.if-null.true
 
-pub nullable_branches-loop-left-preserved : goal.nullable_branches-loop-left-preserved
-nullable_branches-loop-left-preserved t c = thens_next c.loop-left.invariant c.loop-left-test.true (end_gives c.field_end-then.ensures) (end_gives c.field_end-next.ensures) c.nullable_branch-null.ensures c.if-null.false
+pub nullable_branches-loop-preserved : goal.nullable_branches-loop-preserved
+nullable_branches-loop-preserved t c = thens_next c.loop.invariant (omega arith) (end_gives c.field_end-then.ensures) (end_gives c.field_end-next.ensures) c.nullable_branch-null.ensures (omega arith) c.if-null.false
 
 pub nullable_branches-returns-then-place-end : goal.nullable_branches-returns-then-place-end
-nullable_branches-returns-then-place-end t c = thens_absent c.loop-left.invariant c.loop-left-test.false c.if-place-end.true
+nullable_branches-returns-then-place-end t c = thens_absent c.loop.invariant (omega arith) c.if-place-end.true
 
 pub nullable_branches-returns-then-fails : goal.nullable_branches-returns-then-fails
-nullable_branches-returns-then-fails t c = thens_fails c.loop-left.invariant c.loop-left-test.false c.if-place-end.false c.else_can_fail-fails.ensures c.if-fails.true
+nullable_branches-returns-then-fails t c = thens_fails c.loop.invariant (omega arith) c.if-place-end.false c.else_can_fail-fails.ensures c.if-fails.true
 
 pub nullable_branches-returns : goal.nullable_branches-returns
-nullable_branches-returns t c = thens_else c.loop-left.invariant c.loop-left-test.false c.if-place-end.false c.else_can_fail-fails.ensures c.if-fails.false c.nullable_node.ensures
+nullable_branches-returns t c = thens_else c.loop.invariant (omega arith) c.if-place-end.false c.else_can_fail-fails.ensures c.if-fails.false c.nullable_node.ensures
 
 pub nullable_case-returns-then-rule-start : goal.nullable_case-returns-then-rule-start
 nullable_case-returns-then-rule-start t c = case_outside c.if-rule-start.true

@@ -19,11 +19,8 @@ decreases-nullable_branch l = 8 * l.depth + 1
 abbrev pub decreases-nullable_branches : goal.decreases-nullable_branches
 decreases-nullable_branches l = 8 * l.depth + 2
 
-abbrev pub invariant-nullable_branches-loop-left : goal.invariant-nullable_branches-loop-left
-invariant-nullable_branches-loop-left l = NullableLeft l.rule l.at l.end l.count l.base l.depth l.place l.left
-
-abbrev pub decreases-nullable_branches-loop-left : goal.decreases-nullable_branches-loop-left
-decreases-nullable_branches-loop-left l = l.left
+abbrev pub invariant-nullable_branches-loop : goal.invariant-nullable_branches-loop
+invariant-nullable_branches-loop l = NullableLeft l.rule l.at l.end l.count l.base l.depth l.place (l.count - l.counter)
 
 abbrev pub decreases-nullable_case : goal.decreases-nullable_case
 decreases-nullable_case l = 8 * l.depth + 3

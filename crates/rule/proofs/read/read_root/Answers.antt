@@ -1,15 +1,15 @@
 -- The root is a CASE, read at depth 8 with 3 CASEs on a path.
-use mathlib.Core.Path.{ap, sym, ◌∙◌}
+use mathlib.Core.Path.{sym, ◌∙◌}
 use mathlib.Core.List.{[]}
-use Rattle.rule.specs.declared.node.FieldFound.{FieldFound}
+use Rattle.rule.proofs.StepLaws.{passed_on, none_of}
 use Rattle.rule.proofs.CycleLaws.{root_cut, root_other, root_gives}
 use Rattle.rule.proofs.read.read_root.Goals as goal
 
-pub returns-then-f-ne25 : goal.returns-then-f-ne25
-returns-then-f-ne25 c = λ s. root_other c.args.rule.now _ _ (sym c.field_at.ensures ∙ c.in-Found.is) c.if-f-ne25.true (ap (λ (x : FieldFound). x.refused) c.refuse.ensures)
+pub returns-in_err-f : goal.returns-in_err-f
+returns-in_err-f c = λ s. rw (passed_on c.from_residual.result c.from_residual.ensures.1, none_of _ _ c.in_err-f.ensures.ok_part c.in_err-f.ensures.value) (root_cut c.args.rule.now (sym c.field_at.ensures ∙ c.in_err-f.ensures.ok_part))
 
-pub returns-else-f-ne25 : goal.returns-else-f-ne25
-returns-else-f-ne25 c = λ s. root_gives c.args.rule.now _ _ (sym c.field_at.ensures ∙ c.in-Found.is) c.if-f-ne25.false (c.read_field.ensures [] s)
+pub returns-then-f-ne-CASE : goal.returns-then-f-ne-CASE
+returns-then-f-ne-CASE c = λ s. root_other c.args.rule.now c.in_ok-f.f (sym c.field_at.ensures ∙ c.in_ok-f.ensures.ok_part) c.if-f-ne-CASE.true
 
-pub returns-in-Cut : goal.returns-in-Cut
-returns-in-Cut c = λ s. root_cut c.args.rule.now _ (sym c.field_at.ensures ∙ c.in-Cut.is) (ap (λ (x : FieldFound). x.refused) c.refuse-in-Cut.ensures)
+pub returns : goal.returns
+returns c = λ s. root_gives c.args.rule.now c.in_ok-f.f (sym c.field_at.ensures ∙ c.in_ok-f.ensures.ok_part) c.if-f-ne-CASE.false (c.read_field.ensures [] s)

@@ -9,4 +9,4 @@ pub returns-then-byte_at-ne17 : goal.returns-then-byte_at-ne17
 returns-then-byte_at-ne17 c = serves_other _ _ _ _ c.else_there-there.ensures c.if-not-there.false c.byte_at.ensures c.if-byte_at-ne17.true
 
 pub returns : goal.returns
-returns c = serves_literal _ _ _ _ c.else_there-there.ensures c.if-not-there.false c.byte_at.ensures c.if-byte_at-ne17.false c.type_of.ensures c.type_number.ensures c.type_of-2.ensures c.type_number-2.ensures
+returns c = serves_literal _ _ _ _ c.else_there-there.ensures c.if-not-there.false c.byte_at.ensures c.if-byte_at-ne17.false c.type_of.ensures c.number.ensures c.type_of-2.ensures c.number-2.ensures

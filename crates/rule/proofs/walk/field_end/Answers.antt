@@ -7,8 +7,8 @@ use Rattle.rule.proofs.walk.field_end.Goals as goal
 pub returns-then-rule-at : goal.returns-then-rule-at
 returns-then-rule-at c = end_behind _ c.if-rule-at.true
 
-pub returns-in-Found : goal.returns-in-Found
-returns-in-Found c = end_told _ (omega arith) (sym c.field_at.ensures ∙ c.in-Found.is)
+pub returns-in-Some : goal.returns-in-Some
+returns-in-Some c = end_told _ (omega arith) (sym c.field_at.ensures ∙ c.in-Some.is)
 
-pub returns-in-Cut : goal.returns-in-Cut
-returns-in-Cut c = end_told _ (omega arith) (sym c.field_at.ensures ∙ c.in-Cut.is)
+pub returns-in-None : goal.returns-in-None
+returns-in-None c = end_told _ (omega arith) (sym c.field_at.ensures ∙ c.in-None.is)

@@ -1,11 +1,11 @@
--- `replay`: the place rises to the end of the bytes by at least one a case, and the buffers keep their lengths.
-use Rattle.std.proofs.Common.{length, ◌-◌, ◌≡◌, ◌≤◌}
+-- `replay`: what is left of the bytes falls by at least one a case, and the buffers keep their lengths.
+use Rattle.std.proofs.Common.{length, ◌+◌, ◌≡◌, ◌≤◌}
 use Rattle.run_cases.proofs.record.replay.Given as goal
 
-abbrev pub invariant-loop-at : goal.invariant-loop-at
-invariant-loop-at l =
-    (l.at ≤ length l.s) × (l.t.total ≤ l.at) × (l.t.agree ≤ l.t.total)
+abbrev pub invariant-loop-rest : goal.invariant-loop-rest
+invariant-loop-rest l =
+    (l.t.total + length l.rest ≤ length l.s) × (l.t.agree ≤ l.t.total)
     × (length l.work ≡ length l.initial.work) × (length l.output ≡ length l.initial.output) × (length l.lines ≡ length l.initial.lines)
 
-abbrev pub decreases-loop-at : goal.decreases-loop-at
-decreases-loop-at l = length l.s - l.at
+abbrev pub decreases-loop-rest : goal.decreases-loop-rest
+decreases-loop-rest l = length l.rest

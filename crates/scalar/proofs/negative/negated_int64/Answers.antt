@@ -1,6 +1,5 @@
--- Wrapping subtraction from zero negates.
 use Rattle.scalar.proofs.IntegerLaws.{negated_is}
 use Rattle.scalar.proofs.negative.negated_int64.Goals as goal
 
 pub returns : goal.returns
-returns c = negated_is 63 c.args.n c.wrapping_sub_u64.result c.ranges.n.fits c.wrapping_sub_u64.type_inv c.wrapping_sub_u64.ensures.value
+returns c = negated_is 63 c.args.n c.wrapping_neg.result c.ranges.n.fits c.wrapping_neg.type_inv c.wrapping_neg.ensures

@@ -1,9 +1,8 @@
--- A text that is tested well-formed is, and one with an ill-formed sequence is not.
-use Rattle.utf8.proofs.ValidationLaws.{told_well, told_ill}
+-- A text is well-formed where its validation is no error.
+use mathlib.Core.Path.{ap, ◌∙◌}
+use Rattle.std.specs.Prelude.{is_ok}
+use Rattle.utf8.proofs.ValidationLaws.{told}
 use Rattle.utf8.proofs.validation.is_well_formed.Goals as goal
 
-pub returns-in-WellFormed : goal.returns-in-WellFormed
-returns-in-WellFormed c = told_well c.args.text.now c.validate.ensures c.in-WellFormed.is
-
-pub returns-in-IllFormed : goal.returns-in-IllFormed
-returns-in-IllFormed c = told_ill c.args.text.now c.validate.ensures c.in-IllFormed.is
+pub returns : goal.returns
+returns c = c.is_ok.ensures.value ∙ ap is_ok c.validate.ensures ∙ told c.args.text.now
