@@ -5,12 +5,10 @@
 use files::{argument, argument_count, fail, large_buffer, open, path_buffer, read_full};
 use layout::number::read_u32;
 use scalar::text::place_text;
-use scalar::types::DataType;
 use scalar::value::{Value, float_bits};
 use std::io;
 use std::rt::{Env, Files};
-use table::answer::EntryAnswer;
-use table::entry::entry_at;
+use table::entry::{EntryError, entry_at};
 use table::places::{ColumnPlace, Table};
 use table::read::read;
 
@@ -69,67 +67,45 @@ fn print_entry(
 ) -> io::Result<()> {
     rt.print(" ")?;
     match entry_at(bytes, t, column, row) {
-        EntryAnswer::Entry(v) => print_value(rt, bytes, v),
-        EntryAnswer::NoColumn => rt.print("no column"),
-        EntryAnswer::NoRow => rt.print("no row"),
-        EntryAnswer::Refused(_) => rt.print("refused"),
-    }
-}
-
-fn type_number(t: DataType) -> u64 {
-    match t {
-        DataType::Boolean => 1,
-        DataType::Int32 => 2,
-        DataType::Int64 => 3,
-        DataType::Float64 => 4,
-        DataType::Utf8 => 5,
+        Ok(v) => print_value(rt, bytes, v),
+        Err(EntryError::NoColumn) => rt.print("no column"),
+        Err(EntryError::NoRow) => rt.print("no row"),
+        Err(EntryError::Refused(_)) => rt.print("refused"),
     }
 }
 
 fn print_head(rt: &impl Print, column: usize, place: ColumnPlace) -> io::Result<()> {
-    let kind = type_number(place.data_type);
+    let kind = place.data_type.number();
+    let nullable = u8::from(place.nullable);
     let nulls = place.null_count;
-    if place.nullable {
-        print!(rt; "column {column} type {kind} nullable 1 nulls {nulls}:")
-    } else {
-        print!(rt; "column {column} type {kind} nullable 0 nulls {nulls}:")
-    }
+    print!(rt; "column {column} type {kind} nullable {nullable} nulls {nulls}:")
 }
 
-// A column's line. A table has at most 512 rows.
+// A column's line.
 fn print_column(rt: &impl Print, bytes: &[u8], t: Table, column: usize) -> io::Result<()> {
-    let rows = t.rows;
-    for row in 0..512 {
-        if row < rows {
-            print_entry(rt, bytes, t, column, row)?;
-        }
+    for row in 0..t.rows {
+        print_entry(rt, bytes, t, column, row)?;
     }
     rt.print("\n")
 }
 
 fn print_columns(rt: &impl Print, bytes: &[u8], t: Table) -> io::Result<()> {
-    let count = t.count;
-    for column in 0..16 {
-        if column < count {
-            let place = t.columns[column];
-            print_head(rt, column, place)?;
-            print_column(rt, bytes, t, column)?;
-        }
+    for (column, &place) in t.columns.iter().enumerate().take(t.count) {
+        print_head(rt, column, place)?;
+        print_column(rt, bytes, t, column)?;
     }
     Ok(())
 }
 
 fn show(rt: &impl Print, index: u64, bytes: &[u8]) -> io::Result<()> {
     println!(rt; "table {index}")?;
-    let answer = read(bytes);
-    let refused = answer.refused;
-    if refused != 0 {
-        return println!(rt; "refused {refused}");
+    match read(bytes) {
+        Ok(t) => {
+            println!(rt; "rows {}", t.rows)?;
+            print_columns(rt, bytes, t)
+        },
+        Err(refusal) => println!(rt; "refused {}", refusal.number()),
     }
-    let t = answer.table;
-    let rows = t.rows;
-    println!(rt; "rows {rows}")?;
-    print_columns(rt, bytes, t)
 }
 
 // Shows the table of the record at a place, and says where the next begins.

@@ -3,7 +3,7 @@ use mathlib.Core.Path.{◌≡◌, refl, sym, ap, ap₂, ◌∙◌}
 use mathlib.Core.Bool.{Bool, true, false, cond, ◌&&◌, false≢true}
 use mathlib.Core.List.{List}
 use mathlib.Core.Logic.{◌⊎◌, inl, inr}
-use Prim.Native.Nat.{ℕ, zero, suc, ◌+◌, ◌<◌, ◌≤◌}
+use Prim.Native.Nat.{ℕ, zero, suc, ◌+◌, ◌<◌, ◌≤◌, max}
 use native.Mathlib.Numerals.{add-one}
 use native.Mathlib.Decide.{dec_lt, ℕ_discrete}
 use native.Mathlib.Omega.{arith}
@@ -18,29 +18,41 @@ use Rattle.scalar.specs.declared.value.Value.TheVariants.{Null, Boolean, Int32, 
 use Rattle.scalar.specs.Entry.{of_type, outcome_of_type}
 use Rattle.scalar.specs.Types.{type_number}
 use Rattle.scalar.specs.Value.{meaning, kind_of}
-use Rattle.writer.specs.declared.RunAnswer.{RunAnswer}
-use Rattle.writer.specs.declared.WriteAnswer.{WriteAnswer}
-use Rattle.writer.specs.declared.WriteAnswer.TheVariants.{Run, NoColumn}
+use Rattle.std.specs.Prelude.{Result as RustResult, Ok, Err}
+use Rattle.layout.specs.declared.refusal.Refusal.{Refusal}
+use Rattle.writer.specs.declared.WriteError.{WriteError}
+use Rattle.writer.specs.declared.WriteError.TheVariants.{NoColumn}
+use Rattle.writer.specs.Written.{run_answer}
 use Rattle.writer.specs.Slots.{slot_at}
-use Rattle.writer.specs.Write.{RunGives, ColumnGives, WriteAsks, ClassesAsk, PlainRows, kind_fits, lengths_fit, slot_fits, slots_fit, writable, slot_kind, slot_payload, classes_long, number_type, class_in, classes_in, classed}
+use Rattle.writer.specs.Write.{RunGives, ColumnGives, said, WriteAsks, ClassesAsk, PlainRows, kind_fits, lengths_fit, slot_fits, slots_fit, writable, slot_kind, slot_payload, classes_long, number_type, class_in, classes_in, classed}
 use Rattle.writer.specs.Writing.{each_row, RowsAsk}
 use Rattle.writer.proofs.PlainLaws.{slot_fits_lem, kind_plain}
 
 -- ---- rows that are a column, and rows that are none
 
-pub no_column_lem : {b : Bool} {run : Result (List ℕ)} {output : List ℕ} → b ≡ false → ColumnGives b run output NoColumn output
+pub no_column_lem : {b : Bool} {run : Result (List ℕ)} {output : List ℕ} → b ≡ false → ColumnGives b run output (Err NoColumn) output
 no_column_lem e = rw e (record { says = refl; output_is = refl })
 
-pub column_run : {b : Bool} {run : Result (List ℕ)} {output output' : List ℕ} {r : RunAnswer} → b ≡ true → RunGives run output r output' → ColumnGives b run output (Run r) output'
-column_run e g = rw e (record { says = ap Run g.says; output_is = g.output_is })
+pub column_run : {b : Bool} {run : Result (List ℕ)} {output output' : List ℕ} (r : RustResult ℕ Refusal) → b ≡ true → RunGives run output r output' → ColumnGives b run output (said r) output'
+column_run r e g = rw e (record { says = ap said g.says; output_is = g.output_is })
 
 -- of rows that are a column something else is said
-pub column_said : {b : Bool} {run : Result (List ℕ)} {output output' : List ℕ} {a : WriteAnswer} → b ≡ true → ColumnGives b run output a output' → a ≡ NoColumn → ⊥
-column_said e g n = let said = rw e at g.says in let z : ◌≡◌ {A = ℕ} 0 1 = cc in omega arith
+pub column_said : {b : Bool} {run : Result (List ℕ)} {output output' : List ℕ} {a : RustResult ℕ WriteError} → b ≡ true → ColumnGives b run output a output' → a ≡ Err NoColumn → ⊥
+column_said {run = run} e g n = never (run_answer run) (sym n ∙ rw e at g.says)
+  where
+    never : (r : RustResult ℕ Refusal) → Err NoColumn ≡ said r → ⊥
+    never (Ok k) p = let z : ◌≡◌ {A = ℕ} 0 1 = cc in omega arith
+    never (Err e) p = let z : ◌≡◌ {A = ℕ} 0 1 = cc in omega arith
 
 -- and that is the run's
-pub gives_rows : {b : Bool} {run : Result (List ℕ)} {output output' : List ℕ} {a : WriteAnswer} {r : RunAnswer} → b ≡ true → ColumnGives b run output a output' → a ≡ Run r → RunGives run output r output'
-gives_rows e g is = let said = rw e at g.says in record { says = cc; output_is = rw e at g.output_is }
+pub gives_rows : {b : Bool} {run : Result (List ℕ)} {output output' : List ℕ} {a : RustResult ℕ WriteError} (r : RustResult ℕ Refusal) → b ≡ true → ColumnGives b run output a output' → a ≡ said r → RunGives run output r output'
+gives_rows {run = run} r e g is = record { says = same r (run_answer run) (sym is ∙ rw e at g.says); output_is = rw e at g.output_is }
+  where
+    same : (r s : RustResult ℕ Refusal) → said r ≡ said s → r ≡ s
+    same (Ok n) (Ok m) p = ap Ok cc
+    same (Ok n) (Err e) p = let z : ◌≡◌ {A = ℕ} 0 1 = cc in absurd (omega arith)
+    same (Err e) (Ok m) p = let z : ◌≡◌ {A = ℕ} 0 1 = cc in absurd (omega arith)
+    same (Err e) (Err f) p = ap Err cc
 
 -- two tests that both passed
 both : (a b : Bool) → (a && b) ≡ true → (a ≡ true) × (b ≡ true)
@@ -253,25 +265,18 @@ pub most_none : {classes : List ℕ} → MostSoFar classes 0 0
 most_none = record { below = λ j h. absurd (omega arith); some = inl refl }
 
 module _ {classes : List ℕ} {i most : ℕ} (s : MostSoFar classes i most) where
-  -- one more, above them
-  pub most_greater : {new : ℕ} → most < get_or classes i 0 → new ≡ get_or classes i 0 → MostSoFar classes (i + 1) new
-  most_greater {new} h e = record { below = λ j l. go j l (ℕ_discrete j i); some = inr (i, omega arith, sym e) }
+  -- one more
+  pub most_more : {new : ℕ} → new ≡ max most (get_or classes i 0) → MostSoFar classes (i + 1) new
+  most_more {new} e = record { below = λ j l. go j l (ℕ_discrete j i); some = further (dec_lt most (get_or classes i 0)) s.some }
     where
       go : (j : ℕ) → j < i + 1 → Dec (j ≡ i) → get_or classes j 0 ≤ new
       go j l (yes p) = let q : get_or classes j 0 ≡ get_or classes i 0 = ap (λ (k : ℕ). get_or classes k 0) p in omega arith
       go j l (no d) = let q = s.below j (omega arith) in omega arith
 
-  -- or not
-  pub most_less : {new : ℕ} → get_or classes i 0 ≤ most → new ≡ most → MostSoFar classes (i + 1) new
-  most_less {new} h e = record { below = λ j l. go j l (ℕ_discrete j i); some = further s.some }
-    where
-      go : (j : ℕ) → j < i + 1 → Dec (j ≡ i) → get_or classes j 0 ≤ new
-      go j l (yes p) = let q : get_or classes j 0 ≡ get_or classes i 0 = ap (λ (k : ℕ). get_or classes k 0) p in omega arith
-      go j l (no d) = let q = s.below j (omega arith) in omega arith
-
-      further : (most ≡ 0) ⊎ ((j : ℕ) × (j < i) × (get_or classes j 0 ≡ most)) → (new ≡ 0) ⊎ ((j : ℕ) × (j < i + 1) × (get_or classes j 0 ≡ new))
-      further (inl z) = inl (e ∙ z)
-      further (inr (j, l, p)) = inr (j, omega arith, p ∙ sym e)
+      further : Dec (most < get_or classes i 0) → (most ≡ 0) ⊎ ((j : ℕ) × (j < i) × (get_or classes j 0 ≡ most)) → (new ≡ 0) ⊎ ((j : ℕ) × (j < i + 1) × (get_or classes j 0 ≡ new))
+      further (yes h) some = inr (i, omega arith, omega arith)
+      further (no n) (inl z) = inl (omega arith)
+      further (no n) (inr (j, l, p)) = inr (j, omega arith, omega arith)
 
   -- it tells whether all have a number
   pub most_tells : {rows : ℕ} → i ≡ rows → ltb most 258 ≡ classes_in classes rows
@@ -334,7 +339,7 @@ module _ (rows : ℕ) (classes payloads : List ℕ) where
         number = (leb-true 2 (type_number t) n.0, leb-true (type_number t) 4 n.1);
         inside = record {
           few = f.0;
-          classes_long_lem = f.1;
+          classes_full = f.1;
           payloads_long = f.2;
           below = λ i h. ltb-true (get_or classes i 0) 258 (each_at (class_in classes) rows i a.1 h);
         };
@@ -343,5 +348,5 @@ module _ (rows : ℕ) (classes payloads : List ℕ) where
   -- and back
   pub asks_classed : {t : DataType} → ClassesAsk rows t classes payloads → classed rows t classes payloads ≡ true
   asks_classed {t} a =
-      rw (le-leb rows 512 a.inside.few, eq-eqb (length classes) 512 a.inside.classes_long_lem, eq-eqb (length payloads) 258 a.inside.payloads_long, le-leb 2 (type_number t) a.number.0, le-leb (type_number t) 4 a.number.1)
+      rw (le-leb rows 512 a.inside.few, eq-eqb (length classes) 512 a.inside.classes_full, eq-eqb (length payloads) 258 a.inside.payloads_long, le-leb 2 (type_number t) a.number.0, le-leb (type_number t) 4 a.number.1)
       (each_all (class_in classes) rows (λ i h. lt-ltb (get_or classes i 0) 258 (a.inside.below i h)))

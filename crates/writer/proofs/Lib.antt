@@ -9,4 +9,3 @@ pub mod ColumnLaws
 pub mod SlotRunLaws
 pub mod PlainLaws
 pub mod FitLaws
-pub mod ClearLaws

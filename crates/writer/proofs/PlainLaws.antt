@@ -23,12 +23,13 @@ use Rattle.scalar.specs.Value.{float_value, value_of, kind_of}
 use Rattle.scalar.specs.Order.{text_in}
 use Rattle.scalar.specs.TryCast.{or_null}
 use Rattle.scalar.proofs.FloatLaws.{float_means}
-use Rattle.writer.specs.declared.RunAnswer.TheVariants.{Answered, Refused}
+use Rattle.std.specs.Prelude.{Ok, Err}
+use Rattle.layout.specs.declared.refusal.Refusal.TheVariants.{OutputSize}
 use Rattle.writer.specs.Answer.{number_in}
 use Rattle.writer.specs.Write.{WriteGives, ClassesAsk, PlainRows, RowsOfKind, Tells, slot_kind, slot_payload, class_payload}
 use Rattle.writer.specs.Writing.{Wrote, row_bytes, some_of_kind, number_of, width_of, row_numbers, row_text, row_values, row_column, plain_numbers, plain_front, validity_size, values_size}
 use Rattle.layout.proofs.FieldLaws.{length_field}
-use Rattle.writer.proofs.WroteLaws.{length_rows, rows_same, low_bytes, wrote_as, wrote_then, wrote_long}
+use Rattle.writer.proofs.WroteLaws.{length_rows, rows_same, numbers_long, low_bytes, wrote_as, wrote_then, wrote_long}
 use Rattle.writer.proofs.RowKindLaws.{any_none}
 use Rattle.writer.proofs.ColumnPutLaws.{rows_empty, empty_field, count_size_lem}
 use Rattle.writer.proofs.RowCountLaws.{nulls_none}
@@ -170,7 +171,7 @@ module _ {kind : ℕ → ℕ} {rows : ℕ} {t : DataType} (plain : PlainRows kin
 
   module _ (nullable : Bool) {output : List ℕ} {size : ℕ} (s : size ≡ 13 + validity_size rows false + values_size t rows 0) where
     -- too short an output
-    pub plain_17 : length output < size → (rule table : List ℕ) → WriteGives rule table plain_value rows t nullable output (Refused 17) output
+    pub plain_17 : length output < size → (rule table : List ℕ) → WriteGives rule table plain_value rows t nullable output (Err OutputSize) output
     plain_17 h rule table = gives_17 rule table plain_value rows t nullable output none_failed refl (no_texts rule table) (omega arith) none_null s h
 
     module _ (h : size ≤ length output) {p : ℕ} {m : List ℕ} (a : Wrote output 0 (plain_front t nullable (values_size t rows 0 - 3)) p m) {wide : Bool} (w : wide ≡ wide_type t) where
@@ -189,8 +190,8 @@ module _ {kind : ℕ → ℕ} {rows : ℕ} {t : DataType} (plain : PlainRows kin
           omega (arith, a.ends, length-append (x ++ y ++ field_bytes 3 []) z, length-append (x ++ y) (field_bytes 3 []), length-append x y, length_field 2 (type_number t ∷ mark_number nullable ∷ []), count_size_lem 0, length_field 3 [], length_number_bytes 2 (values_size t rows 0 - 3))
 
       -- room for the numbers
-      pub plain_room : p + length (row_bytes (plain_numbers wide payload) rows) ≤ length m
-      plain_room = omega (arith, front_ends, wrote_long a, content_size, (values_small rows t plain.few).0)
+      pub plain_room : p + width_of wide * rows ≤ length m
+      plain_room = omega (arith, front_ends, wrote_long a, content_size, numbers_long wide payload rows, (values_small rows t plain.few).0)
 
       -- the rows' numbers are those of tag 4
       field_is : (rule table : List ℕ) → field_bytes 4 (row_bytes (plain_numbers wide payload) rows) ≡ row_values rule table plain_value rows t
@@ -213,7 +214,7 @@ module _ {kind : ℕ → ℕ} {rows : ℕ} {t : DataType} (plain : PlainRows kin
 
       -- which is the answer
       pub plain_answer : {end : ℕ} {output' : List ℕ} → Wrote m p (row_bytes (plain_numbers wide payload) rows) end output'
-          → (rule table : List ℕ) → WriteGives rule table plain_value rows t nullable output (Answered end) output'
+          → (rule table : List ℕ) → WriteGives rule table plain_value rows t nullable output (Ok end) output'
       plain_answer c rule table =
           gives_answer rule table plain_value rows t nullable output none_failed refl (no_texts rule table) (omega arith) none_null (wrote_as (column_as rule table) (wrote_then a c))
 

@@ -19,8 +19,9 @@ use Rattle.scalar.specs.Value.{meaning, kind_of}
 use Rattle.scalar.specs.Order.{text_in}
 use Rattle.scalar.specs.TryCast.{or_null}
 use Rattle.scalar.specs.Types.{type_number, mark_number}
-use Rattle.writer.specs.declared.RunAnswer.{RunAnswer}
-use Rattle.writer.specs.declared.RunAnswer.TheVariants.{Answered, Refused}
+use Rattle.std.specs.Prelude.{Result as RustResult, Ok, Err}
+use Rattle.layout.specs.declared.refusal.Refusal.{Refusal}
+use Rattle.layout.specs.declared.refusal.Refusal.TheVariants.{Cast, TextSize, OutputSize}
 use Rattle.table.specs.TableBytes.{column_bytes}
 use Rattle.layout.proofs.FieldLaws.{length_field}
 use Rattle.writer.specs.Answer.{column_of, text_length}
@@ -147,12 +148,12 @@ module _ (t : DataType) (n : Bool) (es : List Entry) (output : ℕ) where
 
 module _ (rule table : List ℕ) (v : ℕ → Value) (rows : ℕ) (t : DataType) (n : Bool) (output : List ℕ) where
   -- what a run that is known promises
-  gives_as : {r : RunAnswer} {output' : List ℕ} (x : Result (List ℕ)) → rows_run rule table v rows t n (length output) ≡ x → r ≡ run_answer x → output' ≡ output_after x output
+  gives_as : {r : RustResult ℕ Refusal} {output' : List ℕ} (x : Result (List ℕ)) → rows_run rule table v rows t n (length output) ≡ x → r ≡ run_answer x → output' ≡ output_after x output
       → WriteGives rule table v rows t n output r output'
   gives_as x e p q = record { says = p ∙ ap run_answer (sym e); output_is = q ∙ ap (λ (y : Result (List ℕ)). output_after y output) (sym e) }
 
   -- some row failed
-  pub gives_15 : {b : Bool} → b ≡ some_of_kind v 7 rows → b ≡ true → WriteGives rule table v rows t n output (Refused 15) output
+  pub gives_15 : {b : Bool} → b ≡ some_of_kind v 7 rows → b ≡ true → WriteGives rule table v rows t n output (Err Cast) output
   unfolding output_after
   gives_15 p q =
       gives_as (refused 15) (ap (λ (r : Result (List Entry)). r >>= λ es. written_as t n es (length output)) (rows_fail rule table v rows (sym p ∙ q))) refl refl
@@ -171,7 +172,7 @@ module _ (rule table : List ℕ) (v : ℕ → Value) (rows : ℕ) (t : DataType)
     text_is = e ∙ ap length (texts_rows rule table v rows)
 
     -- too much text
-    pub gives_16 : text_most < text → WriteGives rule table v rows t n output (Refused 16) output
+    pub gives_16 : text_most < text → WriteGives rule table v rows t n output (Err TextSize) output
     unfolding output_after
     gives_16 h = gives_as (refused 16) (run_is ∙ written_16 t n (row_entries rule table v rows) (length output) (omega (arith, text_is))) refl refl
 
@@ -185,19 +186,19 @@ module _ (rule table : List ℕ) (v : ℕ → Value) (rows : ℕ) (t : DataType)
       size_is s = s ∙ ap (λ (k : ℕ). 13 + validity_size rows null + values_size t rows k) e ∙ sym (column_size rule table v rows t n null) ∙ ap length column_is
 
       -- too short an output
-      pub gives_17 : {size : ℕ} → size ≡ 13 + validity_size rows null + values_size t rows text → length output < size → WriteGives rule table v rows t n output (Refused 17) output
+      pub gives_17 : {size : ℕ} → size ≡ 13 + validity_size rows null + values_size t rows text → length output < size → WriteGives rule table v rows t n output (Err OutputSize) output
       unfolding output_after
       gives_17 s h =
           gives_as (refused 17) (run_is ∙ written_17 t n (row_entries rule table v rows) (length output) (omega (arith, text_is)) (omega (arith, size_is s))) refl refl
 
       -- the answer
-      pub gives_answer : {end : ℕ} {output' : List ℕ} → Wrote output 0 (row_column rule table v rows t n null) end output' → WriteGives rule table v rows t n output (Answered end) output'
+      pub gives_answer : {end : ℕ} {output' : List ℕ} → Wrote output 0 (row_column rule table v rows t n null) end output' → WriteGives rule table v rows t n output (Ok end) output'
       unfolding output_after wrote
       gives_answer o =
           let bytes = column_bytes (column_of t n (row_entries rule table v rows)) in
           let a : Wrote output 0 bytes _ _ = wrote_as column_is o in
           gives_as (ok bytes) (run_is ∙ written_all t n (row_entries rule table v rows) (length output) (omega (arith, text_is)) (omega (arith, a.fits)))
-          (ap Answered (a.ends ∙ zero-add (length bytes))) (a.holds ∙ ap (λ (k : ℕ). bytes ++ drop k output) (zero-add (length bytes)))
+          (ap Ok (a.ends ∙ zero-add (length bytes))) (a.holds ∙ ap (λ (k : ℕ). bytes ++ drop k output) (zero-add (length bytes)))
 
 -- ---- text only in a column of text
 
@@ -219,15 +220,13 @@ module _ {rule table w : List ℕ} {rows : ℕ} {t : DataType} (ask : WriteAsks 
   no_texts s e never =
       sym (rows_empty (row_text rule table (slot_at w)) rows (λ i h. text_typed rule table (type_number t) (slot_at w i) (λ x. never (ap type_number (sym e) ∙ x)) (ask.each i h)))
 
-  -- each type that is not text
-  pub boolean_text : t ≡ DataType.Boolean → 0 ≡ length (row_bytes (row_text rule table (slot_at w)) rows)
-  boolean_text e = no_texts DataType.Boolean e (λ x. omega arith)
-
-  pub int32_text : t ≡ DataType.Int32 → 0 ≡ length (row_bytes (row_text rule table (slot_at w)) rows)
-  int32_text e = no_texts DataType.Int32 e (λ x. omega arith)
-
-  pub int64_text : t ≡ DataType.Int64 → 0 ≡ length (row_bytes (row_text rule table (slot_at w)) rows)
-  int64_text e = no_texts DataType.Int64 e (λ x. omega arith)
-
-  pub float64_text : t ≡ DataType.Float64 → 0 ≡ length (row_bytes (row_text rule table (slot_at w)) rows)
-  float64_text e = no_texts DataType.Float64 e (λ x. omega arith)
+  -- of any other type
+  pub other_text : (t ≡ DataType.Utf8 → ⊥) → 0 ≡ length (row_bytes (row_text rule table (slot_at w)) rows)
+  other_text n = go t refl
+    where
+      go : (s : DataType) → t ≡ s → 0 ≡ length (row_bytes (row_text rule table (slot_at w)) rows)
+      go DataType.Boolean e = no_texts DataType.Boolean e (λ x. omega arith)
+      go DataType.Int32 e = no_texts DataType.Int32 e (λ x. omega arith)
+      go DataType.Int64 e = no_texts DataType.Int64 e (λ x. omega arith)
+      go DataType.Float64 e = no_texts DataType.Float64 e (λ x. omega arith)
+      go DataType.Utf8 e = absurd (n e)

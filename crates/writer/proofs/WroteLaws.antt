@@ -1,19 +1,22 @@
 -- Bytes written at a place: one run behind another, and row by row. Assumes nothing.
 use mathlib.Core.Path.{◌≡◌, refl, sym, ap, ap₂, subst, ◌∙◌}
-use mathlib.Core.Bool.{Bool, true, cond}
+use mathlib.Core.Bool.{Bool, true, false, cond}
 use mathlib.Core.List.{List, [], ◌∷◌, ◌++◌, append-nil, append_assoc}
-use Prim.Native.Nat.{ℕ, zero, suc, ◌+◌, ◌*◌, ◌/◌, ◌%◌, ◌^◌, ◌<◌, ◌≤◌}
+use Prim.Native.Nat.{ℕ, zero, suc, ◌+◌, ◌-◌, ◌*◌, ◌/◌, ◌%◌, ◌^◌, ◌<◌, ◌≤◌}
 use native.Mathlib.Nat.{add-zero, pow-suc}
 use native.Mathlib.Decide.{dec_lt}
 use native.Mathlib.Numerals.{add-one}
 use native.Mathlib.Omega.{arith}
-use lib.ListN.{length, take, drop, set, get_or, length-append, length-drop, length-set, take-append-drop}
-use lib.Seq.{length-take-le, take-append-le, take-take, take_at, drop_at, drop-drop, sets, sets-eq, take-length, paste, paste-zero, paste-suc}
+use lib.ListN.{length, take, drop, length-append, length-drop, take-append-drop}
+use lib.Seq.{length-take-le, take-append-le, take-take, take_at, drop_at, drop-drop, sets, sets-eq}
 use borrow.Author.Tests.{le-leb}
 use Rattle.layout.specs.Bytes.{number_bytes, Written}
 use Rattle.layout.specs.Field.{field_bytes}
+use borrow.Rule.Slice.PartMut.{put_mid}
+use Rattle.std.specs.Int.{bytes_low_first}
 use Rattle.layout.proofs.BytesLaws.{length_number_bytes}
-use Rattle.writer.specs.Writing.{wrote, Wrote, row_bytes, width_of}
+use Rattle.layout.proofs.NumberLaws.{bytes_lowest}
+use Rattle.writer.specs.Writing.{wrote, Wrote, row_bytes, width_of, plain_numbers}
 
 -- what stands before the end
 front : (out : List ℕ) (at : ℕ) (xs : List ℕ) → at + length xs ≤ length out → length (take at out ++ xs) ≡ at + length xs
@@ -134,36 +137,22 @@ unfolding field_bytes
 wrote_field {out} {at} {tag} {size} {content} e a b =
     wrote_then (wrote_as (ap (λ (n : ℕ). tag ∷ number_bytes 2 n) e) a) b
 
--- ---- a copy, byte by byte
+-- ---- some bytes, copied
 
--- where the loop stands: i bytes are copied
-pub record PastedSoFar (out : List ℕ) (at : ℕ) (text : List ℕ) (i : ℕ) (m : List ℕ) : Type 0 where
-  pub few : i ≤ length text
-  pub long : length m ≡ length out
-  pub holds : m ≡ paste out at text i
-
-pub pasted_none : {out : List ℕ} {at : ℕ} {text : List ℕ} → PastedSoFar out at text 0 out
-pasted_none {out} {at} {text} = record { few = omega arith; long = refl; holds = paste-zero out at text }
-
-pub pasted_more : {out : List ℕ} {at : ℕ} {text : List ℕ} {i : ℕ} {m : List ℕ} → PastedSoFar out at text i m → at + length text ≤ length out → i < length text
-    → PastedSoFar out at text (i + 1) (set m (at + i) (get_or text i 0))
-pasted_more {out} {at} {text} {i} {m} s room more = record {
-  few = omega arith;
-  long = length-set m (at + i) (get_or text i 0) ∙ s.long;
-  holds = ap (λ (l : List ℕ). set l (at + i) (get_or text i 0)) s.holds ∙ paste-suc out at text i 0 (omega arith) more ∙ ap (paste out at text) (sym (add-one i));
-}
-
-pub pasted_all : {out : List ℕ} {at : ℕ} {text : List ℕ} {i : ℕ} {m : List ℕ} → PastedSoFar out at text i m → at + length text ≤ length out → length text ≤ i
-    → Wrote out at text (at + length text) m
+pub wrote_mid : {out : List ℕ} {at : ℕ} {bytes m : List ℕ} → at + length bytes ≤ length out → m ≡ bytes → Wrote out at bytes (at + length bytes) (put_mid at (at + length bytes - at) out m)
 unfolding wrote
-pasted_all {out} {at} {text} {i} {m} s room all =
-    let few = s.few in
-    let e : i ≡ length text = omega arith in
+wrote_mid {out} {at} {bytes} {m} room e =
+    let size : at + length bytes - at ≡ length bytes = omega arith in
     record {
       fits = room;
       ends = refl;
-      holds = s.holds ∙ ap (paste out at text) e ∙ ap (λ (l : List ℕ). take at out ++ l ++ drop (at + length text) out) (take-length text);
+      holds = (λ i. take at out ++ (e i ++ drop (size i) (drop at out))) ∙ ap (λ (rest : List ℕ). take at out ++ (bytes ++ rest)) (drop-drop (length bytes) at out)
+          ∙ sym (append_assoc (take at out) bytes (drop (at + length bytes) out));
     }
+
+-- a number's bytes, copied
+pub wrote_lowest : {out : List ℕ} {at p : ℕ} {bytes m : List ℕ} (k n : ℕ) → bytes ≡ bytes_low_first 0 k n → Wrote out at bytes p m → Wrote out at (number_bytes k n) p m
+wrote_lowest k n e w = wrote_as (e ∙ bytes_lowest k n) w
 
 -- ---- row by row
 
@@ -248,3 +237,24 @@ room_as at n e h = subst (λ (l : List ℕ). at + length l ≤ n) (sym e) h
 -- a number's room
 pub number_room : (k x p n : ℕ) → p + length (number_bytes k x) ≤ n → p + k ≤ n
 number_room k x p n h = let e = length_number_bytes k x in omega arith
+
+-- ---- a number for each row
+
+-- where the first ends
+pub numbers_start : (wide : Bool) (at : ℕ) → at ≡ at + width_of wide * 0
+numbers_start true at = omega arith
+numbers_start false at = omega arith
+
+-- room for the next
+pub numbers_room : (wide : Bool) (at i rows : ℕ) {p long : ℕ} → p ≡ at + width_of wide * i → i < rows → at + width_of wide * rows ≤ long → p + width_of wide ≤ long
+numbers_room true at i rows e h room = omega arith
+numbers_room false at i rows e h room = omega arith
+
+-- where it ends
+pub numbers_next : (wide : Bool) (at i n : ℕ) {out m : List ℕ} {p q : ℕ} → p ≡ at + width_of wide * i → Wrote out p (number_bytes (width_of wide) n) q m → q ≡ at + width_of wide * (i + 1)
+numbers_next true at i n e w = omega (arith, w.ends, length_number_bytes 8 n)
+numbers_next false at i n e w = omega (arith, w.ends, length_number_bytes 4 n)
+
+-- how long they are
+pub numbers_long : (wide : Bool) (numbers : ℕ → ℕ) (rows : ℕ) → length (row_bytes (plain_numbers wide numbers) rows) ≡ width_of wide * rows
+numbers_long wide numbers rows = length_rows (plain_numbers wide numbers) (width_of wide) (λ i. length_number_bytes (width_of wide) (numbers i)) rows

@@ -1,6 +1,6 @@
 -- What writing the answer promises, for every argument: where the rows are no column of the type, just that; else 15, 16, 17 or the answer at
 -- the front of the output (01, Where a call stops).
-use Rattle.std.specs.Prelude.{◌≡◌, Bool, true, false, cond, ◌&&◌, ◌||◌, List, map, ℕ, ◌+◌, ◌*◌, ◌<◌, ◌≤◌, eqb, ltb, leb, length, get_or}
+use Rattle.std.specs.Prelude.{◌≡◌, Bool, true, false, cond, ◌&&◌, ◌||◌, List, map, ℕ, ◌+◌, ◌*◌, ◌<◌, ◌≤◌, eqb, ltb, leb, length, get_or, Result as RustResult, Ok, Err}
 use Rattle.layout.specs.Bytes.{byte, number_at}
 use Rattle.layout.specs.Result.{Result, ◌>>=◌}
 use Rattle.scalar.specs.declared.types.DataType.{DataType}
@@ -8,9 +8,9 @@ use Rattle.scalar.specs.declared.value.Value.{Value}
 use Rattle.scalar.specs.Types.{type_number}
 use Rattle.scalar.specs.Entry.{Outcome}
 use Rattle.scalar.specs.Value.{meaning, kind_of, value_of}
-use Rattle.writer.specs.declared.RunAnswer.{RunAnswer}
-use Rattle.writer.specs.declared.WriteAnswer.{WriteAnswer}
-use Rattle.writer.specs.declared.WriteAnswer.TheVariants.{Run, NoColumn}
+use Rattle.layout.specs.declared.refusal.Refusal.{Refusal}
+use Rattle.writer.specs.declared.WriteError.{WriteError}
+use Rattle.writer.specs.declared.WriteError.TheVariants.{NoColumn, Refused}
 use Rattle.writer.specs.Written.{rows_from, entries_of, written_as, run_answer, output_after}
 use Rattle.writer.specs.Slots.{slot_at}
 use Rattle.writer.specs.Writing.{each_row}
@@ -24,18 +24,23 @@ abbrev pub rows_run : List ℕ → List ℕ → (ℕ → Value) → ℕ → Data
 rows_run rule table v rows t n output = entries_of (row_outcomes rule table v rows) >>= λ es. written_as t n es output
 
 -- what a run says, and the final state of the output
-pub record RunGives (run : Result (List ℕ)) (output : List ℕ) (r : RunAnswer) (output' : List ℕ) : Type 0 where
+pub record RunGives (run : Result (List ℕ)) (output : List ℕ) (r : RustResult ℕ Refusal) (output' : List ℕ) : Type 0 where
   pub says : r ≡ run_answer run
   pub output_is : output' ≡ output_after run output
 
 -- of rows that each have a value
-abbrev pub WriteGives : List ℕ → List ℕ → (ℕ → Value) → ℕ → DataType → Bool → List ℕ → RunAnswer → List ℕ → Type 0
+abbrev pub WriteGives : List ℕ → List ℕ → (ℕ → Value) → ℕ → DataType → Bool → List ℕ → RustResult ℕ Refusal → List ℕ → Type 0
 WriteGives rule table v rows t n output r output' = RunGives (rows_run rule table v rows t n (length output)) output r output'
 
+-- what a run says, as the writing of rows says it
+abbrev pub said : RustResult ℕ Refusal → RustResult ℕ WriteError
+said (Ok n) = Ok n
+said (Err e) = Err (Refused e)
+
 -- rows that are a column say what the run says
-abbrev pub write_answer : Bool → Result (List ℕ) → WriteAnswer
-write_answer true run = Run (run_answer run)
-write_answer false run = NoColumn
+abbrev pub write_answer : Bool → Result (List ℕ) → RustResult ℕ WriteError
+write_answer true run = said (run_answer run)
+write_answer false run = Err NoColumn
 
 -- rows that are none leave the output untouched
 abbrev pub write_output : Bool → Result (List ℕ) → List ℕ → List ℕ
@@ -43,7 +48,7 @@ write_output true run output = output_after run output
 write_output false run output = output
 
 -- what is said of rows that are a column or none, and the final state of the output
-pub record ColumnGives (column : Bool) (run : Result (List ℕ)) (output : List ℕ) (r : WriteAnswer) (output' : List ℕ) : Type 0 where
+pub record ColumnGives (column : Bool) (run : Result (List ℕ)) (output : List ℕ) (r : RustResult ℕ WriteError) (output' : List ℕ) : Type 0 where
   pub says : r ≡ write_answer column run
   pub output_is : output' ≡ write_output column run output
 
@@ -129,7 +134,7 @@ classed rows t classes payloads = classes_long rows classes payloads && number_t
 -- the arrays have a class for each row, and a number for each class that a row has
 pub record ClassesIn (rows : ℕ) (classes payloads : List ℕ) : Type 0 where
   pub few : rows ≤ 512
-  pub classes_long_lem : length classes ≡ 512
+  pub classes_full : length classes ≡ 512
   pub payloads_long : length payloads ≡ 258
   pub below : (i : ℕ) → i < rows → get_or classes i 0 < 258
 

@@ -1,11 +1,10 @@
 -- What the writers of the answer promise: bytes at a place of the output, one row's behind the other's.
-use Rattle.std.specs.Prelude.{◌≡◌, Bool, true, false, cond, not, List, [], ◌∷◌, ◌++◌, map, ℕ, zero, suc, ◌+◌, ◌*◌, ◌≤◌, eqb, ltb, length, take, drop}
+use Rattle.std.specs.Prelude.{◌≡◌, Bool, true, false, cond, not, List, [], ◌∷◌, ◌++◌, map, ℕ, zero, suc, ◌+◌, ◌*◌, ◌<◌, ◌≤◌, eqb, ltb, length, take, drop}
 use Rattle.std.specs.Float.{binary64}
 use Rattle.std.specs.Float.Ieee.{to_bits}
 use Rattle.layout.specs.Bytes.{number_bytes, bitmap_length}
 use Rattle.layout.specs.Field.{field_bytes}
 use Rattle.scalar.specs.declared.types.DataType.{DataType}
-use Rattle.scalar.specs.declared.types.DataType.TheVariants as DataType
 use Rattle.scalar.specs.declared.value.Value.{Value}
 use Rattle.scalar.specs.declared.value.Value.TheVariants.{Null, Boolean, Int32, Int64, Float64, Nan, RuleText, TableText, Failed}
 use Rattle.scalar.specs.Types.{type_number, mark_number}
@@ -24,6 +23,10 @@ pub record Wrote (out : List ℕ) (at : ℕ) (bytes : List ℕ) (end : ℕ) (out
   pub fits : at + length bytes ≤ length out
   pub ends : end ≡ at + length bytes
   pub holds : out' ≡ wrote out at bytes
+
+-- calls at the first rows give their numbers
+pub record Gives (post : ℕ → ℕ → Type 0) (numbers : ℕ → ℕ) (rows : ℕ) : Type 0 where
+  pub numbers_are : (i r : ℕ) → i < rows → post i r → r ≡ numbers i
 
 -- the bytes of the first rows, one row's behind the other's
 unfoldable pub row_bytes : (ℕ → List ℕ) → ℕ → List ℕ

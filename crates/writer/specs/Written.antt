@@ -1,10 +1,9 @@
 -- What a run writes of its rows' outcomes (01, Where a call stops).
-use Rattle.std.specs.Prelude.{Bool, List, [], ◌∷◌, ◌++◌, ℕ, zero, suc, leb, length, drop, replicate}
-use Rattle.layout.specs.Result.{Result, refused, ok, ◌>>=◌, require}
+use Rattle.std.specs.Prelude.{Bool, List, [], ◌∷◌, ◌++◌, ℕ, zero, suc, leb, length, drop, replicate, Result as RustResult}
+use Rattle.layout.specs.Result.{Result, refused, ok, ◌>>=◌, require, answered}
 use Rattle.scalar.specs.Entry.{Entry, Outcome, entry, unfit}
 use Rattle.scalar.specs.declared.types.DataType.{DataType}
-use Rattle.writer.specs.declared.RunAnswer.{RunAnswer}
-use Rattle.writer.specs.declared.RunAnswer.TheVariants.{Answered, Refused}
+use Rattle.layout.specs.declared.refusal.Refusal.{Refusal}
 use Rattle.table.specs.TableBytes.{column_bytes}
 use Rattle.writer.specs.Answer.{column_of, text_length}
 
@@ -31,10 +30,9 @@ written_as t n es output = do
   _ ← require (leb (length bytes) output) 17
   ok bytes
 
--- the length of the answer, or the number
-abbrev pub run_answer : Result (List ℕ) → RunAnswer
-run_answer (refused n) = Refused n
-run_answer (ok bytes) = Answered (length bytes)
+-- the length of the answer, or the refusal
+abbrev pub run_answer : Result (List ℕ) → RustResult ℕ Refusal
+run_answer = answered length
 
 -- a refusal leaves the output untouched; output past the answer is untouched
 unfoldable pub output_after : Result (List ℕ) → List ℕ → List ℕ

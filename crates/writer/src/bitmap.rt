@@ -14,15 +14,8 @@ fn is_true(v: Value) -> bool
     ensures { result ≡ true_of v }
 {
     match v {
-        Value::Null => false,
         Value::Boolean(b) => b,
-        Value::Int32(_) => false,
-        Value::Int64(_) => false,
-        Value::Float64(_) => false,
-        Value::Nan(_) => false,
-        Value::RuleText(_, _) => false,
-        Value::TableText(_, _) => false,
-        Value::Failed => false,
+        _ => false,
     }
 }
 
@@ -52,9 +45,7 @@ fn bits_byte(work: &[u8], rows: usize, truth: bool, j: usize) -> u8
     ensures { result ≡ bits_from (flag_at truth (slot_at work.now) rows) (8 * j) 8 }
 {
     let mut n: usize = 0;
-    let mut k: usize = 8;
-    while 0 < k {
-        k -= 1;
+    for k in (0..8).rev() {
         n = bit(work, rows, truth, 8 * j + k) + 2 * n;
     }
     n as u8
@@ -65,15 +56,12 @@ pub(crate) fn put_bits(work: &[u8], rows: usize, truth: bool, at: usize, output:
     requires { RowsAsk work.now rows × (at + length (row_bytes (row_bits truth (slot_at work.now) rows) (bitmap_length rows)) ≤ length output.old) }
     ensures { BitsWrote truth (slot_at work.now) rows output.old at result output.new }
 {
-    let size = bitmap_length(rows);
     let mut p = at;
     let mut set = 0;
-    let mut j = 0;
-    while j < size {
+    for j in 0..bitmap_length(rows) {
         let b = bits_byte(work, rows, truth, j);
         p = put_byte(output, p, b);
         set += ones_in(b);
-        j += 1;
     }
     set
 }

@@ -3,11 +3,11 @@ ghost use Rattle.std.specs.Prelude.{◌≡◌, List, ℕ, ◌+◌, ◌≤◌, le
 ghost use Rattle.writer.specs.Write.{ColumnGives, WriteGives, ClassesIn, ClassesAsk, class_value, class_payload, classes_long, number_type, classes_in, classed, rows_run};
 ghost use Rattle.writer.specs.Writing.{Wrote, row_bytes, plain_numbers};
 
+use crate::WriteError;
 use crate::plain::{FLOAT64, INT32, plain_front};
-use crate::put::put_number;
+use crate::put::put_numbers;
 use crate::write::{ROWS_MOST, column_size};
-use crate::{RunAnswer, WriteAnswer};
-use rule::types::type_number;
+use layout::refusal::Refusal;
 use scalar::types::DataType;
 
 // How many classes have a number.
@@ -22,13 +22,13 @@ pub fn write_classes(
     classes: &[u16],
     payloads: &[u64],
     output: &mut [u8],
-) -> WriteAnswer
+) -> Result<usize, WriteError>
     ensures { (rule table : List ℕ) → ColumnGives (classed rows t classes.now payloads.now) (rows_run rule table (class_value t classes.now payloads.now) rows t nullable (length output.old)) output.old result output.new }
 {
     if !classes_fit(rows, t, classes, payloads) {
-        return WriteAnswer::NoColumn;
+        return Err(WriteError::NoColumn);
     }
-    WriteAnswer::Run(write_classed(rows, t, nullable, classes, payloads, output))
+    Ok(write_classed(rows, t, nullable, classes, payloads, output)?)
 }
 
 // Whether the type is one of numbers, and every row's class has a number.
@@ -38,7 +38,7 @@ fn classes_fit(rows: usize, t: DataType, classes: &[u16], payloads: &[u64]) -> b
     if !classes_long(rows, classes, payloads) {
         return false;
     }
-    if !number_type(type_number(t)) {
+    if !number_type(t.number()) {
         return false;
     }
     classes_in(rows, classes)
@@ -73,13 +73,8 @@ fn classes_in(rows: usize, classes: &[u16]) -> bool
     ensures { result ≡ classes_in classes.now rows }
 {
     let mut most = 0u16;
-    let mut i = 0;
-    while i < rows {
-        let class = classes[i];
-        if most < class {
-            most = class;
-        }
-        i += 1;
+    for &class in &classes[..rows] {
+        most = most.max(class);
     }
     most < CLASSES as u16
 }
@@ -92,37 +87,16 @@ fn write_classed(
     classes: &[u16],
     payloads: &[u64],
     output: &mut [u8],
-) -> RunAnswer
+) -> Result<usize, Refusal>
     requires { ClassesAsk rows t classes.now payloads.now }
     ensures { (rule table : List ℕ) → WriteGives rule table (class_value t classes.now payloads.now) rows t nullable output.old result output.new }
 {
     let size = column_size(rows, t, false, 0);
     if output.len() < size {
-        return RunAnswer::Refused(17);
+        return Err(Refusal::OutputSize);
     }
     let p = plain_front(rows, t, nullable, output);
-    let wide = type_number(t) != INT32;
-    let end = put_classes(rows, wide, classes, payloads, p, output);
-    RunAnswer::Answered(end)
-}
-
-// The numbers of the rows' classes, of eight bytes or of four.
-fn put_classes(
-    rows: usize,
-    wide: bool,
-    classes: &[u16],
-    payloads: &[u64],
-    at: usize,
-    output: &mut [u8],
-) -> usize
-    requires { ClassesIn rows classes.now payloads.now × (at + length (row_bytes (plain_numbers wide (class_payload classes.now payloads.now)) rows) ≤ length output.old) }
-    ensures { Wrote output.old at (row_bytes (plain_numbers wide (class_payload classes.now payloads.now)) rows) result output.new }
-{
-    let mut p = at;
-    let mut i = 0;
-    while i < rows {
-        p = put_number(output, p, wide, payloads[classes[i] as usize]);
-        i += 1;
-    }
-    p
+    let wide = t.number() != INT32;
+    let end = put_numbers(rows, wide, |i| payloads[classes[i] as usize], p, output);
+    Ok(end)
 }

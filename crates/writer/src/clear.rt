@@ -6,9 +6,5 @@ ghost use Rattle.writer.specs.Written.{zeros};
 pub fn clear(work: &mut [u8])
     ensures { work.new ≡ zeros work.old }
 {
-    let mut i = 0;
-    while i < work.len() {
-        work[i] = 0;
-        i += 1;
-    }
+    work.fill(0);
 }

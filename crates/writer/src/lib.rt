@@ -1,26 +1,31 @@
 // The answer's column, written from the rows' values.
 #![tactic(auto)]
 
+ghost use Rattle.std.specs.Prelude.{◌≡◌};
+ghost use Rattle.writer.specs.declared.WriteError.TheVariants.{Refused};
+
 pub(crate) mod bitmap;
 pub mod classes;
 pub mod clear;
-pub(crate) mod numbers;
 pub(crate) mod plain;
 pub(crate) mod put;
 pub(crate) mod slot;
 pub(crate) mod texts;
 pub mod write;
 
-// What an evaluation says: the length of the answer at the front of the output, or a refusal number.
-#[derive(Clone, Copy)]
-pub enum RunAnswer {
-    Answered(usize),
-    Refused(u8),
+use layout::refusal::Refusal;
+
+// Why rows are not written: they are no column of the type, or a run with them is refused.
+#[derive(Clone, Copy, Debug, PartialEq, Eq)]
+pub enum WriteError {
+    NoColumn,
+    Refused(Refusal),
 }
 
-// What writing rows says: what a run with them says, or that they are no column of the type.
-#[derive(Clone, Copy)]
-pub enum WriteAnswer {
-    Run(RunAnswer),
-    NoColumn,
+impl From<Refusal> for WriteError {
+    ghost from_gives = { λ r e. e ≡ Refused r };
+
+    fn from(refusal: Refusal) -> WriteError {
+        WriteError::Refused(refusal)
+    }
 }

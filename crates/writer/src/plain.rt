@@ -4,11 +4,10 @@ ghost use Rattle.writer.specs.Slots.{slot_at};
 ghost use Rattle.writer.specs.Write.{PlainRows, RowsOfKind, Tells, WriteGives, slot_kind, slot_payload};
 ghost use Rattle.writer.specs.Writing.{Wrote, RowsAsk, row_bytes, plain_front, plain_numbers, values_size};
 
-use crate::RunAnswer;
-use crate::put::{put_count, put_header, put_number, put_type};
+use crate::put::{put_count, put_header, put_numbers, put_type};
 use crate::slot::slot_payload;
 use crate::write::{VALIDITY, VALUES, column_size, values_size};
-use rule::types::type_number;
+use layout::refusal::Refusal;
 use scalar::types::DataType;
 
 // Numbers of the first and of the last type of numbers; an Int32 takes four bytes, any other eight.
@@ -21,7 +20,7 @@ pub(crate) fn plain_rows(work: &[u8], rows: usize, t: DataType) -> bool
     requires { RowsAsk work.now rows }
     ensures { Tells result (PlainRows (slot_kind work.now) rows t) }
 {
-    let k = type_number(t);
+    let k = t.number();
     if k < INT32 {
         return false;
     }
@@ -36,12 +35,10 @@ fn rows_of_kind(work: &[u8], rows: usize, k: u8) -> bool
     requires { RowsAsk work.now rows }
     ensures { Tells result (RowsOfKind (slot_kind work.now) rows k) }
 {
-    let mut i = 0;
-    while i < rows {
+    for i in 0..rows {
         if work[1024 + 9 * i] != k {
             return false;
         }
-        i += 1;
     }
     true
 }
@@ -53,18 +50,18 @@ pub(crate) fn write_plain(
     t: DataType,
     nullable: bool,
     output: &mut [u8],
-) -> RunAnswer
+) -> Result<usize, Refusal>
     requires { RowsAsk work.now rows × PlainRows (slot_kind work.now) rows t }
     ensures { (rule table : List ℕ) → WriteGives rule table (slot_at work.now) rows t nullable output.old result output.new }
 {
     let size = column_size(rows, t, false, 0);
     if output.len() < size {
-        return RunAnswer::Refused(17);
+        return Err(Refusal::OutputSize);
     }
     let p = plain_front(rows, t, nullable, output);
-    let wide = type_number(t) != INT32;
-    let end = put_payloads(work, rows, wide, p, output);
-    RunAnswer::Answered(end)
+    let wide = t.number() != INT32;
+    let end = put_numbers(rows, wide, |i| slot_payload(work, i), p, output);
+    Ok(end)
 }
 
 // The fields before the numbers, and the head of theirs.
@@ -77,18 +74,4 @@ pub(crate) fn plain_front(rows: usize, t: DataType, nullable: bool, output: &mut
     let q = put_header(output, c, VALIDITY, 0);
     let size = values_size(rows, t, 0) - 3;
     put_header(output, q, VALUES, size)
-}
-
-// The payloads of the rows' slots, of eight bytes or of four.
-fn put_payloads(work: &[u8], rows: usize, wide: bool, at: usize, output: &mut [u8]) -> usize
-    requires { RowsAsk work.now rows × (at + length (row_bytes (plain_numbers wide (slot_payload work.now)) rows) ≤ length output.old) }
-    ensures { Wrote output.old at (row_bytes (plain_numbers wide (slot_payload work.now)) rows) result output.new }
-{
-    let mut p = at;
-    let mut i = 0;
-    while i < rows {
-        p = put_number(output, p, wide, slot_payload(work, i));
-        i += 1;
-    }
-    p
 }

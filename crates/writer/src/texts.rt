@@ -4,7 +4,7 @@ ghost use Rattle.scalar.specs.Order.{text_in};
 ghost use Rattle.writer.specs.Slots.{slot_at};
 ghost use Rattle.writer.specs.Writing.{Wrote, RowsAsk, row_bytes, row_text, row_offset};
 
-use crate::put::{put_number, put_text};
+use crate::put::{put_bytes, put_number};
 use crate::slot::get_slot;
 use scalar::text::place_text;
 use scalar::value::Value;
@@ -32,8 +32,8 @@ fn put_text_of(rule: &[u8], table: &[u8], v: Value, at: usize, output: &mut [u8]
     ensures { Wrote output.old at (text_in rule.now table.now v) result output.new }
 {
     match v {
-        Value::RuleText(start, size) => put_text(output, at, place_text(rule, start, size)),
-        Value::TableText(start, size) => put_text(output, at, place_text(table, start, size)),
+        Value::RuleText(start, size) => put_bytes(output, at, place_text(rule, start, size)),
+        Value::TableText(start, size) => put_bytes(output, at, place_text(table, start, size)),
         _ => at,
     }
 }
@@ -44,10 +44,8 @@ pub(crate) fn text_length(rule: &[u8], table: &[u8], work: &[u8], rows: usize) -
     ensures { result ≡ length (row_bytes (row_text rule.now table.now (slot_at work.now)) rows) }
 {
     let mut sum: usize = 0;
-    let mut i = 0;
-    while i < rows {
+    for i in 0..rows {
         sum += text_size(rule, table, get_slot(work, i));
-        i += 1;
     }
     sum
 }
@@ -66,11 +64,9 @@ pub(crate) fn put_offsets(
 {
     let mut sum: usize = 0;
     let mut p = at;
-    let mut i = 0;
-    while i < rows {
+    for i in 0..rows {
         p = put_number(output, p, false, sum as u64);
         sum += text_size(rule, table, get_slot(work, i));
-        i += 1;
     }
     put_number(output, p, false, sum as u64)
 }
@@ -88,10 +84,8 @@ pub(crate) fn put_texts(
     ensures { Wrote output.old at (row_bytes (row_text rule.now table.now (slot_at work.now)) rows) result output.new }
 {
     let mut p = at;
-    let mut i = 0;
-    while i < rows {
+    for i in 0..rows {
         p = put_text_of(rule, table, get_slot(work, i), p, output);
-        i += 1;
     }
     p
 }

@@ -4,19 +4,18 @@ ghost use Rattle.layout.specs.Bytes.{bitmap_length};
 ghost use Rattle.layout.specs.Field.{field_bytes};
 ghost use Rattle.writer.specs.Slots.{slot_at};
 ghost use Rattle.writer.specs.Write.{ColumnGives, WriteGives, WriteAsks, kind_fits, lengths_fit, slots_fit, writable, rows_run};
-ghost use Rattle.writer.specs.Writing.{Wrote, BitFieldWrote, ValidityWrote, RowsAsk, some_of_kind, row_bytes, row_numbers, row_bits, row_text, row_offset, row_values, row_column, validity_size, values_size};
+ghost use Rattle.writer.specs.Writing.{Wrote, BitFieldWrote, ValidityWrote, RowsAsk, some_of_kind, row_bytes, number_of, row_numbers, row_bits, row_text, row_offset, row_values, row_column, validity_size, values_size};
 
+use crate::WriteError;
 use crate::bitmap::put_bits;
-use crate::numbers::put_numbers;
 use crate::plain::{plain_rows, write_plain};
-use crate::put::{put_count, put_header, put_type};
+use crate::put::{put_count, put_header, put_numbers, put_type};
 use crate::slot::get_slot;
 use crate::texts::{put_offsets, put_texts, text_length};
-use crate::{RunAnswer, WriteAnswer};
 use layout::bits::bitmap_length;
-use rule::types::type_number;
+use layout::refusal::Refusal;
 use scalar::types::DataType;
-use scalar::value::kind;
+use scalar::value::{Value, float_bits, kind};
 
 // Most rows, where their slots end, and most bytes of a rule and of a table.
 pub(crate) const ROWS_MOST: usize = 512;
@@ -54,19 +53,19 @@ pub fn write_answer(
     t: DataType,
     nullable: bool,
     output: &mut [u8],
-) -> WriteAnswer
+) -> Result<usize, WriteError>
     ensures { ColumnGives (writable rule.now table.now work.now rows t) (rows_run rule.now table.now (slot_at work.now) rows t nullable (length output.old)) output.old result output.new }
 {
     if !lengths_fit(rule, table, work, rows) {
-        return WriteAnswer::NoColumn;
+        return Err(WriteError::NoColumn);
     }
     if plain_rows(work, rows, t) {
-        return WriteAnswer::Run(write_plain(work, rows, t, nullable, output));
+        return Ok(write_plain(work, rows, t, nullable, output)?);
     }
-    if !slots_fit(work, rows, type_number(t)) {
-        return WriteAnswer::NoColumn;
+    if !slots_fit(work, rows, t.number()) {
+        return Err(WriteError::NoColumn);
     }
-    WriteAnswer::Run(write_rows(rule, table, work, rows, t, nullable, output))
+    Ok(write_rows(rule, table, work, rows, t, nullable, output)?)
 }
 
 // Whether the rows have slots, and their texts can be counted.
@@ -106,12 +105,10 @@ fn slots_fit(work: &[u8], rows: usize, code: u8) -> bool
     requires { RowsAsk work.now rows }
     ensures { result ≡ slots_fit code work.now rows }
 {
-    let mut i = 0;
-    while i < rows {
+    for i in 0..rows {
         if !kind_fits(code, kind(get_slot(work, i))) {
             return false;
         }
-        i += 1;
     }
     true
 }
@@ -125,24 +122,24 @@ fn write_rows(
     t: DataType,
     nullable: bool,
     output: &mut [u8],
-) -> RunAnswer
+) -> Result<usize, Refusal>
     requires { WriteAsks rule.now table.now work.now rows t }
     ensures { WriteGives rule.now table.now (slot_at work.now) rows t nullable output.old result output.new }
 {
     if some_of_kind(work, rows, FAILED) {
-        return RunAnswer::Refused(15);
+        return Err(Refusal::Cast);
     }
     let text = answer_text(rule, table, work, rows, t);
     if TEXT_MOST < text {
-        return RunAnswer::Refused(16);
+        return Err(Refusal::TextSize);
     }
     let null = some_of_kind(work, rows, NULL);
     let size = column_size(rows, t, null, text);
     if output.len() < size {
-        return RunAnswer::Refused(17);
+        return Err(Refusal::OutputSize);
     }
     let end = put_column(rule, table, work, rows, t, nullable, null, text, output);
-    RunAnswer::Answered(end)
+    Ok(end)
 }
 
 // Whether some row's slot has a value of a kind.
@@ -150,12 +147,10 @@ fn some_of_kind(work: &[u8], rows: usize, k: u8) -> bool
     requires { RowsAsk work.now rows }
     ensures { result ≡ some_of_kind (slot_at work.now) k rows }
 {
-    let mut i = 0;
-    while i < rows {
+    for i in 0..rows {
         if kind(get_slot(work, i)) == k {
             return true;
         }
-        i += 1;
     }
     false
 }
@@ -166,11 +161,8 @@ fn answer_text(rule: &[u8], table: &[u8], work: &[u8], rows: usize, t: DataType)
     ensures { result ≡ length (row_bytes (row_text rule.now table.now (slot_at work.now)) rows) }
 {
     match t {
-        DataType::Boolean => 0,
-        DataType::Int32 => 0,
-        DataType::Int64 => 0,
-        DataType::Float64 => 0,
         DataType::Utf8 => text_length(rule, table, work, rows),
+        _ => 0,
     }
 }
 
@@ -189,8 +181,7 @@ pub(crate) fn values_size(rows: usize, t: DataType, text: usize) -> usize
     match t {
         DataType::Boolean => 3 + bitmap_length(rows),
         DataType::Int32 => 3 + 4 * rows,
-        DataType::Int64 => 3 + 8 * rows,
-        DataType::Float64 => 3 + 8 * rows,
+        DataType::Int64 | DataType::Float64 => 3 + 8 * rows,
         DataType::Utf8 => 10 + 4 * rows + text,
     }
 }
@@ -228,6 +219,18 @@ fn put_truth_field(work: &[u8], rows: usize, at: usize, output: &mut [u8]) -> us
     at + 3 + bitmap_length(rows)
 }
 
+// The number of a value; 0 where it is none.
+fn number_of(v: Value) -> u64
+    ensures { result ≡ number_of v }
+{
+    match v {
+        Value::Int32(n) => n as u64,
+        Value::Int64(n) | Value::Nan(n) => n,
+        Value::Float64(f) => float_bits(f),
+        _ => 0,
+    }
+}
+
 // A field of the rows' numbers.
 fn put_number_field(
     work: &[u8],
@@ -241,7 +244,7 @@ fn put_number_field(
     ensures { Wrote output.old at (field_bytes 4 (row_bytes (row_numbers wide (slot_at work.now)) rows)) result output.new }
 {
     let p = put_header(output, at, VALUES, size);
-    put_numbers(work, rows, wide, p, output)
+    put_numbers(rows, wide, |i| number_of(get_slot(work, i)), p, output)
 }
 
 // The fields of the rows' offsets and of their texts.
@@ -292,8 +295,9 @@ fn put_values(
     match t {
         DataType::Boolean => put_truth_field(work, rows, at, output),
         DataType::Int32 => put_number_field(work, rows, false, 4 * rows, at, output),
-        DataType::Int64 => put_number_field(work, rows, true, 8 * rows, at, output),
-        DataType::Float64 => put_number_field(work, rows, true, 8 * rows, at, output),
+        DataType::Int64 | DataType::Float64 => {
+            put_number_field(work, rows, true, 8 * rows, at, output)
+        },
         DataType::Utf8 => put_text_fields(rule, table, work, rows, text, at, output),
     }
 }

@@ -7,6 +7,3 @@ use Rattle.writer.proofs.bitmap.bits_byte.Given as goal
 
 abbrev pub invariant-loop-k : goal.invariant-loop-k
 invariant-loop-k l = BitsSoFar (flag_at l.truth (slot_at l.work) l.rows) (8 * l.j) l.k l.n
-
-abbrev pub decreases-loop-k : goal.decreases-loop-k
-decreases-loop-k l = l.k

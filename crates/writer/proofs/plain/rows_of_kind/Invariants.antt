@@ -1,10 +1,6 @@
 -- `rows_of_kind` looks at the slots from the first on. The loop's invariant: so far they are of the kind.
-use Prim.Native.Nat.{◌-◌}
 use Rattle.writer.proofs.PlainLaws.{AllSoFar}
 use Rattle.writer.proofs.plain.rows_of_kind.Given as goal
 
 abbrev pub invariant-loop-i : goal.invariant-loop-i
 invariant-loop-i l = AllSoFar l.work l.k l.rows l.i
-
-abbrev pub decreases-loop-i : goal.decreases-loop-i
-decreases-loop-i l = l.rows - l.i

@@ -1,7 +1,6 @@
 -- `put_header` stores the tag and the length behind it.
-use native.Mathlib.Omega.{arith}
-use Rattle.writer.proofs.WroteLaws.{wrote_then, wrote_number, wrote_long}
+use Rattle.writer.proofs.WroteLaws.{wrote_then, wrote_lowest}
 use Rattle.writer.proofs.put.put_header.Goals as goal
 
 pub returns : goal.returns
-returns c = wrote_then c.put_byte-p.ensures (wrote_number 2 (omega (arith, c.put_byte-p.ensures.ends, wrote_long c.put_byte-p.ensures)) c.write_u16-done.ensures)
+returns c = wrote_then c.put_byte-p.ensures (wrote_lowest 2 c.args.size c.to_le_bytes.ensures c.put_bytes.ensures)

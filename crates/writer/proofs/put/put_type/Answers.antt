@@ -13,4 +13,4 @@ put_byte-requires c = omega (arith, header_room 2 c.put_header-p.ensures 2 (omeg
 
 pub returns : goal.returns
 unfolding field_bytes number_bytes
-returns c = wrote_then (wrote_then c.put_header-p.ensures (wrote_byte c.type_number.ensures c.put_byte-q.ensures)) (wrote_byte c.mark_number.ensures c.put_byte.ensures)
+returns c = wrote_then (wrote_then c.put_header-p.ensures (wrote_byte c.number.ensures c.put_byte-q.ensures)) (wrote_byte c.mark_number.ensures c.put_byte.ensures)

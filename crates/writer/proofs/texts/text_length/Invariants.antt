@@ -1,5 +1,4 @@
 -- `text_length` adds up the rows' texts. The loop's invariant: the length so far.
-use Prim.Native.Nat.{◌-◌}
 use Rattle.writer.specs.Slots.{slot_at}
 use Rattle.writer.specs.Writing.{row_text}
 use Rattle.writer.proofs.RowTextLaws.{LengthSoFar}
@@ -7,6 +6,3 @@ use Rattle.writer.proofs.texts.text_length.Given as goal
 
 abbrev pub invariant-loop-i : goal.invariant-loop-i
 invariant-loop-i l = LengthSoFar (row_text l.rule l.table (slot_at l.work)) l.rows l.i l.sum
-
-abbrev pub decreases-loop-i : goal.decreases-loop-i
-decreases-loop-i l = l.rows - l.i

@@ -1,5 +1,4 @@
 -- `some_of_kind` finds a row of a kind. The loop's invariant: there was none so far.
-use Prim.Native.Nat.{◌-◌}
 use lib.Dec.{eqb}
 use Rattle.scalar.specs.Value.{kind_of}
 use Rattle.writer.specs.Slots.{slot_at}
@@ -8,6 +7,3 @@ use Rattle.writer.proofs.write.some_of_kind.Given as goal
 
 abbrev pub invariant-loop-i : goal.invariant-loop-i
 invariant-loop-i l = NoneSoFar (λ r. eqb (kind_of (slot_at l.work r)) l.k) l.rows l.i
-
-abbrev pub decreases-loop-i : goal.decreases-loop-i
-decreases-loop-i l = l.rows - l.i
