@@ -6,7 +6,7 @@ ghost use Rattle.rule.specs.Steps.{TreeGives, RuleGives, RootGives, FieldGives, 
 
 use crate::fails::constant_fails;
 use crate::leaf::{read_column, read_literal};
-use crate::limits::{MOST_BRANCHES, MOST_BYTES, MOST_CASES, MOST_DEPTH};
+use crate::limits::{MOST_BRANCHES, MOST_BYTES, MOST_CASES, MOST_DEPTH, Nesting};
 use crate::node::{
     BranchesRead, FieldFound, RuleFound, add_branch, case_fits, close, unary_fits, unary_type,
 };
@@ -27,27 +27,30 @@ pub struct RuleReading {
     pub seen: Seen,
 }
 
-// The field at a place of a slice; so much depth and so many CASEs are left on the path.
+// The field at a place of a slice; so much may still stand on the path.
 #[cycle(read)]
 fn read_field(
     s: &[u8],
     at: usize,
-    depth: usize,
-    cases: usize,
+    left: Nesting,
     marks: &mut [u8; 256],
 ) -> Result<FieldFound, Refusal>
-    ensures { FieldGives s.now marks.old (read_field depth cases (drop at s.now)) result marks.new }
+    ensures { FieldGives s.now marks.old (read_field left.depth left.cases (drop at s.now)) result marks.new }
 {
     let f = field_at(s, at).ok_or(Refusal::RuleCut)?;
     let tag = f.tag;
     if tag < tag::COLUMN || tag::CASE < tag {
         return Err(Refusal::RuleContent);
     }
-    if depth == 0 {
+    if left.depth == 0 {
         return Err(Refusal::RuleDepth);
     }
     let content = part_of(s, f.start, f.end);
-    read_kind(content, tag, f.end, depth - 1, cases, marks)
+    let below = Nesting {
+        depth: left.depth - 1,
+        ..left
+    };
+    read_kind(content, tag, f.end, below, marks)
 }
 
 // A field of a tag from 16 to 25 by its content; it ends at a place of its parent.
@@ -56,21 +59,20 @@ fn read_kind(
     content: &[u8],
     tag: u8,
     end: usize,
-    depth: usize,
-    cases: usize,
+    left: Nesting,
     marks: &mut [u8; 256],
 ) -> Result<FieldFound, Refusal>
-    ensures { NodeGives end marks.old (λ cols rest. read_tagged (read_field depth) cases (record { tag = tag; content = content.now; rest = rest }) cols) result marks.new }
+    ensures { NodeGives end marks.old (λ cols rest. read_tagged (read_field left.depth) left.cases (record { tag = tag; content = content.now; rest = rest }) cols) result marks.new }
 {
     match tag {
         tag::COLUMN => read_column(content, end, marks),
         tag::LITERAL => read_literal(content, end, marks),
         tag::NOT | tag::NEGATIVE | tag::IS_NOT_NULL => {
-            read_unary(content, tag, end, depth, cases, marks)
+            read_unary(content, tag, end, left, marks)
         }
-        tag::CAST | tag::TRY_CAST => read_cast(content, tag, end, depth, cases, marks),
-        tag::EQUAL | tag::LESS => read_binary(content, tag, end, depth, cases, marks),
-        _ => read_case(content, end, depth, cases, marks),
+        tag::CAST | tag::TRY_CAST => read_cast(content, tag, end, left, marks),
+        tag::EQUAL | tag::LESS => read_binary(content, tag, end, left, marks),
+        _ => read_case(content, end, left, marks),
     }
 }
 
@@ -80,13 +82,12 @@ fn read_unary(
     content: &[u8],
     tag: u8,
     end: usize,
-    depth: usize,
-    cases: usize,
+    left: Nesting,
     marks: &mut [u8; 256],
 ) -> Result<FieldFound, Refusal>
-    ensures { NodeGives end marks.old (read_unary (unary_of tag) (read_field depth cases) content.now) result marks.new }
+    ensures { NodeGives end marks.old (read_unary (unary_of tag) (read_field left.depth left.cases) content.now) result marks.new }
 {
-    let a = read_field(content, 0, depth, cases, marks)?;
+    let a = read_field(content, 0, left, marks)?;
     let child = a.result;
     close(
         a.next,
@@ -103,17 +104,16 @@ fn read_cast(
     content: &[u8],
     tag: u8,
     end: usize,
-    depth: usize,
-    cases: usize,
+    left: Nesting,
     marks: &mut [u8; 256],
 ) -> Result<FieldFound, Refusal>
-    ensures { NodeGives end marks.old (read_cast (cast_of tag) (read_field depth cases) content.now) result marks.new }
+    ensures { NodeGives end marks.old (read_cast (cast_of tag) (read_field left.depth left.cases) content.now) result marks.new }
 {
     if content.len() == 0 {
         return Err(Refusal::RuleContent);
     }
     let to = DataType::numbered(content[0]).ok_or(Refusal::RuleContent)?;
-    let a = read_field(content, 1, depth, cases, marks)?;
+    let a = read_field(content, 1, left, marks)?;
     let from = a.result;
     close(a.next, content.len(), is_listed(from, to), to, end)
 }
@@ -124,14 +124,13 @@ fn read_binary(
     content: &[u8],
     tag: u8,
     end: usize,
-    depth: usize,
-    cases: usize,
+    left: Nesting,
     marks: &mut [u8; 256],
 ) -> Result<FieldFound, Refusal>
-    ensures { NodeGives end marks.old (read_binary (binary_of tag) (read_field depth cases) content.now) result marks.new }
+    ensures { NodeGives end marks.old (read_binary (binary_of tag) (read_field left.depth left.cases) content.now) result marks.new }
 {
-    let a = read_field(content, 0, depth, cases, marks)?;
-    let b = read_field(content, a.next, depth, cases, marks)?;
+    let a = read_field(content, 0, left, marks)?;
+    let b = read_field(content, a.next, left, marks)?;
     let first = a.result;
     let second = b.result;
     close(
@@ -148,13 +147,12 @@ fn read_binary(
 fn read_case(
     content: &[u8],
     end: usize,
-    depth: usize,
-    cases: usize,
+    left: Nesting,
     marks: &mut [u8; 256],
 ) -> Result<FieldFound, Refusal>
-    ensures { NodeGives end marks.old (read_limited_case (read_field depth) cases content.now) result marks.new }
+    ensures { NodeGives end marks.old (read_limited_case (read_field left.depth) left.cases content.now) result marks.new }
 {
-    if cases == 0 {
+    if left.cases == 0 {
         return Err(Refusal::RuleDepth);
     }
     if content.len() < 2 {
@@ -171,7 +169,11 @@ fn read_case(
     if MOST_BRANCHES < count {
         return Err(Refusal::CaseBranches);
     }
-    read_parts(content, flags, count, end, depth, cases - 1, marks)
+    let below = Nesting {
+        cases: left.cases - 1,
+        ..left
+    };
+    read_parts(content, flags, count, end, below, marks)
 }
 
 // The parts of a CASE: base, WHEN and THEN in turn, ELSE.
@@ -181,16 +183,15 @@ fn read_parts(
     flags: u8,
     count: u8,
     end: usize,
-    depth: usize,
-    cases: usize,
+    left: Nesting,
     marks: &mut [u8; 256],
 ) -> Result<FieldFound, Refusal>
-    ensures { NodeGives end marks.old (read_parts (read_field depth cases) flags count (drop 2 content.now)) result marks.new }
+    ensures { NodeGives end marks.old (read_parts (read_field left.depth left.cases) flags count (drop 2 content.now)) result marks.new }
 {
-    let b = read_optional(content, 2, flags % 2 == 1, depth, cases, marks)?;
+    let b = read_optional(content, 2, flags % 2 == 1, left, marks)?;
     let when = b.result;
-    let bs = read_branches(content, b.next, count, when, None, depth, cases, marks)?;
-    let e = read_optional(content, bs.next, 2 <= flags, depth, cases, marks)?;
+    let bs = read_branches(content, b.next, count, when, None, left, marks)?;
+    let e = read_optional(content, bs.next, 2 <= flags, left, marks)?;
     let from = e.result;
     let result = bs.result;
     close(
@@ -208,14 +209,13 @@ fn read_optional(
     s: &[u8],
     at: usize,
     there: bool,
-    depth: usize,
-    cases: usize,
+    left: Nesting,
     marks: &mut [u8; 256],
 ) -> Result<FieldFound, Refusal>
-    ensures { OptionalGives s.now marks.old (read_optional there (read_field depth cases) (drop at s.now)) result marks.new }
+    ensures { OptionalGives s.now marks.old (read_optional there (read_field left.depth left.cases) (drop at s.now)) result marks.new }
 {
     if there {
-        return read_field(s, at, depth, cases, marks);
+        return read_field(s, at, left, marks);
     }
     Ok(FieldFound {
         result: DataType::Boolean,
@@ -232,11 +232,10 @@ fn read_branches(
     count: u8,
     when: DataType,
     earlier: Option<DataType>,
-    depth: usize,
-    cases: usize,
+    left: Nesting,
     marks: &mut [u8; 256],
 ) -> Result<BranchesRead, Refusal>
-    ensures { BranchesGive s.now marks.old when earlier (read_branches (read_field depth cases) count (drop at s.now)) result marks.new }
+    ensures { BranchesGive s.now marks.old when earlier (read_branches (read_field left.depth left.cases) count (drop at s.now)) result marks.new }
 {
     if count == 0 {
         return Ok(BranchesRead {
@@ -245,8 +244,8 @@ fn read_branches(
             next: at,
         });
     }
-    let w = read_field(s, at, depth, cases, marks)?;
-    read_then(s, w, count - 1, when, earlier, depth, cases, marks)
+    let w = read_field(s, at, left, marks)?;
+    read_then(s, w, count - 1, when, earlier, left, marks)
 }
 
 // A branch behind its WHEN, and so many later ones.
@@ -257,16 +256,15 @@ fn read_then(
     count: u8,
     when: DataType,
     earlier: Option<DataType>,
-    depth: usize,
-    cases: usize,
+    left: Nesting,
     marks: &mut [u8; 256],
 ) -> Result<BranchesRead, Refusal>
-    ensures { BranchGives s.now w marks.old when earlier (λ x. read_then (read_field depth cases) x.tree count x.rest x.seen) result marks.new }
+    ensures { BranchGives s.now w marks.old when earlier (λ x. read_then (read_field left.depth left.cases) x.tree count x.rest x.seen) result marks.new }
 {
-    let t = read_field(s, w.next, depth, cases, marks)?;
+    let t = read_field(s, w.next, left, marks)?;
     let own = t.result;
     let result = earlier.unwrap_or(own);
-    let later = read_branches(s, t.next, count, when, Some(result), depth, cases, marks)?;
+    let later = read_branches(s, t.next, count, when, Some(result), left, marks)?;
     let tested = w.result;
     Ok(add_branch(tested, when, own, later))
 }
@@ -279,7 +277,11 @@ fn read_root(rule: &[u8], marks: &mut [u8; 256]) -> Result<FieldFound, Refusal>
     if f.tag != tag::CASE {
         return Err(Refusal::RuleContent);
     }
-    read_field(rule, 0, MOST_DEPTH, MOST_CASES, marks)
+    let left = Nesting {
+        depth: MOST_DEPTH,
+        cases: MOST_CASES,
+    };
+    read_field(rule, 0, left, marks)
 }
 
 // A rule but for its constant casts: one CASE field of at most 4,096 bytes, with no byte after it.
