@@ -12,6 +12,14 @@ use crate::types::{is_listed, is_number};
 use layout::refusal::Refusal;
 use scalar::types::DataType;
 
+// A field whose header was read: its tag, its content, and where it ends in its parent's bytes.
+#[derive(Clone, Copy)]
+pub(crate) struct Node<'a> {
+    pub(crate) tag: u8,
+    pub(crate) content: &'a [u8],
+    pub(crate) end: usize,
+}
+
 // What reading a rule found: its type, and the columns met.
 #[derive(Drop)]
 pub(crate) struct RuleFound {

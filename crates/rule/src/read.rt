@@ -8,7 +8,7 @@ use crate::fails::constant_fails;
 use crate::leaf::{read_column, read_literal};
 use crate::limits::{MOST_BRANCHES, MOST_BYTES, MOST_CASES, MOST_DEPTH, Nesting};
 use crate::node::{
-    BranchesRead, FieldFound, RuleFound, add_branch, case_fits, close, unary_fits, unary_type,
+    BranchesRead, FieldFound, Node, RuleFound, add_branch, case_fits, close, unary_fits, unary_type,
 };
 use crate::nullable::nullable_of;
 use crate::seen::Seen;
@@ -45,121 +45,100 @@ fn read_field(
     if left.depth == 0 {
         return Err(Refusal::RuleDepth);
     }
-    let content = part_of(s, f.start, f.end);
+    let node = Node {
+        tag,
+        content: part_of(s, f.start, f.end),
+        end: f.end,
+    };
     let below = Nesting {
         depth: left.depth - 1,
         ..left
     };
-    read_kind(content, tag, f.end, below, marks)
+    read_kind(node, below, marks)
 }
 
-// A field of a tag from 16 to 25 by its content; it ends at a place of its parent.
+// A field by its tag.
 #[cycle(read)]
-fn read_kind(
-    content: &[u8],
-    tag: u8,
-    end: usize,
-    left: Nesting,
-    marks: &mut [u8; 256],
-) -> Result<FieldFound, Refusal>
-    ensures { NodeGives end marks.old (λ cols rest. read_tagged (read_field left.depth) left.cases (record { tag = tag; content = content.now; rest = rest }) cols) result marks.new }
+fn read_kind(node: Node, left: Nesting, marks: &mut [u8; 256]) -> Result<FieldFound, Refusal>
+    ensures { NodeGives node.entry.end marks.old (λ cols rest. read_tagged (read_field left.depth) left.cases (record { tag = node.entry.tag; content = node.entry.content.now; rest = rest }) cols) result marks.new }
 {
-    match tag {
-        tag::COLUMN => read_column(content, end, marks),
-        tag::LITERAL => read_literal(content, end, marks),
-        tag::NOT | tag::NEGATIVE | tag::IS_NOT_NULL => {
-            read_unary(content, tag, end, left, marks)
-        }
-        tag::CAST | tag::TRY_CAST => read_cast(content, tag, end, left, marks),
-        tag::EQUAL | tag::LESS => read_binary(content, tag, end, left, marks),
-        _ => read_case(content, end, left, marks),
+    match node.tag {
+        tag::COLUMN => read_column(node, marks),
+        tag::LITERAL => read_literal(node, marks),
+        tag::NOT | tag::NEGATIVE | tag::IS_NOT_NULL => read_unary(node, left, marks),
+        tag::CAST | tag::TRY_CAST => read_cast(node, left, marks),
+        tag::EQUAL | tag::LESS => read_binary(node, left, marks),
+        _ => read_case(node, left, marks),
     }
 }
 
 // NOT, negative or IS NOT NULL: one child.
 #[cycle(read)]
-fn read_unary(
-    content: &[u8],
-    tag: u8,
-    end: usize,
-    left: Nesting,
-    marks: &mut [u8; 256],
-) -> Result<FieldFound, Refusal>
-    ensures { NodeGives end marks.old (read_unary (unary_of tag) (read_field left.depth left.cases) content.now) result marks.new }
+fn read_unary(node: Node, left: Nesting, marks: &mut [u8; 256]) -> Result<FieldFound, Refusal>
+    ensures { NodeGives node.entry.end marks.old (read_unary (unary_of node.entry.tag) (read_field left.depth left.cases) node.entry.content.now) result marks.new }
 {
-    let a = read_field(content, 0, left, marks)?;
+    let a = read_field(node.content, 0, left, marks)?;
     let child = a.result;
     close(
         a.next,
-        content.len(),
-        unary_fits(tag, child),
-        unary_type(tag, child),
-        end,
+        node.content.len(),
+        unary_fits(node.tag, child),
+        unary_type(node.tag, child),
+        node.end,
     )
 }
 
 // Cast or try-cast: target type byte, one child.
 #[cycle(read)]
-fn read_cast(
-    content: &[u8],
-    tag: u8,
-    end: usize,
-    left: Nesting,
-    marks: &mut [u8; 256],
-) -> Result<FieldFound, Refusal>
-    ensures { NodeGives end marks.old (read_cast (cast_of tag) (read_field left.depth left.cases) content.now) result marks.new }
+fn read_cast(node: Node, left: Nesting, marks: &mut [u8; 256]) -> Result<FieldFound, Refusal>
+    ensures { NodeGives node.entry.end marks.old (read_cast (cast_of node.entry.tag) (read_field left.depth left.cases) node.entry.content.now) result marks.new }
 {
-    if content.len() == 0 {
+    if node.content.len() == 0 {
         return Err(Refusal::RuleContent);
     }
-    let to = DataType::numbered(content[0]).ok_or(Refusal::RuleContent)?;
-    let a = read_field(content, 1, left, marks)?;
+    let to = DataType::numbered(node.content[0]).ok_or(Refusal::RuleContent)?;
+    let a = read_field(node.content, 1, left, marks)?;
     let from = a.result;
-    close(a.next, content.len(), is_listed(from, to), to, end)
+    close(
+        a.next,
+        node.content.len(),
+        is_listed(from, to),
+        to,
+        node.end,
+    )
 }
 
 // Equal or less: two children.
 #[cycle(read)]
-fn read_binary(
-    content: &[u8],
-    tag: u8,
-    end: usize,
-    left: Nesting,
-    marks: &mut [u8; 256],
-) -> Result<FieldFound, Refusal>
-    ensures { NodeGives end marks.old (read_binary (binary_of tag) (read_field left.depth left.cases) content.now) result marks.new }
+fn read_binary(node: Node, left: Nesting, marks: &mut [u8; 256]) -> Result<FieldFound, Refusal>
+    ensures { NodeGives node.entry.end marks.old (read_binary (binary_of node.entry.tag) (read_field left.depth left.cases) node.entry.content.now) result marks.new }
 {
-    let a = read_field(content, 0, left, marks)?;
-    let b = read_field(content, a.next, left, marks)?;
+    let a = read_field(node.content, 0, left, marks)?;
+    let b = read_field(node.content, a.next, left, marks)?;
     let first = a.result;
     let second = b.result;
     close(
         b.next,
-        content.len(),
+        node.content.len(),
         first == second,
         DataType::Boolean,
-        end,
+        node.end,
     )
 }
 
 // CASE: flags and branch count, then its parts.
 #[cycle(read)]
-fn read_case(
-    content: &[u8],
-    end: usize,
-    left: Nesting,
-    marks: &mut [u8; 256],
-) -> Result<FieldFound, Refusal>
-    ensures { NodeGives end marks.old (read_limited_case (read_field left.depth) left.cases content.now) result marks.new }
+fn read_case(node: Node, left: Nesting, marks: &mut [u8; 256]) -> Result<FieldFound, Refusal>
+    ensures { NodeGives node.entry.end marks.old (read_limited_case (read_field left.depth) left.cases node.entry.content.now) result marks.new }
 {
     if left.cases == 0 {
         return Err(Refusal::RuleDepth);
     }
-    if content.len() < 2 {
+    if node.content.len() < 2 {
         return Err(Refusal::RuleContent);
     }
-    let flags = content[0];
-    let count = content[1];
+    let flags = node.content[0];
+    let count = node.content[1];
     if 3 < flags {
         return Err(Refusal::RuleContent);
     }
@@ -173,33 +152,32 @@ fn read_case(
         cases: left.cases - 1,
         ..left
     };
-    read_parts(content, flags, count, end, below, marks)
+    read_parts(node, flags, count, below, marks)
 }
 
 // The parts of a CASE: base, WHEN and THEN in turn, ELSE.
 #[cycle(read)]
 fn read_parts(
-    content: &[u8],
+    node: Node,
     flags: u8,
     count: u8,
-    end: usize,
     left: Nesting,
     marks: &mut [u8; 256],
 ) -> Result<FieldFound, Refusal>
-    ensures { NodeGives end marks.old (read_parts (read_field left.depth left.cases) flags count (drop 2 content.now)) result marks.new }
+    ensures { NodeGives node.entry.end marks.old (read_parts (read_field left.depth left.cases) flags count (drop 2 node.entry.content.now)) result marks.new }
 {
-    let b = read_optional(content, 2, flags % 2 == 1, left, marks)?;
+    let b = read_optional(node.content, 2, flags % 2 == 1, left, marks)?;
     let when = b.result;
-    let bs = read_branches(content, b.next, count, when, None, left, marks)?;
-    let e = read_optional(content, bs.next, 2 <= flags, left, marks)?;
+    let bs = read_branches(node.content, b.next, count, when, None, left, marks)?;
+    let e = read_optional(node.content, bs.next, 2 <= flags, left, marks)?;
     let from = e.result;
     let result = bs.result;
     close(
         e.next,
-        content.len(),
+        node.content.len(),
         case_fits(bs.fits, e.null, from, result),
         result,
-        end,
+        node.end,
     )
 }
 
