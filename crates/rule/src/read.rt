@@ -8,7 +8,7 @@ use crate::fails::constant_fails;
 use crate::leaf::{read_column, read_literal};
 use crate::limits::{MOST_BRANCHES, MOST_BYTES, MOST_CASES, MOST_DEPTH, Nesting};
 use crate::node::{
-    BranchesRead, FieldFound, Node, RuleFound, add_branch, case_fits, close, unary_fits, unary_type,
+    BranchesRead, FieldFound, Node, RuleFound, add_branch, case_fits, unary_fits, unary_type,
 };
 use crate::nullable::nullable_of;
 use crate::seen::Seen;
@@ -78,13 +78,10 @@ fn read_unary(node: Node, left: Nesting, marks: &mut [u8; 256]) -> Result<FieldF
     ensures { NodeGives node.entry.end marks.old (read_unary (unary_of node.entry.tag) (read_field left.depth left.cases) node.entry.content.now) result marks.new }
 {
     let a = read_field(node.content, 0, left, marks)?;
-    let child = a.result;
-    close(
+    node.close(
         a.next,
-        node.content.len(),
-        unary_fits(node.tag, child),
-        unary_type(node.tag, child),
-        node.end,
+        unary_fits(node.tag, a.result),
+        unary_type(node.tag, a.result),
     )
 }
 
@@ -98,14 +95,7 @@ fn read_cast(node: Node, left: Nesting, marks: &mut [u8; 256]) -> Result<FieldFo
     }
     let to = DataType::numbered(node.content[0]).ok_or(Refusal::RuleContent)?;
     let a = read_field(node.content, 1, left, marks)?;
-    let from = a.result;
-    close(
-        a.next,
-        node.content.len(),
-        is_listed(from, to),
-        to,
-        node.end,
-    )
+    node.close(a.next, is_listed(a.result, to), to)
 }
 
 // Equal or less: two children.
@@ -115,15 +105,7 @@ fn read_binary(node: Node, left: Nesting, marks: &mut [u8; 256]) -> Result<Field
 {
     let a = read_field(node.content, 0, left, marks)?;
     let b = read_field(node.content, a.next, left, marks)?;
-    let first = a.result;
-    let second = b.result;
-    close(
-        b.next,
-        node.content.len(),
-        first == second,
-        DataType::Boolean,
-        node.end,
-    )
+    node.close(b.next, a.result == b.result, DataType::Boolean)
 }
 
 // CASE: flags and branch count, then its parts.
@@ -167,17 +149,12 @@ fn read_parts(
     ensures { NodeGives node.entry.end marks.old (read_parts (read_field left.depth left.cases) flags count (drop 2 node.entry.content.now)) result marks.new }
 {
     let b = read_optional(node.content, 2, flags % 2 == 1, left, marks)?;
-    let when = b.result;
-    let bs = read_branches(node.content, b.next, count, when, None, left, marks)?;
+    let bs = read_branches(node.content, b.next, count, b.result, None, left, marks)?;
     let e = read_optional(node.content, bs.next, 2 <= flags, left, marks)?;
-    let from = e.result;
-    let result = bs.result;
-    close(
+    node.close(
         e.next,
-        node.content.len(),
-        case_fits(bs.fits, e.null, from, result),
-        result,
-        node.end,
+        case_fits(bs.fits, e.null, e.result, bs.result),
+        bs.result,
     )
 }
 
@@ -240,11 +217,9 @@ fn read_then(
     ensures { BranchGives s.now w marks.old when earlier (λ x. read_then (read_field left.depth left.cases) x.tree count x.rest x.seen) result marks.new }
 {
     let t = read_field(s, w.next, left, marks)?;
-    let own = t.result;
-    let result = earlier.unwrap_or(own);
+    let result = earlier.unwrap_or(t.result);
     let later = read_branches(s, t.next, count, when, Some(result), left, marks)?;
-    let tested = w.result;
-    Ok(add_branch(tested, when, own, later))
+    Ok(add_branch(w.result, when, t.result, later))
 }
 
 // The root of a rule: a CASE.
@@ -277,9 +252,10 @@ fn read_tree(rule: &[u8]) -> Result<RuleFound, Refusal>
     if r.next < rule.len() {
         return Err(Refusal::RuleContent);
     }
-    let result = r.result;
-    let seen = Seen { marks };
-    Ok(RuleFound { result, seen })
+    Ok(RuleFound {
+        result: r.result,
+        seen: Seen { marks },
+    })
 }
 
 // A rule: its tree, and that no constant cast fails.
@@ -298,11 +274,9 @@ pub fn read_rule(rule: &[u8]) -> Result<RuleReading, Refusal>
     ensures { result ≡ rule_reading (read_rule rule.now) }
 {
     let r = read_accepted(rule)?;
-    let result = r.result;
-    let seen = r.seen;
     Ok(RuleReading {
-        result,
+        result: r.result,
         nullable: nullable_of(rule),
-        seen,
+        seen: r.seen,
     })
 }
