@@ -1,7 +1,7 @@
 // Whether a constant cast of a rule fails (refusal 8).
 ghost use Rattle.rule.specs.ConstantWalks.{ColumnGives, FailsHereGives, FailsGives};
 
-use crate::constant::constant;
+use crate::constant::{Masked, constant};
 use crate::limits::MOST_DEPTH;
 use crate::tag;
 use crate::walk::{children_at, field_end};
@@ -39,7 +39,11 @@ fn fails_here(rule: &[u8], start: usize) -> bool
     if names_column(rule, start, end) {
         return false;
     }
-    let v = constant(rule, start, end, part_of(rule, 0, 0), MOST_DEPTH);
+    let masked = Masked {
+        rule,
+        target: part_of(rule, 0, 0),
+    };
+    let v = constant(masked, start, end, MOST_DEPTH);
     kind(v) == 7
 }
 

@@ -1,5 +1,5 @@
 // What reading a field found, and a node behind its children.
-ghost use Rattle.std.specs.Prelude.{◌≡◌, ◌&&◌, ◌||◌};
+ghost use Rattle.std.specs.Prelude.{◌≡◌, ◌&&◌, ◌||◌, length};
 ghost use Rattle.scalar.specs.Types.{same_type};
 ghost use Rattle.scalar.specs.Cast.{listed};
 ghost use Rattle.rule.specs.Tree.{Expr};
@@ -11,6 +11,38 @@ use crate::tag;
 use crate::types::{is_listed, is_number};
 use layout::refusal::Refusal;
 use scalar::types::DataType;
+
+// A field whose header was read: its tag, its content, and where it ends in its parent's bytes.
+#[derive(Clone, Copy)]
+pub(crate) struct Node<'a> {
+    pub(crate) tag: u8,
+    pub(crate) content: &'a [u8],
+    pub(crate) end: usize,
+}
+
+impl<'a> Node<'a> {
+    // A node whose last child ends at `next` of its content: bytes left over, then types that don't fit.
+    pub(crate) fn close(
+        self,
+        next: usize,
+        fits: bool,
+        data_type: DataType,
+    ) -> Result<FieldFound, Refusal>
+        ensures { result ≡ closed next (length self.entry.content.now) fits data_type self.entry.end }
+    {
+        if next < self.content.len() {
+            return Err(Refusal::RuleContent);
+        }
+        if !fits {
+            return Err(Refusal::RuleTypes);
+        }
+        Ok(FieldFound {
+            result: data_type,
+            null: false,
+            next: self.end,
+        })
+    }
+}
 
 // What reading a rule found: its type, and the columns met.
 #[derive(Drop)]
@@ -33,29 +65,6 @@ pub(crate) struct BranchesRead {
     pub(crate) result: DataType,
     pub(crate) fits: bool,
     pub(crate) next: usize,
-}
-
-// A node whose last child ends at `next` of so many bytes of content: bytes left over, then types that don't fit.
-pub(crate) fn close(
-    next: usize,
-    size: usize,
-    fits: bool,
-    data_type: DataType,
-    end: usize,
-) -> Result<FieldFound, Refusal>
-    ensures { result ≡ closed next size fits data_type end }
-{
-    if next < size {
-        return Err(Refusal::RuleContent);
-    }
-    if fits {
-        return Ok(FieldFound {
-            result: data_type,
-            null: false,
-            next: end,
-        });
-    }
-    Err(Refusal::RuleTypes)
 }
 
 // Whether NOT, negative or IS NOT NULL takes a type.
@@ -95,13 +104,6 @@ pub(crate) fn case_fits(branches: bool, null: bool, from: DataType, to: DataType
     false
 }
 
-// Whether a branch fits, before later ones that do or don't.
-fn branch_fits(w: DataType, when: DataType, t: DataType, res: DataType, later: bool) -> bool
-    ensures { result ≡ (same_type w when && same_type t res && later) }
-{
-    w == when && t == res && later
-}
-
 // A branch before later ones.
 pub(crate) fn add_branch(
     w: DataType,
@@ -111,10 +113,9 @@ pub(crate) fn add_branch(
 ) -> BranchesRead
     ensures { result ≡ branched w when t later }
 {
-    let result = later.result;
     BranchesRead {
-        result,
-        fits: branch_fits(w, when, t, result, later.fits),
+        result: later.result,
+        fits: w == when && t == later.result && later.fits,
         next: later.next,
     }
 }

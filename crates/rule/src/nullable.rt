@@ -4,7 +4,7 @@ ghost use Rattle.scalar.specs.Cast.{can_fail_to_fit};
 ghost use Rattle.rule.specs.Walked.{type_at};
 ghost use Rattle.rule.specs.AnswerWalks.{StrippedGives, ReachableGives, NullableGives, AnyGives, CaseNullableGives, BranchesNullableGives, BranchNullableGives, RuleNullableGives};
 
-use crate::constant::{constant, may_pass};
+use crate::constant::{Masked, constant, may_pass};
 use crate::limits::MOST_DEPTH;
 use crate::tag;
 use crate::type_of::type_of;
@@ -34,7 +34,8 @@ fn is_reachable(rule: &[u8], when: usize, then: usize, end: usize) -> bool
 {
     let at = stripped_at(rule, then);
     let target = part_of(rule, at, end);
-    may_pass(constant(rule, when, then, target, MOST_DEPTH))
+    let masked = Masked { rule, target };
+    may_pass(constant(masked, when, then, MOST_DEPTH))
 }
 
 // Whether the try-cast of an ELSE to the type of its CASE, at `start`, can fail to fit.

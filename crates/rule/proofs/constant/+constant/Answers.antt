@@ -42,13 +42,13 @@ pub constant_case-returns-then-rule-start : goal.constant_case-returns-then-rule
 constant_case-returns-then-rule-start t c = case_behind c.if-rule-start.true
 
 pub constant_case-returns : goal.constant_case-returns
-constant_case-returns t c = case_gives c.byte_at-flags.ensures c.byte_at-count.ensures (children_gives c.children_at-at.ensures) (behind_gives c.behind_fields-first.ensures) c.constant_base-base.ensures (type_gives c.type_of-to.ensures) c.constant_with.ensures
+constant_case-returns t c = case_gives c.byte_at-flags.ensures c.byte_at-count.ensures (children_gives c.children_at-at.ensures) (behind_gives c.behind_fields-first.ensures) c.constant_base-base.ensures (type_gives c.type_of.ensures) c.constant_with.ensures
 
-pub constant_else-returns-then-at-end : goal.constant_else-returns-then-at-end
-constant_else-returns-then-at-end t c = else_none c.if-at-end.true
+pub constant_else-returns-then-at-branches : goal.constant_else-returns-then-at-branches
+constant_else-returns-then-at-branches t c = else_none c.if-at-branches.true
 
 pub constant_else-returns : goal.constant_else-returns
-constant_else-returns t c = else_some c.if-at-end.false c.constant-v.ensures (try_cast_gives _ _ c.try_cast.ensures)
+constant_else-returns t c = else_some c.if-at-branches.false c.constant-v.ensures (try_cast_gives _ _ c.try_cast.ensures)
 
 pub constant_node-returns-then-rule-start : goal.constant_node-returns-then-rule-start
 constant_node-returns-then-rule-start t c = within_behind c.if-rule-start.true
