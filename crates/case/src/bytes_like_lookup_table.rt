@@ -94,15 +94,22 @@ fn text_hint(text: &[u8]) -> usize
     (size % 256 + 8 * (text[size - 1] as usize)) % 256
 }
 
+// The text of a key in the bytes it is in, by its payload.
+fn key_text(bytes: &[u8], payload: u64) -> &[u8]
+    ensures { result.now ≡ rule_text bytes.now payload }
+{
+    let start = (payload % 0x1_0000_0000) as usize;
+    let size = (payload / 0x1_0000_0000) as usize;
+    place_text(bytes, start, size)
+}
+
 // The hint of a key, by its kind and payload.
 fn key_hint(rule: &[u8], table: &[u8], kind: u8, payload: u64) -> usize
     ensures { result ≡ outcome_hint (meaning rule.now table.now (value_of kind payload)) }
 {
-    let start = (payload % 0x1_0000_0000) as usize;
-    let size = (payload / 0x1_0000_0000) as usize;
     match kind {
-        5 => text_hint(place_text(rule, start, size)),
-        6 => text_hint(place_text(table, start, size)),
+        5 => text_hint(key_text(rule, payload)),
+        6 => text_hint(key_text(table, payload)),
         _ => 0,
     }
 }
@@ -132,9 +139,7 @@ fn text_mark(text: &[u8]) -> u64
 fn key_mark(rule: &[u8], payload: u64) -> u64
     ensures { 4 ≤ length (rule_text rule.now payload) → result ≡ text_mark (rule_text rule.now payload) }
 {
-    let start = (payload % 0x1_0000_0000) as usize;
-    let size = (payload / 0x1_0000_0000) as usize;
-    let text = place_text(rule, start, size);
+    let text = key_text(rule, payload);
     if text.len() < 4 {
         return 0;
     }
@@ -148,9 +153,7 @@ fn key_size(rule: &[u8], kind: u8, payload: u64) -> usize
     if kind != 5 {
         return 0;
     }
-    let start = (payload % 0x1_0000_0000) as usize;
-    let size = (payload / 0x1_0000_0000) as usize;
-    let there = place_text(rule, start, size).len();
+    let there = key_text(rule, payload).len();
     if there < 4 {
         return 0;
     }
