@@ -104,33 +104,6 @@ rule_bytes rule table {k} e = ap (λ (b : Bool). cond b rule table) (eq-eqb k 5 
 pub table_bytes_lem : (rule table : List ℕ) {k : ℕ} → (k ≡ 5 → ⊥) → bytes_of k rule table ≡ table
 table_bytes_lem rule table {k} n = ap (λ (b : Bool). cond b rule table) (ne_eqb k 5 n)
 
--- what holds of the bytes of a kind
-pub in_rule : {A : Type 0} (f : List ℕ → A) (rule table : List ℕ) {k : ℕ} → k ≡ 5 → f rule ≡ f (bytes_of k rule table)
-in_rule f rule table e = ap f (sym (rule_bytes rule table e))
-
-pub in_table : {A : Type 0} (f : List ℕ → A) (rule table : List ℕ) {k : ℕ} → (k ≡ 5 → ⊥) → f table ≡ f (bytes_of k rule table)
-in_table f rule table n = ap f (sym (table_bytes_lem rule table n))
-
-pub rule_room : (rule table : List ℕ) {k n : ℕ} → k ≡ 5 → n ≤ length (bytes_of k rule table) → n ≤ length rule
-rule_room rule table {k} e h = let same : length rule ≡ length (bytes_of k rule table) = in_rule length rule table e in omega arith
-
-pub table_room : (rule table : List ℕ) {k n : ℕ} → (k ≡ 5 → ⊥) → n ≤ length (bytes_of k rule table) → n ≤ length table
-table_room rule table {k} d h = let same : length table ≡ length (bytes_of k rule table) = in_table length rule table d in omega arith
-
-pub kind_room : (rule table : List ℕ) (k : ℕ) → length (bytes_of k rule table) ≤ length rule + length table
-kind_room rule table k = go (eqb k 5)
-  where
-    go : (b : Bool) → length (cond b rule table) ≤ length rule + length table
-    go true = omega arith
-    go false = omega arith
-
-pub kind_bytes : (rule table : List ℕ) (k : ℕ) → Bytes rule → Bytes table → Bytes (bytes_of k rule table)
-kind_bytes rule table k p q = go (eqb k 5)
-  where
-    go : (b : Bool) → Bytes (cond b rule table)
-    go true = p
-    go false = q
-
 -- bytes inside of the first n
 inside : (m k n : ℕ) (l : List ℕ) → k + m ≤ n → take m (drop k (take n l)) ≡ take m (drop k l)
 inside m zero n l h = take-take m n l (omega arith)

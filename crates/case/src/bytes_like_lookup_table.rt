@@ -11,45 +11,20 @@ use crate::slot::word;
 use crate::when_literal_index_map::WhenLiteralIndexMap;
 use scalar::text::place_text;
 
-// How many bytes of a text's place are there. Kind 5 is text in the rule, any other in the table.
-fn size_in(rule: &[u8], table: &[u8], kind: u8, start: usize, size: usize) -> usize
-    ensures { result ≡ length (place_text (bytes_of kind rule.now table.now) start size) }
+// The bytes that a text of a kind is in. Kind 5 is text in the rule, any other in the table.
+fn bytes_in<'a>(rule: &'a [u8], table: &'a [u8], kind: u8) -> &'a [u8]
+    ensures { result.now ≡ bytes_of kind rule.now table.now }
 {
-    if kind == 5 {
-        return place_text(rule, start, size).len();
-    }
-    place_text(table, start, size).len()
-}
-
-// The number in the four bytes at a place, in the bytes of the kind.
-fn word_in(rule: &[u8], table: &[u8], kind: u8, at: usize) -> u64
-    requires { at + 4 ≤ length (bytes_of kind rule.now table.now) }
-    ensures { result ≡ number_at 4 (bytes_of kind rule.now table.now) at }
-{
-    if kind == 5 {
-        return word(rule, at);
-    }
-    word(table, at)
-}
-
-// The byte at a place, in the bytes of the kind.
-fn byte_in(rule: &[u8], table: &[u8], kind: u8, at: usize) -> u8
-    requires { at + 1 ≤ length (bytes_of kind rule.now table.now) }
-    ensures { result ≡ slice_index (bytes_of kind rule.now table.now) at }
-{
-    if kind == 5 {
-        return rule[at];
-    }
-    table[at]
+    if kind == 5 { rule } else { table }
 }
 
 // Whether a text is the bytes from a place on, one at a time from the back.
-fn same_short(rule: &[u8], table: &[u8], kind: u8, start: usize, text: &[u8]) -> bool
-    requires { length text.now ≤ length (bytes_of kind rule.now table.now) - start }
-    ensures { result ≡ same_bytes text.now (place_text (bytes_of kind rule.now table.now) start (length text.now)) }
+fn same_short(bytes: &[u8], start: usize, text: &[u8]) -> bool
+    requires { length text.now ≤ length bytes.now - start }
+    ensures { result ≡ same_bytes text.now (place_text bytes.now start (length text.now)) }
 {
     for left in (0..text.len()).rev() {
-        if text[left] != byte_in(rule, table, kind, start + left) {
+        if text[left] != bytes[start + left] {
             return false;
         }
     }
@@ -57,21 +32,22 @@ fn same_short(rule: &[u8], table: &[u8], kind: u8, start: usize, text: &[u8]) ->
 }
 
 // The same, four at a time where there are so many: names often begin alike.
-fn same_in(rule: &[u8], table: &[u8], kind: u8, start: usize, text: &[u8]) -> bool
-    requires { length text.now ≤ length (bytes_of kind rule.now table.now) - start }
-    ensures { result ≡ same_bytes text.now (place_text (bytes_of kind rule.now table.now) start (length text.now)) }
+fn same_in(bytes: &[u8], start: usize, text: &[u8]) -> bool
+    requires { length text.now ≤ length bytes.now - start }
+    ensures { result ≡ same_bytes text.now (place_text bytes.now start (length text.now)) }
 {
     if text.len() < 4 {
-        return same_short(rule, table, kind, start, text);
+        return same_short(bytes, start, text);
     }
     let mut left = text.len();
+    // no plainer as a `for`: it would count fours, and the place from the back would be computed of each
     while 4 <= left {
         left -= 4;
-        if word(text, left) != word_in(rule, table, kind, start + left) {
+        if word(text, left) != word(bytes, start + left) {
             return false;
         }
     }
-    word(text, 0) == word_in(rule, table, kind, start)
+    word(text, 0) == word(bytes, start)
 }
 
 // Whether a key, by its kind and payload, is a text of these bytes. The sizes tell most texts apart.
@@ -86,10 +62,11 @@ fn is_text(rule: &[u8], table: &[u8], text: &[u8], kind: u8, payload: u64) -> bo
     }
     let start = (payload % 0x1_0000_0000) as usize;
     let size = (payload / 0x1_0000_0000) as usize;
-    if size_in(rule, table, kind, start, size) != text.len() {
+    let bytes = bytes_in(rule, table, kind);
+    if place_text(bytes, start, size).len() != text.len() {
         return false;
     }
-    same_in(rule, table, kind, start, text)
+    same_in(bytes, start, text)
 }
 
 impl WhenLiteralIndexMap {
@@ -117,15 +94,22 @@ fn text_hint(text: &[u8]) -> usize
     (size % 256 + 8 * (text[size - 1] as usize)) % 256
 }
 
+// The text of a key in the bytes it is in, by its payload.
+fn key_text(bytes: &[u8], payload: u64) -> &[u8]
+    ensures { result.now ≡ rule_text bytes.now payload }
+{
+    let start = (payload % 0x1_0000_0000) as usize;
+    let size = (payload / 0x1_0000_0000) as usize;
+    place_text(bytes, start, size)
+}
+
 // The hint of a key, by its kind and payload.
 fn key_hint(rule: &[u8], table: &[u8], kind: u8, payload: u64) -> usize
     ensures { result ≡ outcome_hint (meaning rule.now table.now (value_of kind payload)) }
 {
-    let start = (payload % 0x1_0000_0000) as usize;
-    let size = (payload / 0x1_0000_0000) as usize;
     match kind {
-        5 => text_hint(place_text(rule, start, size)),
-        6 => text_hint(place_text(table, start, size)),
+        5 => text_hint(key_text(rule, payload)),
+        6 => text_hint(key_text(table, payload)),
         _ => 0,
     }
 }
@@ -155,9 +139,7 @@ fn text_mark(text: &[u8]) -> u64
 fn key_mark(rule: &[u8], payload: u64) -> u64
     ensures { 4 ≤ length (rule_text rule.now payload) → result ≡ text_mark (rule_text rule.now payload) }
 {
-    let start = (payload % 0x1_0000_0000) as usize;
-    let size = (payload / 0x1_0000_0000) as usize;
-    let text = place_text(rule, start, size);
+    let text = key_text(rule, payload);
     if text.len() < 4 {
         return 0;
     }
@@ -171,9 +153,7 @@ fn key_size(rule: &[u8], kind: u8, payload: u64) -> usize
     if kind != 5 {
         return 0;
     }
-    let start = (payload % 0x1_0000_0000) as usize;
-    let size = (payload / 0x1_0000_0000) as usize;
-    let there = place_text(rule, start, size).len();
+    let there = key_text(rule, payload).len();
     if there < 4 {
         return 0;
     }

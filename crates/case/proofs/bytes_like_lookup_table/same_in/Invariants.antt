@@ -1,11 +1,10 @@
 -- `same_in` goes four bytes at a time. The loop's invariant: from `left` on the texts are one.
 use Rattle.std.proofs.Common.{◌≡◌, ◌≤◌, length, drop}
 use Rattle.scalar.specs.Value.{place_text}
-use Rattle.case.specs.LookUpTables.{bytes_of}
 use Rattle.case.proofs.bytes_like_lookup_table.same_in.Given as goal
 
 abbrev pub invariant-loop-left : goal.invariant-loop-left
-invariant-loop-left l = (l.left ≤ length l.text) × (drop l.left l.text ≡ drop l.left (place_text (bytes_of l.kind l.rule l.table) l.start (length l.text)))
+invariant-loop-left l = (l.left ≤ length l.text) × (drop l.left l.text ≡ drop l.left (place_text l.bytes l.start (length l.text)))
 
 abbrev pub decreases-loop-left : goal.decreases-loop-left
 decreases-loop-left l = l.left

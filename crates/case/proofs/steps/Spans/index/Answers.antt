@@ -1,6 +1,6 @@
 use Rattle.std.proofs.Common.{sym, ◌∙◌, arith}
 use Rattle.case.proofs.LookUpLaws.{search_misses, search_hits, search_ends}
-use Rattle.case.proofs.steps.span_index.Goals as goal
+use Rattle.case.proofs.steps.Spans.index.Goals as goal
 
 pub loop-span-preserved : goal.loop-span-preserved
 loop-span-preserved c = search_misses c.loop-span.invariant (omega arith) (sym c.in_span.ensures ∙ c.if-in_span.false)
