@@ -6,7 +6,7 @@ use Rattle.scalar.specs.declared.order.Order.TheVariants.{Less, Equal, Greater, 
 use Rattle.scalar.specs.declared.value.Value.{Value}
 use Rattle.scalar.specs.Compare.{equal_entry, less_entry}
 use Rattle.scalar.specs.Order.{order_of, key_of, is_text, text_order}
-use Rattle.scalar.specs.Value.{meaning, Storable, GivesBoth}
+use Rattle.scalar.specs.Value.{meaning, GivesBoth}
 use Rattle.scalar.proofs.CompareLaws.{compared, equal_gives, less_gives}
 use Rattle.case.specs.Frame.{row_at, Rows, Listed, Filled}
 use Rattle.case.specs.Taking.{comparison, order_value, OrderRight, RowsOrdered}
@@ -42,18 +42,6 @@ order_gives false {rule} {table} {a} {b} {o} e = subst (GivesBoth equal_entry ru
 -- the order of two values by their names
 pub order_right : (rule table : List ℕ) {a b x y : Value} {o : Order} → x ≡ a → y ≡ b → o ≡ order_of (meaning rule table x) (meaning rule table y) → OrderRight rule table a b o
 order_right rule table p q e = e ∙ ap₂ (λ (u v : Value). order_of (meaning rule table u) (meaning rule table v)) p q
-
--- its value can be stored
-pub order_stores : (less : Bool) (o : Order) {v : Value} → v ≡ order_value less o → Storable v
-order_stores less o e = subst Storable (sym e) (go o)
-  where
-    go : (x : Order) → Storable (order_value less x)
-    go Less = tt
-    go Equal = tt
-    go Greater = tt
-    go SomeNull = tt
-    go SomeFailed = tt
-    go Unlike = tt
 
 -- the order of each row of a list
 module _ {right : ℕ → Order → Type 0} {w : List ℕ} {at : ℕ} {orders : List Order} where

@@ -44,8 +44,8 @@ ends {at} {right} {w} {n} {i} {w'} s h =
     subst (λ (k : ℕ). FilledFrom at right w k w') e s.done
 
 -- the same by what is right of the listed rows
-pub filled_as : {at : ℕ} {right right' : ℕ → Value → Type 0} {w : List ℕ} {n : ℕ} {w' : List ℕ} → ((r : ℕ) (x : Value) → right r x → right' r x) → FilledFrom at right w n w' → FilledFrom at right' w n w'
-filled_as f s = record { long = s.long; here = λ r l. f r _ (s.here r l); others = s.others; low = s.low; high = s.high }
+pub filled_as : {at : ℕ} {first right : ℕ → Value → Type 0} {w : List ℕ} {n : ℕ} {w' : List ℕ} → FilledFrom at first w n w' → ((r : ℕ) (v : Value) → first r v → right r v) → FilledFrom at right w n w'
+filled_as {w' = w'} d fits = record { long = d.long; here = λ r l. fits r (slot_at w' r) (d.here r l); others = d.others; low = d.low; high = d.high }
 
 -- one turn, at the row that is read
 module _ {at : ℕ} {right : ℕ → Value → Type 0} {w : List ℕ} {n i : ℕ} {m : List ℕ} (s : FilledFromSoFar at right w n i m) (ok : FillableFrom at w n) (more : i < n) where
@@ -166,14 +166,7 @@ pub record AllRowsSoFar (n i : ℕ) (w w' : List ℕ) : Type 0 where
   pub few : i ≤ n
   pub done : AllRows i w w'
 
-pub all_none : {n : ℕ} {w : List ℕ} → AllRowsSoFar n 0 w w
-all_none = record { few = omega arith; done = record { long = refl; rows_are = λ i h. absurd (omega arith); high = λ j h. refl } }
-
 module _ {n i : ℕ} {w m : List ℕ} (s : AllRowsSoFar n i w m) (ok : (n ≤ 512) × (1024 ≤ length w)) (more : i < n) where
-  -- the row's place lies in the buffer
-  pub all_in : (0 + 2 * i + 2 ≤ length m) × (i < 65536)
-  all_in = (omega (arith, ok.0, ok.1, s.done.long), omega (arith, ok.0))
-
   pub all_more : {m' : List ℕ} → RowPut m 0 i i m' → AllRowsSoFar n (i + 1) w m'
   all_more {m'} put = record {
     few = omega arith;
@@ -187,12 +180,6 @@ module _ {n i : ℕ} {w m : List ℕ} (s : AllRowsSoFar n i w m) (ok : (n ≤ 51
       row_is : (k : ℕ) → k < i + 1 → Dec (k ≡ i) → row_at m' 0 k ≡ k
       row_is k h (yes e) = ap (row_at m' 0) e ∙ put.here ∙ sym e
       row_is k h (no e) = number_same 2 m' m (0 + 2 * k) (0 + 2 * k) (λ j b. put.before (0 + 2 * k + j) (omega arith)) ∙ s.done.rows_are k (omega arith)
-
-pub all_ends : {n i : ℕ} {w w' : List ℕ} → AllRowsSoFar n i w w' → n ≤ i → AllRows n w w'
-all_ends {n} {i} {w} {w'} s h =
-    let few = s.few in
-    let e : i ≡ n = omega arith in
-    subst (λ (k : ℕ). AllRows k w w') e s.done
 
 -- all rows rise, and each is listed
 module _ {n : ℕ} {w w' : List ℕ} (a : AllRows n w w') where

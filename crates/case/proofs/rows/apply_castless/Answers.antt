@@ -3,4 +3,4 @@ use Rattle.case.proofs.RowsLaws.{filled_as}
 use Rattle.case.proofs.rows.apply_castless.Goals as goal
 
 pub returns : goal.returns
-returns c = filled_as (λ r x e. search rules) c.map_rows.ensures
+returns c = filled_as c.map_rows.ensures (λ r v e. search rules)
