@@ -187,14 +187,16 @@ fn fill_orders(
     }
 }
 
-// Gives the builder the indices of rows that it does not hold.
-fn add_part(b: &mut ResultBuilder, rows: &[u16], values: &[u16])
-    requires { PartAsks b.old rows.now values.now }
-    ensures { PartGives b.old rows.now values.now b.new }
+// The builder with the indices of rows that it does not hold.
+fn add_part(b: ResultBuilder, rows: &[u16], values: &[u16]) -> ResultBuilder
+    requires { PartAsks b rows.now values.now }
+    ensures { PartGives b rows.now values.now result }
 {
+    let mut builder = b;
     if !rows.is_empty() {
-        b.add_branch_result(rows, values).unwrap();
+        builder.add_branch_result(rows, values).unwrap();
     }
+    builder
 }
 
 // The rows of the open list that leave are held with their indices, the others stay in it.
@@ -207,8 +209,7 @@ fn settle_rows<L: Leaving>(work: &mut [u8], left: usize, leaving: &L, b: ResultB
     let mut rows = [0u16; 512];
     let mut values = [0u16; 512];
     let m = split(work, left, leaving, &mut rows, &mut values);
-    let mut builder = b;
-    add_part(&mut builder, &rows[..m], &values[..m]);
+    let builder = add_part(b, &rows[..m], &values[..m]);
     Settled {
         left: left - m,
         builder,
