@@ -1,6 +1,7 @@
 // Evaluation of a rule over a table, in a lent work buffer, into a lent output.
 ghost use Rattle.std.specs.Prelude.{◌≡◌, ◌≢◌};
-ghost use Rattle.writer.specs.declared.WriteAnswer.TheVariants.{Run, NoColumn};
+ghost use Rattle.writer.specs.declared.WriteError.TheVariants.{NoColumn};
+ghost use Rattle.writer.specs.Write.{said};
 ghost use Rattle.case.specs.Promise.{Evaluated};
 ghost use Rattle.case.specs.Readings.{ReadAsks, AnswerAsks, AnswerGives};
 
@@ -8,14 +9,15 @@ use crate::case::expr;
 use crate::fits::fits_table;
 use crate::root::class_rows;
 use crate::rows::all_rows;
+use layout::refusal::Refusal;
 use rule::read::{RuleReading, read_rule};
 use scalar::types::DataType;
 use table::places::Table;
 use table::read::read;
+use writer::WriteError;
 use writer::classes::write_classes;
 use writer::clear::clear;
 use writer::write::write_answer;
-use writer::{RunAnswer, WriteAnswer};
 
 // Least length of a full work buffer.
 const WORK_LEAST: usize = 65536;
@@ -95,12 +97,13 @@ fn answer_rows(
 }
 
 // What a run with rows that are a column says.
-fn run_of(a: WriteAnswer) -> Result<usize, Refusal>
-    requires { a ≢ NoColumn }
-    ensures { a ≡ Run result }
+fn run_of(a: Result<usize, WriteError>) -> Result<usize, Refusal>
+    requires { a ≢ Err NoColumn }
+    ensures { a ≡ said result }
 {
     match a {
-        WriteAnswer::Run(r) => r,
-        WriteAnswer::NoColumn => RunAnswer::Refused(15),
+        Ok(size) => Ok(size),
+        Err(WriteError::Refused(refusal)) => Err(refusal),
+        Err(WriteError::NoColumn) => unreachable!(),
     }
 }

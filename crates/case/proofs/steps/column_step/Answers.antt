@@ -11,4 +11,4 @@ pub returns-then-s-code : goal.returns-then-s-code
 returns-then-s-code c = step_refused c.requires.indices_len
 
 pub returns : goal.returns
-returns c = step_by c.type_number-code.ensures (omega (arith, c.if-code-gt4.false)) c.index_column.ensures.indexed c.one.ensures.0 c.one.ensures.1 c.if-s-code.false
+returns c = step_by {table = c.args.table.now} {place = c.args.place} c.number-code.ensures (omega (arith, c.if-code-gt4.false)) c.index_column.ensures.indexed c.one.ensures.0 c.one.ensures.1 c.if-s-code.false

@@ -14,4 +14,4 @@ pub returns-in_default : goal.returns-in_default
 returns-in_default c = column_refused c.requires.indices_len
 
 pub returns : goal.returns
-returns c = column_by c.type_number-code.ensures (omega (arith, c.if-code-gt4.false)) c.index_column.ensures.indexed c.in-Some.ensures.1 c.in-Some.ensures.0
+returns c = column_by {table = c.args.table.now} {place = c.args.place} c.number-code.ensures (omega (arith, c.if-code-gt4.false)) c.index_column.ensures.indexed c.in-Some.ensures.1 c.in-Some.ensures.0
