@@ -5,9 +5,9 @@ use Rattle.scalar.specs.declared.order.Order.{Order}
 use Rattle.scalar.specs.declared.order.Order.TheVariants.{Less, Equal, Greater, SomeNull, SomeFailed, Unlike}
 use Rattle.scalar.specs.declared.value.Value.{Value}
 use Rattle.scalar.specs.Compare.{equal_entry, less_entry}
-use Rattle.scalar.specs.Order.{order_of, key_of, is_text, text_order}
+use Rattle.scalar.specs.Order.{order_of, key_of, is_text, text_order, compared}
 use Rattle.scalar.specs.Value.{meaning, GivesBoth}
-use Rattle.scalar.proofs.CompareLaws.{compared, equal_gives, less_gives}
+use Rattle.scalar.proofs.CompareLaws.{equal_gives, less_gives}
 use Rattle.case.specs.Frame.{row_at, Rows, Listed, Filled}
 use Rattle.case.specs.Taking.{comparison, order_value, OrderRight, RowsOrdered}
 

@@ -64,7 +64,7 @@ unfolding run
 rule_refused {rule} {table} {work} {output} p =
     let (n, is, same) = reading_was_refused rule p refl in
     subst (λ (x : Refusal). Evaluated rule table work output (Err x) work output) (sym same)
-    (refused_early (simp is) (among_apart rule_refusals late_refusals n refl (rule_refusals_lem rule n is)))
+    (refused_early {n = n} (simp is) (among_apart rule_refusals late_refusals n refl (rule_refusals_lem rule n is)))
 
 -- of the table,
 pub table_refused_lem : {rule table work output : List ℕ} {a : RuleReading} {e : Refusal} → Bytes rule → Ok a ≡ rule_reading (read_rule rule) → Err e ≡ table_answer (read_table table)
@@ -73,7 +73,7 @@ unfolding run table_answer
 table_refused_lem {rule} {table} {work} {output} {a} bytes g p =
     let (tree, reads, read) = reading_was_read rule g bytes a refl in
     let (n, is, same) = answered_err (table_from 5) (read_table table) p in
-    subst (λ (x : Refusal). Evaluated rule table work output (Err x) work output) (sym same) (refused_early (simp (reads, is)) (table_early table n is))
+    subst (λ (x : Refusal). Evaluated rule table work output (Err x) work output) (sym same) (refused_early {n = n} (simp (reads, is)) (table_early table n is))
 
 -- what the reading of both gives
 pub both_read : {rule table : List ℕ} {a : RuleReading} {b : Places} → Bytes rule → Ok a ≡ rule_reading (read_rule rule) → TableRead table (Ok b) → ReadAsks rule a table b
@@ -96,11 +96,11 @@ module _ {rule table : List ℕ} {t : Places} {result : DataType} {w w₁ : List
     pub by_classes : {n : Bool} {output output' : List ℕ} {a : RustResult ℕ WriteError} {r : RustResult ℕ Refusal} → found ≡ true
         → ((rule table : List ℕ) → ColumnGives (classed t.rows result classes payloads) (rows_run rule table (class_value result classes payloads) t.rows result n (length output)) output a output') → a ≡ said r
         → AnswerGives rule table t result n w output r w₂ output'
-    by_classes is wrote run = record {
+    by_classes {r = r} is wrote run = record {
       long = c.long ∙ all.long;
       value = class_value result classes payloads;
       right = c.right is;
-      wrote = gives_rows (asks_classed t.rows classes payloads (c.asks is)) (wrote rule table) run;
+      wrote = gives_rows r (asks_classed t.rows classes payloads (c.asks is)) (wrote rule table) run;
     }
 
     -- the list is still there
@@ -140,11 +140,11 @@ module _ {rule table : List ℕ} {t : Places} {result : DataType} {w w₁ : List
       pub by_slots : {n : Bool} {output output' : List ℕ} {a : RustResult ℕ WriteError} {r : RustResult ℕ Refusal}
           → ColumnGives (writable rule table w₃ t.rows result) (rows_run rule table (slot_at w₃) t.rows result n (length output)) output a output' → a ≡ said r
           → AnswerGives rule table t result n w output r w₃ output'
-      by_slots wrote run = record {
+      by_slots {r = r} wrote run = record {
         long = d.long ∙ c.long ∙ all.long;
         value = slot_at w₃;
         right = slots_right;
-        wrote = gives_rows (asks_write rule table w₃ t.rows write_asks) wrote run;
+        wrote = gives_rows r (asks_write rule table w₃ t.rows write_asks) wrote run;
       }
 
 -- ---- a rule and a table that were read
@@ -198,7 +198,7 @@ module _ {rule table : List ℕ} {a : RuleReading} {t : Places} (bytes : Bytes r
 
     pub not_fitting : {work output : List ℕ} → not seen-fits ≡ true → Evaluated rule table work output (Err Fit) work output
     unfolding run_read
-    not_fitting {work} {output} un = refused_early (call_is work output ∙ simp (sym fits_is ∙ not-false seen-fits un)) refl
+    not_fitting {work} {output} un = refused_early {n = 13} (call_is work output ∙ simp (sym fits_is ∙ not-false seen-fits un)) refl
 
     module _ (yes-fits : not seen-fits ≡ false) where
       fitting : fits asks.tree (table_in table t) ≡ true
@@ -206,7 +206,7 @@ module _ {rule table : List ℕ} {a : RuleReading} {t : Places} (bytes : Bytes r
 
       pub too_short : {work output : List ℕ} → length work < 65536 → Evaluated rule table work output (Err WorkSize) work output
       unfolding run_read
-      too_short {work} {output} less = refused_early (call_is work output ∙ simp (fitting, lt-leb 65536 (length work) less)) refl
+      too_short {work} {output} less = refused_early {n = 14} (call_is work output ∙ simp (fitting, lt-leb 65536 (length work) less)) refl
 
       module _ {v : ℕ → Value} (rows : RowsRight rule table t v) where
         node : NodeAt rule 0 (length rule) asks.tree 8

@@ -2,7 +2,8 @@
 use mathlib.Core.Path.{◌≡◌, refl, sym, ap, ◌∙◌}
 use Prim.Native.Nat.{ℕ}
 use native.Mathlib.Omega.{arith}
-use Rattle.std.specs.Prelude.{Ok, Err}
+use Rattle.std.specs.Prelude.{Result as RustResult, Ok, Err, IsErrAnd}
+use Rattle.std.proofs.lemmas.Result.{err_from_is_err_and}
 use Rattle.layout.specs.declared.refusal.Refusal.{Refusal}
 use Rattle.layout.specs.declared.refusal.Refusal.TheVariants as Is
 use Rattle.layout.specs.Refusals.{number_of, refusal_numbered}
@@ -50,3 +51,7 @@ answered_refused f d p step g = let r = answered_err f d p in ap Err r.2 ∙ sym
 -- by its number
 pub number_refused : {A B C : Type 0} {d : Result A} {e : Refusal} → refused (number_of e) ≡ d → (step : A → Result B) (g : B → C) → Err e ≡ answered g (d >>= step)
 number_refused {e = e} p step g = ap Err (sym (refusal_kept e)) ∙ ap (λ x. answered g (x >>= step)) p
+
+-- what the exit of a `?` returns
+pub passed_on : {B : Type 0} {e : Refusal} (r : RustResult B Refusal) → IsErrAnd r (λ d. d ≡ e) → r ≡ Err e
+passed_on r h = let p = err_from_is_err_and r h in p.1 ∙ ap Err p.2

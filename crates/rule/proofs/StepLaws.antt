@@ -1,6 +1,5 @@
 -- Steps of the reading beside their definitions. Assumes nothing.
 use Rattle.std.specs.Prelude.{Option, None, ok_or, IsErrAnd, Result as RustResult, Ok, Err}
-use Rattle.std.proofs.lemmas.Result.{err_from_is_err_and}
 use mathlib.Core.Path.{◌≡◌, refl, ap, sym, subst, ◌∙◌}
 use mathlib.Core.Bool.{Bool, true, false, cond}
 use mathlib.Core.List.{List, [], ◌∷◌}
@@ -72,11 +71,7 @@ pub gives_map : {A B C : Type 0} {first : C → A → Type 0} {good : C → B �
 gives_map (refused n) h g f = gives_refusal n refl (g.refuses n refl)
 gives_map (ok x) h g f = let (y, is, i) = g.reads x refl in gives_read (h x) y refl is (f y x i)
 
--- what the exit of a `?` returns
-pub passed_on : {B : Type 0} {e : Refusal} (r : RustResult B Refusal) → IsErrAnd r (λ d. d ≡ e) → r ≡ Err e
-passed_on r h = let p = err_from_is_err_and r h in p.1 ∙ ap Err p.2
-
--- and where a value was none
+-- where a value was none
 pub none_of : {A : Type 0} (e : Refusal) {d : Refusal} (o : Option A) → o ≡ None → Err d ≡ ok_or o e → d ≡ e
 none_of {A} e {d} o z is = let same : ◌≡◌ {A = RustResult A Refusal} (Err d) (Err e) = is ∙ ap (λ (p : Option A). ok_or p e) z in cc
 

@@ -2,7 +2,8 @@
 use mathlib.Core.Path.{ap, sym, ◌∙◌}
 use Rattle.scalar.specs.Types.{type_means}
 use Rattle.scalar.proofs.TypeLaws.{type_means_lem}
-use Rattle.rule.proofs.StepLaws.{passed_on, none_of}
+use Rattle.rule.proofs.StepLaws.{none_of}
+use Rattle.layout.proofs.AnswerLaws.{passed_on}
 use Rattle.rule.proofs.LeafLaws.{column_sized, column_typed, column_met}
 use Rattle.rule.proofs.leaf.read_column.Goals as goal
 

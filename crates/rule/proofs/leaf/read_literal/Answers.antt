@@ -2,7 +2,8 @@
 use mathlib.Core.Path.{ap, ◌∙◌, sym}
 use Rattle.scalar.specs.Types.{type_means}
 use Rattle.scalar.proofs.TypeLaws.{type_means_lem}
-use Rattle.rule.proofs.StepLaws.{passed_on, none_of}
+use Rattle.rule.proofs.StepLaws.{none_of}
+use Rattle.layout.proofs.AnswerLaws.{passed_on}
 use Rattle.rule.proofs.LeafLaws.{literal_sized, literal_typed, literal_unfit, literal_read}
 use Rattle.rule.proofs.leaf.read_literal.Goals as goal
 

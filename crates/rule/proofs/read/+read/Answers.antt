@@ -6,7 +6,8 @@ use borrow.Author.Rules.{rules}
 use Rattle.rule.specs.Reading.{read_field}
 use Rattle.scalar.specs.Types.{type_means}
 use Rattle.scalar.proofs.TypeLaws.{type_means_lem}
-use Rattle.rule.proofs.StepLaws.{passed_on, none_of}
+use Rattle.rule.proofs.StepLaws.{none_of}
+use Rattle.layout.proofs.AnswerLaws.{passed_on}
 use Rattle.rule.proofs.CycleLaws.{unary_refused, unary_gives, binary_refused, second_refused, binary_gives, cast_short, cast_untyped, cast_refused, cast_gives, optional_there, optional_absent, branches_none, branches_refused, branches_give, then_refused, later_refused, then_gives, parts_unbased, parts_unbranched, parts_unended, parts_give, case_none, case_short, case_flags, case_unbranched, case_many, case_gives, kind_column, kind_literal, kind_unary, kind_cast, kind_binary, kind_case, field_cut, field_unknown, field_deep, field_gives, tag_other}
 use Rattle.rule.proofs.read.+read.Goals as goal
 use Rattle.rule.proofs.read.+read.Goals.{read_kind-in_default-via-then-node-lt16, read_kind-in_default-via-else-node-lt16+else-node-lt21+else-node-lt23+else-node-lt25}

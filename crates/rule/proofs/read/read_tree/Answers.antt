@@ -1,6 +1,6 @@
 -- A rule of at most 4,096 bytes is its root, with no byte after it.
 use Rattle.rule.proofs.SeenLaws.{seen_none}
-use Rattle.rule.proofs.StepLaws.{passed_on}
+use Rattle.layout.proofs.AnswerLaws.{passed_on}
 use Rattle.rule.proofs.CycleLaws.{tree_empty, tree_long, tree_refused, tree_left, tree_gives}
 use Rattle.rule.proofs.read.read_tree.Goals as goal
 

@@ -1,11 +1,11 @@
 -- A column, part by part.
-use Rattle.std.proofs.lemmas.Result.{err_from_is_err_and}
+use Rattle.layout.proofs.AnswerLaws.{passed_on}
 use mathlib.Core.Path.{refl}
 use Rattle.table.proofs.ColumnLaws.{head_refused, type_refused, mark_refused, count_refused, validity_refuses, offsets_refuse, values_refuse, whole_column}
 use Rattle.table.proofs.column.column_parts.Goals as goal
 
 pub returns-in_err-head : goal.returns-in_err-head
-returns-in_err-head c = let p = err_from_is_err_and c.from_residual.result c.from_residual.ensures.1 in rw (p.1, p.2) (head_refused c.args.at c.args.rows c.in_err-head.ensures)
+returns-in_err-head c = rw (passed_on c.from_residual.result c.from_residual.ensures.1) (head_refused c.args.at c.args.rows c.in_err-head.ensures)
 
 pub returns-in_err-data_type : goal.returns-in_err-data_type
 returns-in_err-data_type c = let p = err_from_is_err_and c.from_residual-in_err-data_type.result c.from_residual-in_err-data_type.ensures.1 in rw (p.1, p.2) (type_refused c.args.at c.args.rows c.in_ok-head.ensures c.byte_at.result _ c.byte_at.ensures refl c.in_err-data_type.ensures)
