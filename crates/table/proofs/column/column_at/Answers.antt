@@ -10,7 +10,7 @@ pub count_right-requires : goal.count_right-requires
 count_right-requires c = column_room c.args.bytes.now c.args.at c.args.rows c.in_ok-column.ensures
 
 pub returns-in_err-ended : goal.returns-in_err-ended
-returns-in_err-ended c = let p = err_from_is_err_and c.from_residual-in_err-ended.result c.from_residual-in_err-ended.ensures.1 in rw (p.1, p.2) (column_ends c.args.bytes.now c.args.at c.args.rows c.in_ok-column.ensures c.nulls_fit.result c.count_right.result c.nulls_fit.ensures c.count_right.ensures c.in_err-ended.ensures)
+returns-in_err-ended c = rw (passed_on c.from_residual-in_err-ended.result c.from_residual-in_err-ended.ensures.1) (column_ends c.args.bytes.now c.args.at c.args.rows c.in_ok-column.ensures c.nulls_fit.result c.count_right.result c.nulls_fit.ensures c.count_right.ensures c.in_err-ended.ensures)
 
 pub returns : goal.returns
 returns c = column_right c.args.bytes.now c.args.at c.args.rows c.in_ok-column.ensures c.nulls_fit.result c.count_right.result c.nulls_fit.ensures c.count_right.ensures c.in_ok-ended.ensures
