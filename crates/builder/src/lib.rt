@@ -2,7 +2,7 @@
 // is the whole result.
 #![tactic(auto)]
 
-ghost use Rattle.std.specs.Prelude.{◌≡◌, true, not, ◌&&◌, ◌||◌, ◌≤◌, min, length};
+ghost use Rattle.std.specs.Prelude.{◌≡◌, true, not, ◌&&◌, ◌≤◌, min, length};
 ghost use Rattle.builder.specs.Builder.{rising_below, or_else};
 ghost use Rattle.builder.specs.BuilderStruct.{marked, some_marked, count_of, holding, empty_builder, new_answer, add_answer, add_after, finish_answer};
 

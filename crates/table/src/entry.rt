@@ -35,13 +35,10 @@ impl From<Refusal> for EntryError {
 pub fn valid_at(validity: &[u8], row: usize) -> bool
     ensures { result ≡ valid_in validity.now row }
 {
-    if validity.len() == 0 {
-        return true;
-    }
-    bit_at(validity, row)
+    validity.is_empty() || bit_at(validity, row)
 }
 
-// A row's number of four bytes; behind the end it is 0.
+// A row's number of four bytes; behind the end it is 0. One for each width: a trait of the two numbers would be longer than both.
 pub fn row_u32(values: &[u8], row: usize) -> u32
     ensures { result ≡ number_at 4 values.now (4 * row) }
 {

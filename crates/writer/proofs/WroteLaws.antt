@@ -1,6 +1,6 @@
 -- Bytes written at a place: one run behind another, and row by row. Assumes nothing.
 use mathlib.Core.Path.{◌≡◌, refl, sym, ap, ap₂, subst, ◌∙◌}
-use mathlib.Core.Bool.{Bool, true, false, cond}
+use mathlib.Core.Bool.{Bool, true, false}
 use mathlib.Core.List.{List, [], ◌∷◌, ◌++◌, append-nil, append_assoc}
 use Prim.Native.Nat.{ℕ, zero, suc, ◌+◌, ◌-◌, ◌*◌, ◌/◌, ◌%◌, ◌^◌, ◌<◌, ◌≤◌}
 use native.Mathlib.Nat.{add-zero, pow-suc}
@@ -9,8 +9,7 @@ use native.Mathlib.Numerals.{add-one}
 use native.Mathlib.Omega.{arith}
 use lib.ListN.{length, take, drop, length-append, length-drop, take-append-drop}
 use lib.Seq.{length-take-le, take-append-le, take-take, take_at, drop_at, drop-drop, sets, sets-eq}
-use borrow.Author.Tests.{le-leb}
-use Rattle.layout.specs.Bytes.{number_bytes, Written}
+use Rattle.layout.specs.Bytes.{number_bytes}
 use Rattle.layout.specs.Field.{field_bytes}
 use borrow.Rule.Slice.PartMut.{put_mid}
 use Rattle.std.specs.Int.{bytes_low_first}
@@ -103,16 +102,6 @@ wrote_byte e w = wrote_as (ap (λ (x : ℕ). x ∷ []) e) w
 pub wrote_sets : {out : List ℕ} {at : ℕ} {p : ℕ} {m : List ℕ} (xs : List ℕ) → at + length xs ≤ length out → p ≡ at + length xs → m ≡ sets out at xs → Wrote out at xs p m
 unfolding wrote
 wrote_sets {out} {at} xs h e s = record { fits = h; ends = e; holds = s ∙ sets-eq xs out at h }
-
--- a number's bytes, stored one by one
-pub wrote_bytes : {out : List ℕ} {at : ℕ} {m : List ℕ} (k n : ℕ) → at + k ≤ length out → m ≡ sets out at (number_bytes k n) → Wrote out at (number_bytes k n) (at + k) m
-wrote_bytes k n h e = let long = length_number_bytes k n in wrote_sets (number_bytes k n) (omega arith) (omega arith) e
-
--- a number that was written
-pub wrote_number : {out : List ℕ} {at n : ℕ} {done : Bool} {m : List ℕ} (k : ℕ) → at + k ≤ length out → Written k out at n done m → Wrote out at (number_bytes k n) (at + k) m
-wrote_number {out} {at} {n} {done} k h w =
-    let says : done ≡ true = w.says ∙ le-leb (at + k) (length out) h in
-    wrote_bytes k n h (w.holds ∙ ap (λ (b : Bool). cond b (sets out at (number_bytes k n)) out) says)
 
 -- what lies above k bytes is not in them
 above_bytes : (k n q : ℕ) → number_bytes k (n + 256 ^ k * q) ≡ number_bytes k n

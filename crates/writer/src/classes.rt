@@ -1,7 +1,6 @@
 // The answer's column of rows that each have the number of a class: 17 and nothing, or its bytes at the front of the output.
-ghost use Rattle.std.specs.Prelude.{◌≡◌, List, ℕ, ◌+◌, ◌≤◌, length};
-ghost use Rattle.writer.specs.Write.{ColumnGives, WriteGives, ClassesIn, ClassesAsk, class_value, class_payload, classes_long, number_type, classes_in, classed, rows_run};
-ghost use Rattle.writer.specs.Writing.{Wrote, row_bytes, plain_numbers};
+ghost use Rattle.std.specs.Prelude.{◌≡◌, List, ℕ, ◌≤◌, length};
+ghost use Rattle.writer.specs.Write.{ColumnGives, WriteGives, ClassesAsk, class_value, classes_long, number_type, classes_in, classed, rows_run};
 
 use crate::WriteError;
 use crate::plain::{FLOAT64, INT32, plain_front};

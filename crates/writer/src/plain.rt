@@ -1,8 +1,8 @@
 // An answer of numbers none of which is null: 17 and nothing, or its bytes at the front of the output.
-ghost use Rattle.std.specs.Prelude.{List, ℕ, ◌+◌, ◌-◌, ◌*◌, ◌<◌, ◌≤◌, length};
+ghost use Rattle.std.specs.Prelude.{List, ℕ, ◌+◌, ◌-◌, ◌≤◌, length};
 ghost use Rattle.writer.specs.Slots.{slot_at};
-ghost use Rattle.writer.specs.Write.{PlainRows, RowsOfKind, Tells, WriteGives, slot_kind, slot_payload};
-ghost use Rattle.writer.specs.Writing.{Wrote, RowsAsk, row_bytes, plain_front, plain_numbers, values_size};
+ghost use Rattle.writer.specs.Write.{PlainRows, RowsOfKind, Tells, WriteGives, slot_kind};
+ghost use Rattle.writer.specs.Writing.{Wrote, RowsAsk, plain_front, values_size};
 
 use crate::put::{put_count, put_header, put_numbers, put_type};
 use crate::slot::slot_payload;
