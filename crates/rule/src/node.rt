@@ -95,13 +95,7 @@ pub(crate) fn unary_type(tag: u8, child: DataType) -> DataType
 pub(crate) fn case_fits(branches: bool, null: bool, from: DataType, to: DataType) -> bool
     ensures { result ≡ (branches && (null || listed from to)) }
 {
-    if branches {
-        if null {
-            return true;
-        }
-        return is_listed(from, to);
-    }
-    false
+    branches && (null || is_listed(from, to))
 }
 
 // A branch before later ones.

@@ -35,23 +35,19 @@ impl Strategy {
 }
 
 // Whether the node at a place is a null literal.
+#[tactic(auto, unfolding(crate::specs::WalkedStrategy::null_there))]
 fn is_null_literal(rule: &[u8], at: usize) -> bool
     ensures { result ≡ null_there rule.now at }
 {
-    if byte_at(rule, at) != tag::LITERAL {
-        return false;
-    }
-    byte_at(rule, at + 4) == 1
+    byte_at(rule, at) == tag::LITERAL && byte_at(rule, at + 4) == 1
 }
 
 // Whether an ELSE is there that is no null literal.
+#[tactic(auto, unfolding(crate::specs::WalkedStrategy::else_there))]
 fn else_there(rule: &[u8], at: usize, end: usize) -> bool
     ensures { result ≡ else_there rule.now at end }
 {
-    if at == end {
-        return false;
-    }
-    !is_null_literal(rule, at)
+    at != end && !is_null_literal(rule, at)
 }
 
 // Whether so many fields are all literals.
