@@ -15,6 +15,7 @@ pub fn type_numbered(n: u8) -> DataType
 }
 
 // Where the first THEN of the CASE at a place stands: behind the base, if there is one, and a WHEN.
+#[tactic(auto, unfolding(crate::specs::Walked::first_then))]
 fn first_then(rule: &[u8], at: usize) -> usize
     ensures { result ≡ first_then rule.now at }
 {
