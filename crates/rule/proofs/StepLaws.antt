@@ -6,9 +6,9 @@ use mathlib.Core.Bool.{Bool, true, false, cond}
 use mathlib.Core.List.{List, [], ◌∷◌}
 use Prim.Native.Nat.{ℕ, zero, suc, ◌<◌, ◌≤◌}
 use native.Mathlib.Omega.{arith}
-use lib.Dec.{ltb}
+use lib.Dec.{eqb, ltb}
 use lib.ListN.{length, drop}
-use borrow.Author.Tests.{ltb-true, ltb-false}
+use borrow.Author.Tests.{eqb-true, eqb-false, ltb-true, ltb-false}
 use Rattle.layout.specs.declared.refusal.Refusal.{Refusal}
 use Rattle.layout.specs.declared.refusal.Refusal.TheVariants.{RuleContent, RuleTypes}
 use Rattle.layout.specs.Refusals.{refusal_numbered}
@@ -79,6 +79,13 @@ passed_on r h = let p = err_from_is_err_and r h in p.1 ∙ ap Err p.2
 -- and where a value was none
 pub none_of : {A : Type 0} (e : Refusal) {d : Refusal} (o : Option A) → o ≡ None → Err d ≡ ok_or o e → d ≡ e
 none_of {A} e {d} o z is = let same : ◌≡◌ {A = RustResult A Refusal} (Err d) (Err e) = is ∙ ap (λ (p : Option A). ok_or p e) z in cc
+
+-- a length that is 0, and one that is not, by the test
+pub none_there : (n : ℕ) {empty : Bool} → empty ≡ eqb n 0 → empty ≡ true → n ≡ 0
+none_there n told is = eqb-true n 0 (sym told ∙ is)
+
+pub some_there : (n : ℕ) {empty : Bool} → empty ≡ eqb n 0 → empty ≡ false → n ≡ 0 → ⊥
+some_there n told is = eqb-false n 0 (sym told ∙ is)
 
 -- bytes left over
 pub empty_drop : (n : ℕ) (l : List ℕ) → length l ≤ n → is_empty (drop n l) ≡ true

@@ -31,6 +31,7 @@ pub fn type_of(rule: &[u8], start: usize) -> DataType
     ensures { result ≡ type_at rule.now start }
 {
     let mut at = start;
+    // Where the next node stands is read from this one, so no range fits.
     while at < rule.len() {
         match rule[at] {
             tag::COLUMN => return type_numbered(byte_at(rule, at + 4)),
