@@ -3,12 +3,12 @@ use Rattle.std.specs.Prelude.{unwrap_or}
 use mathlib.Core.Path.{◌≡◌, refl, ap, sym, subst, ◌∙◌}
 use mathlib.Core.Bool.{Bool, true, false, cond, ◌||◌}
 use mathlib.Core.List.{List}
-use Prim.Native.Nat.{ℕ, zero, suc, ◌+◌, ◌-◌, ◌^◌, ◌<◌, ◌≤◌}
+use Prim.Native.Nat.{ℕ, zero, suc, ◌+◌, ◌-◌, ◌^◌, ◌<◌}
 use native.Mathlib.Omega.{arith}
 use lib.Dec.{eqb, leb, ltb}
 use lib.ListN.{length, take, drop}
 use lib.Seq.{take_at}
-use borrow.Author.Tests.{ltb-true, le-leb, lt-leb, le-ltb, lt-ltb, eq-eqb, ne_eqb}
+use borrow.Author.Tests.{ltb-true, lt-leb, le-ltb}
 use Rattle.layout.specs.Bytes.{byte, number, number_at, number_bytes}
 use Rattle.layout.proofs.BytesLaws.{length_number_bytes, number_number_bytes}
 use Rattle.scalar.specs.declared.types.DataType.{DataType}
@@ -103,33 +103,6 @@ type_or_text (suc (suc (suc (suc (suc (suc n)))))) = refl
 -- a number gives the type that has it
 pub numbered_gives : {n : ℕ} {r : DataType} → r ≡ type_from n → NumberedGives n r
 numbered_gives is t same = is ∙ ap type_from same ∙ type_from_lem t
-
--- the value of a literal, where its mark says null or behind the rule's end
-pub literal_behind : (rule : List ℕ) {start : ℕ} (end : ℕ) → length rule ≤ start → Null ≡ literal_at rule start end
-unfolding literal_at
-literal_behind rule {start} end none = rw (le-leb (length rule) start none)
-
-pub literal_null : (rule : List ℕ) (start end : ℕ) {mark : ℕ} → start < length rule → mark ≡ byte rule (start + 4) → mark ≡ 1 → Null ≡ literal_at rule start end
-unfolding literal_at
-literal_null rule start end room is one = rw (lt-leb (length rule) start room, eq-eqb (byte rule (start + 4)) 1 (sym is ∙ one))
-
--- and by its type where it doesn't
-module _ (rule : List ℕ) (start end : ℕ) {mark number : ℕ} {found : DataType} (room : start < length rule) (marked : mark ≡ byte rule (start + 4)) (some : mark ≡ 1 → ⊥)
-    (typed : number ≡ byte rule (start + 3)) (found_is : found ≡ type_from number) where
-  pub literal_told : (t : DataType) {r : Value} → found ≡ t → r ≡ value_from rule (start + 5) end t → r ≡ literal_at rule start end
-  unfolding literal_at
-  literal_told t is told =
-      told ∙ sym (ap (λ (b : Bool). cond b Null (value_from rule (start + 5) end (type_from (byte rule (start + 3))))) marks ∙ ap (value_from rule (start + 5) end) (ap type_from (sym typed) ∙ sym found_is ∙ is))
-    where
-      marks : (leb (length rule) start || eqb (byte rule (start + 4)) 1) ≡ false
-      marks = rw (lt-leb (length rule) start room, ne_eqb (byte rule (start + 4)) 1 (λ p. some (marked ∙ p)))
-
-  -- a text, and one whose end stands before it
-  pub literal_text : found ≡ Of.Utf8 → start + 5 ≤ end → RuleText (start + 5) (end - (start + 5)) ≡ literal_at rule start end
-  literal_text is ordered = literal_told Of.Utf8 is (rw (le-ltb end (start + 5) ordered))
-
-  pub literal_cut : found ≡ Of.Utf8 → end < start + 5 → Null ≡ literal_at rule start end
-  literal_cut is cut = literal_told Of.Utf8 is (rw (lt-ltb end (start + 5) cut))
 
 -- what a value out of its bytes means, and that it can be stored
 value_means : {rule : List ℕ} {at end : ℕ} {t : DataType} {v : Entry} → Valued t v → HeldAt rule at end (value_bytes v)

@@ -5,9 +5,9 @@ use mathlib.Core.Bool.{Bool, true, false, cond}
 use mathlib.Core.List.{List, [], ◌∷◌}
 use Prim.Native.Nat.{ℕ, zero, suc, ◌<◌, ◌≤◌}
 use native.Mathlib.Omega.{arith}
-use lib.Dec.{ltb}
+use lib.Dec.{eqb, ltb}
 use lib.ListN.{length, drop}
-use borrow.Author.Tests.{ltb-true, ltb-false}
+use borrow.Author.Tests.{eqb-true, eqb-false, ltb-true, ltb-false}
 use Rattle.layout.specs.declared.refusal.Refusal.{Refusal}
 use Rattle.layout.specs.declared.refusal.Refusal.TheVariants.{RuleContent, RuleTypes}
 use Rattle.layout.specs.Refusals.{refusal_numbered}
@@ -74,6 +74,13 @@ gives_map (ok x) h g f = let (y, is, i) = g.reads x refl in gives_read (h x) y r
 -- where a value was none
 pub none_of : {A : Type 0} (e : Refusal) {d : Refusal} (o : Option A) → o ≡ None → Err d ≡ ok_or o e → d ≡ e
 none_of {A} e {d} o z is = let same : ◌≡◌ {A = RustResult A Refusal} (Err d) (Err e) = is ∙ ap (λ (p : Option A). ok_or p e) z in cc
+
+-- a length that is 0, and one that is not, by the test
+pub none_there : (n : ℕ) {empty : Bool} → empty ≡ eqb n 0 → empty ≡ true → n ≡ 0
+none_there n told is = eqb-true n 0 (sym told ∙ is)
+
+pub some_there : (n : ℕ) {empty : Bool} → empty ≡ eqb n 0 → empty ≡ false → n ≡ 0 → ⊥
+some_there n told is = eqb-false n 0 (sym told ∙ is)
 
 -- bytes left over
 pub empty_drop : (n : ℕ) (l : List ℕ) → length l ≤ n → is_empty (drop n l) ≡ true

@@ -6,7 +6,7 @@ use Prim.Native.Nat.{ℕ, zero, suc, ◌+◌, ◌-◌, ◌%◌, ◌<◌, ◌≤�
 use native.Mathlib.Omega.{arith}
 use lib.Dec.{eqb, leb}
 use lib.ListN.{length, length-append, get_or-eq_default}
-use borrow.Author.Tests.{leb-true, leb-false, le-leb, lt-leb, ne_eqb}
+use borrow.Author.Tests.{leb-true, leb-false, lt-leb, ne_eqb}
 use Rattle.layout.specs.Bytes.{byte}
 use Rattle.scalar.specs.declared.types.DataType.{DataType}
 use Rattle.scalar.specs.declared.types.DataType.TheVariants.{Boolean}
@@ -19,13 +19,8 @@ use Rattle.rule.proofs.NodeLaws.{node_byte, node_tag_lem, node_children, trees_s
 use Rattle.rule.proofs.WalkLaws.{nothing_behind, behind_gives, base_flag}
 use Rattle.rule.proofs.LiteralLaws.{type_from_lem}
 
--- where the first THEN stands, behind the rule's end
-pub then_behind : (rule : List ℕ) {at : ℕ} → length rule ≤ at → at ≡ first_then rule at
-unfolding first_then
-then_behind rule {at} none = rw (le-leb (length rule) at none)
-
--- and by the flags
-pub then_told : (rule : List ℕ) (at : ℕ) {flags r : ℕ} → at < length rule → flags ≡ byte rule (at + 3) → r ≡ behind_fields rule (at + 5) (flags % 2 + 1) → r ≡ first_then rule at
+-- where the first THEN stands, by the flags
+then_told : (rule : List ℕ) (at : ℕ) {flags r : ℕ} → at < length rule → flags ≡ byte rule (at + 3) → r ≡ behind_fields rule (at + 5) (flags % 2 + 1) → r ≡ first_then rule at
 unfolding first_then
 then_told rule at room is told =
     told

@@ -16,6 +16,7 @@ fn names_column(rule: &[u8], start: usize, end: usize) -> bool
         return false;
     }
     let mut at = start;
+    // Where the next node stands is read from this one, so no range fits.
     while at < end {
         if rule[at] == tag::COLUMN {
             return true;
@@ -52,6 +53,7 @@ pub(crate) fn constant_fails(rule: &[u8]) -> bool
     ensures { FailsGives rule.now result }
 {
     let mut at = 0;
+    // Where the next node stands is read from this one, so no range fits.
     while at < rule.len() {
         if fails_here(rule, at) {
             return true;

@@ -24,10 +24,8 @@ pub(crate) fn meet_column(
     let new = data_type.number() + 8 * mark;
     let i = index as usize;
     let old = marks[i];
-    if old != 0 {
-        if old != new {
-            return Err(Refusal::RuleTypes);
-        }
+    if old != 0 && old != new {
+        return Err(Refusal::RuleTypes);
     }
     marks[i] = new;
     Ok(FieldFound {
@@ -67,8 +65,7 @@ pub(crate) fn value_fits(data_type: DataType, mark: u8, content: &[u8]) -> bool
             byte_at(content, 2) < 2
         }
         DataType::Int32 => size == 6,
-        DataType::Int64 => size == 10,
-        DataType::Float64 => size == 10,
+        DataType::Int64 | DataType::Float64 => size == 10,
         DataType::Utf8 => true,
     }
 }

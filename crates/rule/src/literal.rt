@@ -8,6 +8,7 @@ use scalar::types::DataType;
 use scalar::value::{Value, float_value};
 
 // The value of the literal at a place. A text is its place in the rule.
+#[tactic(auto, unfolding(crate::specs::Walked::literal_at))]
 pub fn literal_value(rule: &[u8], start: usize, end: usize) -> Value
     ensures { result ≡ literal_at rule.now start end }
 {

@@ -68,6 +68,7 @@ pub(crate) struct BranchesRead {
 }
 
 // Whether NOT, negative or IS NOT NULL takes a type.
+#[tactic(auto, unfolding(crate::specs::Typing::type_of, crate::specs::Typing::node_typed))]
 pub(crate) fn unary_fits(tag: u8, child: DataType) -> bool
     ensures { (e : Expr) → child ≡ type_of e → result ≡ node_typed (unary_of tag e) }
 {
@@ -81,6 +82,7 @@ pub(crate) fn unary_fits(tag: u8, child: DataType) -> bool
 }
 
 // The type that it gives.
+#[tactic(auto, unfolding(crate::specs::Typing::type_of))]
 pub(crate) fn unary_type(tag: u8, child: DataType) -> DataType
     ensures { (e : Expr) → child ≡ type_of e → result ≡ type_of (unary_of tag e) }
 {
@@ -95,13 +97,7 @@ pub(crate) fn unary_type(tag: u8, child: DataType) -> DataType
 pub(crate) fn case_fits(branches: bool, null: bool, from: DataType, to: DataType) -> bool
     ensures { result ≡ (branches && (null || listed from to)) }
 {
-    if branches {
-        if null {
-            return true;
-        }
-        return is_listed(from, to);
-    }
-    false
+    branches && (null || is_listed(from, to))
 }
 
 // A branch before later ones.

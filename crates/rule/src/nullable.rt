@@ -18,6 +18,7 @@ fn stripped_at(rule: &[u8], start: usize) -> usize
     ensures { StrippedGives rule.now start result }
 {
     let mut at = start;
+    // Where the next node stands is read from this one, so no range fits.
     while at < rule.len() {
         match rule[at] {
             tag::NOT | tag::NEGATIVE => at += 3,
@@ -75,6 +76,7 @@ fn nullable_any(rule: &[u8], start: usize, end: usize, depth: usize) -> bool
         return true;
     }
     let mut at = start;
+    // Where the next node stands is read from this one, so no range fits.
     while at < end {
         let next = field_end(rule, at);
         let null = nullable_node(rule, at, next, depth);

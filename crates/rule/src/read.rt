@@ -90,7 +90,7 @@ fn read_unary(node: Node, left: Nesting, marks: &mut [u8; 256]) -> Result<FieldF
 fn read_cast(node: Node, left: Nesting, marks: &mut [u8; 256]) -> Result<FieldFound, Refusal>
     ensures { NodeGives node.entry.end marks.old (read_cast (cast_of node.entry.tag) (read_field left.depth left.cases) node.entry.content.now) result marks.new }
 {
-    if node.content.len() == 0 {
+    if node.content.is_empty() {
         return Err(Refusal::RuleContent);
     }
     let to = DataType::numbered(node.content[0]).ok_or(Refusal::RuleContent)?;
@@ -241,10 +241,7 @@ fn read_root(rule: &[u8], marks: &mut [u8; 256]) -> Result<FieldFound, Refusal>
 fn read_tree(rule: &[u8]) -> Result<RuleFound, Refusal>
     ensures { TreeGives (read_tree rule.now) result }
 {
-    if rule.len() == 0 {
-        return Err(Refusal::RuleSize);
-    }
-    if MOST_BYTES < rule.len() {
+    if rule.is_empty() || MOST_BYTES < rule.len() {
         return Err(Refusal::RuleSize);
     }
     let mut marks = [0u8; 256];

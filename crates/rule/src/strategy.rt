@@ -35,23 +35,19 @@ impl Strategy {
 }
 
 // Whether the node at a place is a null literal.
+#[tactic(auto, unfolding(crate::specs::WalkedStrategy::null_there))]
 fn is_null_literal(rule: &[u8], at: usize) -> bool
     ensures { result ≡ null_there rule.now at }
 {
-    if byte_at(rule, at) != tag::LITERAL {
-        return false;
-    }
-    byte_at(rule, at + 4) == 1
+    byte_at(rule, at) == tag::LITERAL && byte_at(rule, at + 4) == 1
 }
 
 // Whether an ELSE is there that is no null literal.
+#[tactic(auto, unfolding(crate::specs::WalkedStrategy::else_there))]
 fn else_there(rule: &[u8], at: usize, end: usize) -> bool
     ensures { result ≡ else_there rule.now at end }
 {
-    if at == end {
-        return false;
-    }
-    !is_null_literal(rule, at)
+    at != end && !is_null_literal(rule, at)
 }
 
 // Whether so many fields are all literals.
@@ -84,41 +80,33 @@ fn some_when(rule: &[u8], at: usize, count: u8) -> bool
 }
 
 // Whether ELSE is absent, or a literal of the type of a THEN.
+#[tactic(auto, unfolding(crate::specs::WalkedStrategy::else_serves_at))]
 fn else_serves(rule: &[u8], at: usize, end: usize, then: usize) -> bool
     ensures { result ≡ else_serves_at rule.now at end then }
 {
-    let there = else_there(rule, at, end);
-    if !there {
-        return true;
-    }
-    if byte_at(rule, at) != tag::LITERAL {
-        return false;
-    }
-    type_of(rule, at) == type_of(rule, then)
+    !else_there(rule, at, end)
+        || byte_at(rule, at) == tag::LITERAL && type_of(rule, at) == type_of(rule, then)
 }
 
 // Whether a lookup table serves: at least two branches, all literals, some WHEN not null, and an ELSE that serves.
+#[tactic(auto, unfolding(crate::specs::WalkedStrategy::table_serves_at))]
 fn table_serves(rule: &[u8], at: usize, end: usize, count: u8) -> bool
     ensures { result ≡ table_serves_at rule.now at end count }
 {
-    if count < 2 {
-        return false;
-    }
     let fields = 2 * (count as usize);
-    let literals = all_literals(rule, at, fields);
-    if !literals {
-        return false;
-    }
-    let some = some_when(rule, at, count);
-    if !some {
-        return false;
-    }
-    let then = field_end(rule, at);
-    let els = behind_fields(rule, at, fields);
-    else_serves(rule, els, end, then)
+    1 < count
+        && all_literals(rule, at, fields)
+        && some_when(rule, at, count)
+        && else_serves(
+            rule,
+            behind_fields(rule, at, fields),
+            end,
+            field_end(rule, at),
+        )
 }
 
 // One branch without a base: THEN a column and no ELSE, THEN and ELSE literals, or any other.
+#[tactic(auto, unfolding(crate::specs::WalkedStrategy::single_at))]
 fn single_branch(rule: &[u8], at: usize, end: usize) -> Strategy
     ensures { result ≡ single_at rule.now at end }
 {
@@ -142,6 +130,7 @@ fn single_branch(rule: &[u8], at: usize, end: usize) -> Strategy
 }
 
 // The strategy of the CASE at a place; where none stands, that of no expression.
+#[tactic(auto, unfolding(crate::specs::WalkedStrategy::strategy_at))]
 pub fn strategy_at(rule: &[u8], start: usize, end: usize) -> Strategy
     ensures { result ≡ strategy_at rule.now start end }
 {

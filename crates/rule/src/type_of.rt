@@ -15,6 +15,7 @@ pub fn type_numbered(n: u8) -> DataType
 }
 
 // Where the first THEN of the CASE at a place stands: behind the base, if there is one, and a WHEN.
+#[tactic(auto, unfolding(crate::specs::Walked::first_then))]
 fn first_then(rule: &[u8], at: usize) -> usize
     ensures { result ≡ first_then rule.now at }
 {
@@ -30,6 +31,7 @@ pub fn type_of(rule: &[u8], start: usize) -> DataType
     ensures { result ≡ type_at rule.now start }
 {
     let mut at = start;
+    // Where the next node stands is read from this one, so no range fits.
     while at < rule.len() {
         match rule[at] {
             tag::COLUMN => return type_numbered(byte_at(rule, at + 4)),

@@ -6,6 +6,7 @@ use crate::tag;
 use layout::field::field_at;
 
 // Where the field at a place ends.
+#[tactic(auto, unfolding(crate::specs::Walked::field_end))]
 pub fn field_end(rule: &[u8], at: usize) -> usize
     ensures { result ≡ field_end rule.now at }
 {
@@ -19,6 +20,7 @@ pub fn field_end(rule: &[u8], at: usize) -> usize
 }
 
 // Where a node's children stand: behind its header, a type byte of a cast, flags and count of a CASE; a leaf has none.
+#[tactic(auto, unfolding(crate::specs::Walked::children_at))]
 pub fn children_at(rule: &[u8], at: usize) -> usize
     ensures { result ≡ children_at rule.now at }
 {

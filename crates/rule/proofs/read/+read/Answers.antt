@@ -6,7 +6,7 @@ use borrow.Author.Rules.{rules}
 use Rattle.rule.specs.Reading.{read_field}
 use Rattle.scalar.specs.Types.{type_means}
 use Rattle.scalar.proofs.TypeLaws.{type_means_lem}
-use Rattle.rule.proofs.StepLaws.{none_of}
+use Rattle.rule.proofs.StepLaws.{none_of, none_there, some_there}
 use Rattle.layout.proofs.AnswerLaws.{passed_on}
 use Rattle.rule.proofs.CycleLaws.{unary_refused, unary_gives, binary_refused, second_refused, binary_gives, cast_short, cast_untyped, cast_refused, cast_gives, optional_there, optional_absent, branches_none, branches_refused, branches_give, then_refused, later_refused, then_gives, parts_unbased, parts_unbranched, parts_unended, parts_give, case_none, case_short, case_flags, case_unbranched, case_many, case_gives, kind_column, kind_literal, kind_unary, kind_cast, kind_binary, kind_case, field_cut, field_unknown, field_deep, field_gives, tag_other}
 use Rattle.rule.proofs.read.+read.Goals as goal
@@ -48,17 +48,17 @@ read_case-returns-then-count-gt-MOST_BRANCHES t c = λ cols outer s. case_many (
 pub read_case-returns : goal.read_case-returns
 read_case-returns t c = λ cols outer s. case_gives (read_field c.args.left.depth) cols outer c.args.node.end _ c.args.left.cases c.if-left-eq0.false c.args.node.content.now c.if-node-lt2.false c.if-flags-gt3.false c.if-count-eq0.false c.if-count-gt-MOST_BRANCHES.false (c.read_parts.ensures cols outer s)
 
-pub read_cast-returns-then-node-eq0 : goal.read_cast-returns-then-node-eq0
-read_cast-returns-then-node-eq0 t c = λ cols outer s. cast_short (read_field c.args.left.depth c.args.left.cases) cols outer c.args.node.end c.args.node.tag _ c.args.node.content.now c.if-node-eq0.true
+pub read_cast-returns-then-is_empty : goal.read_cast-returns-then-is_empty
+read_cast-returns-then-is_empty t c = λ cols outer s. cast_short (read_field c.args.left.depth c.args.left.cases) cols outer c.args.node.end c.args.node.tag _ c.args.node.content.now (none_there _ c.is_empty.ensures c.if-is_empty.true)
 
 pub read_cast-returns-in_err-to : goal.read_cast-returns-in_err-to
-read_cast-returns-in_err-to t c = λ cols outer s. rw (passed_on c.from_residual.result c.from_residual.ensures.1, none_of _ _ c.in_err-to.ensures.ok_part c.in_err-to.ensures.value) (cast_untyped (read_field c.args.left.depth c.args.left.cases) cols outer c.args.node.end c.args.node.tag _ c.args.node.content.now c.if-node-eq0.false (sym (type_means_lem 3 _ c.numbered.ensures) ∙ ap (type_means 3) c.in_err-to.ensures.ok_part))
+read_cast-returns-in_err-to t c = λ cols outer s. rw (passed_on c.from_residual.result c.from_residual.ensures.1, none_of _ _ c.in_err-to.ensures.ok_part c.in_err-to.ensures.value) (cast_untyped (read_field c.args.left.depth c.args.left.cases) cols outer c.args.node.end c.args.node.tag _ c.args.node.content.now (some_there _ c.is_empty.ensures c.if-is_empty.false) (sym (type_means_lem 3 _ c.numbered.ensures) ∙ ap (type_means 3) c.in_err-to.ensures.ok_part))
 
 pub read_cast-returns-in_err-a : goal.read_cast-returns-in_err-a
-read_cast-returns-in_err-a t c = λ cols outer s. rw (passed_on c.from_residual-in_err-a.result c.from_residual-in_err-a.ensures.1) (cast_refused (read_field c.args.left.depth c.args.left.cases) cols outer c.args.node.end c.args.node.tag _ c.args.node.content.now c.in_ok-to.to c.if-node-eq0.false (sym (type_means_lem 3 _ c.numbered.ensures) ∙ ap (type_means 3) c.in_ok-to.ensures.ok_part) (c.read_field.ensures cols s) c.in_err-a.was)
+read_cast-returns-in_err-a t c = λ cols outer s. rw (passed_on c.from_residual-in_err-a.result c.from_residual-in_err-a.ensures.1) (cast_refused (read_field c.args.left.depth c.args.left.cases) cols outer c.args.node.end c.args.node.tag _ c.args.node.content.now c.in_ok-to.to (some_there _ c.is_empty.ensures c.if-is_empty.false) (sym (type_means_lem 3 _ c.numbered.ensures) ∙ ap (type_means 3) c.in_ok-to.ensures.ok_part) (c.read_field.ensures cols s) c.in_err-a.was)
 
 pub read_cast-returns : goal.read_cast-returns
-read_cast-returns t c = λ cols outer s. cast_gives (read_field c.args.left.depth c.args.left.cases) cols outer c.args.node.end c.args.node.tag _ c.args.node.content.now c.in_ok-to.to c.in_ok-a.a _ c.if-node-eq0.false (sym (type_means_lem 3 _ c.numbered.ensures) ∙ ap (type_means 3) c.in_ok-to.ensures.ok_part) (c.read_field.ensures cols s) c.in_ok-a.was c.is_listed.ensures c.close.ensures
+read_cast-returns t c = λ cols outer s. cast_gives (read_field c.args.left.depth c.args.left.cases) cols outer c.args.node.end c.args.node.tag _ c.args.node.content.now c.in_ok-to.to c.in_ok-a.a _ (some_there _ c.is_empty.ensures c.if-is_empty.false) (sym (type_means_lem 3 _ c.numbered.ensures) ∙ ap (type_means 3) c.in_ok-to.ensures.ok_part) (c.read_field.ensures cols s) c.in_ok-a.was c.is_listed.ensures c.close.ensures
 
 pub read_field-returns-in_err-f : goal.read_field-returns-in_err-f
 read_field-returns-in_err-f t c = λ cols s. rw (passed_on c.from_residual.result c.from_residual.ensures.1, none_of _ _ c.in_err-f.ensures.ok_part c.in_err-f.ensures.value) (field_cut c.args.left.cases c.args.s.now c.args.at cols _ c.args.left.depth (sym c.field_at.ensures ∙ c.in_err-f.ensures.ok_part))
