@@ -1,6 +1,6 @@
 -- Lookup tables: a search for the first that is the same, equal keys, and a table that has each base at the index of the first WHEN that equals it.
 -- Assumes nothing.
-use Rattle.std.proofs.Common.{◌≡◌, ℕ, zero, suc, ◌+◌, ◌-◌, ◌*◌, ◌/◌, ◌%◌, ◌^◌, ◌<◌, ◌≤◌, Bool, true, false, cond, ◌&&◌, eqb, List, [], ◌∷◌, length, get_or, set, sym, refl, ap, ◌∙◌, subst, ap₂, add-zero, add-suc, suc-add, add-one, arith, length-set, get_or-set_other, get_or-set_same, eq-eqb, ne_eqb, eqb-true}
+use Rattle.std.proofs.Common.{◌≡◌, ℕ, zero, suc, ◌+◌, ◌-◌, ◌*◌, ◌/◌, ◌%◌, ◌^◌, ◌<◌, ◌≤◌, Bool, true, false, cond, ◌&&◌, eqb, List, [], ◌∷◌, get_or, set, sym, refl, ap, ◌∙◌, subst, ap₂, add-zero, add-suc, suc-add, add-one, arith, length-set, get_or-set_other, get_or-set_same, eq-eqb, ne_eqb, eqb-true}
 use native.Mathlib.Nat.{sub-zero}
 use native.Mathlib.Decide.{ℕ_discrete}
 use lib.Ieee.{binary64, nan_bits, of_bits}
@@ -16,11 +16,9 @@ use Rattle.scalar.specs.Text.{same_bytes}
 use Rattle.scalar.specs.Value.{meaning, value_of, kind_of, payload_of, place_text, Storable}
 use Rattle.scalar.proofs.ValueLaws.{payload_back}
 use Rattle.scalar.proofs.EntryLaws.{agree_eq}
-use Rattle.scalar.proofs.TextLaws.{same_length}
-use Rattle.case.proofs.WordLaws.{rule_bytes, table_bytes_lem, place_cut, place_few}
 use Rattle.case.specs.declared.boolean_lookup_table.BooleanIndexMap.{BooleanIndexMap}
 use Rattle.case.specs.LookUpBooleans.{BooleansOf}
-use Rattle.case.specs.LookUpTables.{bytes_of, same_key, found, value_at, key_index, when_index, base_index, number_index, Keys, EachOnce, TableOf, Added}
+use Rattle.case.specs.LookUpTables.{same_key, found, value_at, key_index, when_index, base_index, number_index, Keys, EachOnce, TableOf, Added}
 
 -- ---- a search
 
@@ -166,32 +164,9 @@ module _ (rule table text : List ℕ) (k p : ℕ) where
   unfolding pair_of value_of
   text_in_rule e q = q ∙ sym (ap (λ (x : ℕ). same_key (entry (utf8 text)) (meaning rule table (value_of x p))) e)
 
-  text_in_table : {r : Bool} → k ≡ 6 → r ≡ same_bytes text (place_text table (p % 2 ^ 32) (p / 2 ^ 32)) → r ≡ same_key (entry (utf8 text)) (meaning rule table (value_of k p))
+  pub text_in_table : {r : Bool} → k ≡ 6 → r ≡ same_bytes text (place_text table (p % 2 ^ 32) (p / 2 ^ 32)) → r ≡ same_key (entry (utf8 text)) (meaning rule table (value_of k p))
   unfolding pair_of value_of
   text_in_table e q = q ∙ sym (ap (λ (x : ℕ). same_key (entry (utf8 text)) (meaning rule table (value_of x p))) e)
-
-  module _ (low : 5 ≤ k) (high : k ≤ 6) where
-    text_of_kind : {r : Bool} → r ≡ same_bytes text (place_text (bytes_of k rule table) (p % 2 ^ 32) (p / 2 ^ 32)) → r ≡ same_key (entry (utf8 text)) (meaning rule table (value_of k p))
-    text_of_kind {r} q = go (ℕ_discrete k 5)
-      where
-        in_bytes : {l : List ℕ} → bytes_of k rule table ≡ l → r ≡ same_bytes text (place_text l (p % 2 ^ 32) (p / 2 ^ 32))
-        in_bytes e = q ∙ ap (λ (l : List ℕ). same_bytes text (place_text l (p % 2 ^ 32) (p / 2 ^ 32))) e
-
-        go : Dec (k ≡ 5) → r ≡ same_key (entry (utf8 text)) (meaning rule table (value_of k p))
-        go (yes e) = text_in_rule e (in_bytes (rule_bytes rule table e))
-        go (no n) = text_in_table (omega arith) (in_bytes (table_bytes_lem rule table n))
-
-    module _ {n : ℕ} (size : n ≡ length (place_text (bytes_of k rule table) (p % 2 ^ 32) (p / 2 ^ 32))) where
-      -- of another size
-      pub text_unlike : (n ≡ length text → ⊥) → false ≡ same_key (entry (utf8 text)) (meaning rule table (value_of k p))
-      text_unlike d = text_of_kind (sym (same_length text (place_text (bytes_of k rule table) (p % 2 ^ 32) (p / 2 ^ 32)) (λ e. d (size ∙ sym e))))
-
-      -- of the same size
-      pub text_few : n ≡ length text → length text ≤ length (bytes_of k rule table) - p % 2 ^ 32
-      text_few e = place_few (bytes_of k rule table) (p % 2 ^ 32) (p / 2 ^ 32) (sym size ∙ e)
-
-      pub text_like : {r : Bool} → n ≡ length text → r ≡ same_bytes text (place_text (bytes_of k rule table) (p % 2 ^ 32) (length text)) → r ≡ same_key (entry (utf8 text)) (meaning rule table (value_of k p))
-      text_like e q = text_of_kind (q ∙ ap (same_bytes text) (sym (place_cut (bytes_of k rule table) (p % 2 ^ 32) (p / 2 ^ 32) (sym size ∙ e))))
 
 pub text_nowhere : (rule table text : List ℕ) (k p : ℕ) → (k ≡ 5 → ⊥) → (k ≡ 6 → ⊥) → false ≡ same_key (entry (utf8 text)) (meaning rule table (value_of k p))
 unfolding pair_of value_of

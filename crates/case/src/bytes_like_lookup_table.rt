@@ -1,72 +1,76 @@
 // Text keys, by their bytes.
-ghost use Rattle.std.specs.Prelude.{◌≡◌, ℕ, ◌+◌, ◌-◌, ◌<◌, ◌≤◌, true, length, slice_index};
-ghost use Rattle.layout.specs.Bytes.{Bytes, number_at};
+ghost use Rattle.std.specs.Prelude.{◌≡◌, ◌<◌, ◌≤◌, true, length, slice_index};
+ghost use Rattle.layout.specs.Bytes.{Bytes};
 ghost use Rattle.scalar.specs.Entry.{entry, utf8};
 ghost use Rattle.scalar.specs.Text.{same_bytes};
-ghost use Rattle.scalar.specs.Value.{meaning, place_text, value_of};
-ghost use Rattle.case.specs.LookUpTables.{Keys, EachOnce, bytes_of, same_key, key_index, value_at};
+ghost use Rattle.scalar.specs.Value.{meaning, value_of};
+ghost use Rattle.case.specs.LookUpTables.{EachOnce, same_key, key_index, value_at};
 ghost use Rattle.case.specs.LookUpColumns.{text_hint, outcome_hint, Hinted, rule_text, text_mark, KeySize, Marked, MarkIs, TextTable};
 
 use crate::slot::word;
 use crate::when_literal_index_map::WhenLiteralIndexMap;
 use scalar::text::place_text;
 
-// The bytes that a text of a kind is in. Kind 5 is text in the rule, any other in the table.
-fn bytes_in<'a>(rule: &'a [u8], table: &'a [u8], kind: u8) -> &'a [u8]
-    ensures { result.now ≡ bytes_of kind rule.now table.now }
-{
-    if kind == 5 { rule } else { table }
-}
-
-// Whether a text is the bytes from a place on, one at a time from the back.
-fn same_short(bytes: &[u8], start: usize, text: &[u8]) -> bool
-    requires { length text.now ≤ length bytes.now - start }
-    ensures { result ≡ same_bytes text.now (place_text bytes.now start (length text.now)) }
+// Whether two texts of one size are the same bytes, one at a time from the back.
+fn same_short(there: &[u8], text: &[u8]) -> bool
+    requires { length text.now ≡ length there.now }
+    ensures { result ≡ same_bytes text.now there.now }
 {
     for left in (0..text.len()).rev() {
-        if text[left] != bytes[start + left] {
+        if text[left] != there[left] {
             return false;
         }
     }
     true
 }
 
-// The same, four at a time where there are so many: names often begin alike.
-fn same_in(bytes: &[u8], start: usize, text: &[u8]) -> bool
-    requires { length text.now ≤ length bytes.now - start }
-    ensures { result ≡ same_bytes text.now (place_text bytes.now start (length text.now)) }
+// The same of four bytes or more, four at a time: names often begin alike.
+fn same_long(there: &[u8], text: &[u8]) -> bool
+    requires { (length text.now ≡ length there.now) × (4 ≤ length text.now) }
+    ensures { result ≡ same_bytes text.now there.now }
 {
-    if text.len() < 4 {
-        return same_short(bytes, start, text);
-    }
     let mut left = text.len();
     // no plainer as a `for`: it would count fours, and the place from the back would be computed of each
     while 4 <= left {
         left -= 4;
-        if word(text, left) != word(bytes, start + left) {
+        if word(text, left) != word(there, left) {
             return false;
         }
     }
-    word(text, 0) == word(bytes, start)
+    word(text, 0) == word(there, 0)
 }
 
-// Whether a key, by its kind and payload, is a text of these bytes. The sizes tell most texts apart.
+// Whether two texts are the same bytes. The sizes tell most texts apart.
+fn same_text(there: &[u8], text: &[u8]) -> bool
+    ensures { result ≡ same_bytes text.now there.now }
+{
+    if there.len() != text.len() {
+        return false;
+    }
+    if text.len() < 4 {
+        return same_short(there, text);
+    }
+    same_long(there, text)
+}
+
+// The text of a key in the bytes it is in, by its payload.
+fn key_text(bytes: &[u8], payload: u64) -> &[u8]
+    ensures { result.now ≡ rule_text bytes.now payload }
+{
+    let start = (payload % 0x1_0000_0000) as usize;
+    let size = (payload / 0x1_0000_0000) as usize;
+    place_text(bytes, start, size)
+}
+
+// Whether a key, by its kind and payload, is a text of these bytes. Kind 5 is text in the rule, 6 in the table.
 fn is_text(rule: &[u8], table: &[u8], text: &[u8], kind: u8, payload: u64) -> bool
     ensures { result ≡ same_key (entry (utf8 text.now)) (meaning rule.now table.now (value_of kind payload)) }
 {
-    if kind < 5 {
-        return false;
+    match kind {
+        5 => same_text(key_text(rule, payload), text),
+        6 => same_text(key_text(table, payload), text),
+        _ => false,
     }
-    if 6 < kind {
-        return false;
-    }
-    let start = (payload % 0x1_0000_0000) as usize;
-    let size = (payload / 0x1_0000_0000) as usize;
-    let bytes = bytes_in(rule, table, kind);
-    if place_text(bytes, start, size).len() != text.len() {
-        return false;
-    }
-    same_in(bytes, start, text)
 }
 
 impl WhenLiteralIndexMap {
@@ -92,15 +96,6 @@ fn text_hint(text: &[u8]) -> usize
         return 0;
     }
     (size % 256 + 8 * (text[size - 1] as usize)) % 256
-}
-
-// The text of a key in the bytes it is in, by its payload.
-fn key_text(bytes: &[u8], payload: u64) -> &[u8]
-    ensures { result.now ≡ rule_text bytes.now payload }
-{
-    let start = (payload % 0x1_0000_0000) as usize;
-    let size = (payload / 0x1_0000_0000) as usize;
-    place_text(bytes, start, size)
 }
 
 // The hint of a key, by its kind and payload.

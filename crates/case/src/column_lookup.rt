@@ -5,8 +5,8 @@ ghost use Rattle.scalar.specs.Types.{type_number};
 ghost use Rattle.case.specs.Frame.{Rows};
 ghost use Rattle.case.specs.Steps.{RowsIndexed};
 ghost use Rattle.case.specs.LookUp.{KeyedGive};
-ghost use Rattle.case.specs.LookUpTables.{Keys, EachOnce};
-ghost use Rattle.case.specs.LookUpColumns.{NumberTable, NumberRow, dense_row, Marked, TextTable, TextRow, ColumnKeyed, BaseGives};
+ghost use Rattle.case.specs.LookUpTables.{EachOnce};
+ghost use Rattle.case.specs.LookUpColumns.{NumberRow, dense_row, TextRow, ColumnKeyed, BaseGives};
 
 use crate::bytes_like_lookup_table::BytesLikeIndexMap;
 use crate::keys::column_keys;

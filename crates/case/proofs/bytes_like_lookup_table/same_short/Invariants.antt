@@ -1,7 +1,6 @@
 -- `same_short` goes byte by byte. The loop's invariant: from `left` on the texts are one.
 use Rattle.std.proofs.Common.{◌≡◌, ◌≤◌, length, drop}
-use Rattle.scalar.specs.Value.{place_text}
 use Rattle.case.proofs.bytes_like_lookup_table.same_short.Given as goal
 
 abbrev pub invariant-loop-left : goal.invariant-loop-left
-invariant-loop-left l = (l.left ≤ length l.text) × (drop l.left l.text ≡ drop l.left (place_text l.bytes l.start (length l.text)))
+invariant-loop-left l = (l.left ≤ length l.text) × (drop l.left l.text ≡ drop l.left l.there)
