@@ -13,7 +13,7 @@ use crate::literal_lookup_table::look_up;
 use crate::merge::else_values;
 use crate::results::start_results;
 use crate::rows::{Op, apply, copy_list, operator_at};
-use crate::settle::{Leave, Settled, asks_true, open_builder, settle, settle_by};
+use crate::settle::{Leave, Settled, open_builder, settle, settle_by};
 use crate::steps::{step_values, step_when};
 use crate::taking::{copy_slots, pick};
 use builder::ResultBuilder;
@@ -492,7 +492,7 @@ fn turn(
 {
     let mut whens = [0u16; 512];
     if step_when(
-        asks_true(how),
+        how.asks_true(),
         rule,
         start,
         end,

@@ -1,4 +1,4 @@
-use Rattle.std.proofs.Common.{sym, ◌∙◌, arith}
+use Rattle.std.proofs.Common.{◌≡◌, sym, ◌∙◌, arith}
 use Rattle.case.proofs.SplitLaws.{split_none, split_ends, split_in, split_few, split_fits, stay_in, slots_kept, split_stays, split_leaves}
 use Rattle.case.proofs.settle.split.Goals as goal
 use Rattle.case.proofs.settle.split.Goals.{then-class-eq0, else-class-eq0}
@@ -39,7 +39,9 @@ overflow_add-m g c = omega (arith, (split_few c.loop-i.invariant c.requires.rows
 pub loop-i-preserved : goal.loop-i-preserved
 loop-i-preserved g c =
     let kept = slots_kept c.loop-i.invariant c.requires.rows c.requires.in_bounds.0 c.loop-i-test.true c.row_at-r.ensures in
-    let is = c.class_of-class.ensures ∙ g.met.L.Leaving.by_slots c.args.leaving.now c.args.work.now c.loop-i.work c.row_at-r.result kept.0 kept.1 in
+    let is : c.class_of-class.result ≡ g.L.Leaving.class c.args.leaving.now c.args.work.now c.row_at-r.result =
+    ◌∙◌ {b = g.L.Leaving.class c.args.leaving.now c.loop-i.work c.row_at-r.result} c.class_of-class.ensures
+    (g.met.L.Leaving.by_slots c.args.leaving.now c.args.work.now c.loop-i.work c.row_at-r.result kept.0 kept.1) in
     elim c.if-class-eq0.branch [ then-class-eq0 w ↦ split_stays c.loop-i.invariant c.requires.rows c.requires.in_bounds.0 c.loop-i-test.true c.row_at-r.ensures w.put_row.ensures (sym is ∙ w.if-class-eq0.true) w.work-is w.rows-is w.values-is w.m-is | else-class-eq0 w ↦ split_leaves c.loop-i.invariant c.requires.rows c.requires.in_bounds.0 c.loop-i-test.true c.row_at-r.ensures is w.if-class-eq0.false c.requires.in_bounds.1 c.requires.in_bounds.2 w.work-is w.rows-is w.values-is w.m-is ]
 
 pub shape_of-work : goal.shape_of-work
