@@ -20,11 +20,11 @@ against-returns-then-depth-eq0 t c = against_none c.if-depth-eq0.true
 pub against-compare_value-requires : goal.against-compare_value-requires
 against-compare_value-requires t c = let r = c.requires.room in record { fillable = framed_fillable c.requires (omega arith); in_bounds = omega arith }
 
-pub against-shape_of-work-then-byte_at-eq17 : goal.against-shape_of-work-then-byte_at-eq17
-against-shape_of-work-then-byte_at-eq17 t c = c.compare_value.ensures.long
+pub against-shape_of-work-then-byte_at-eq-LITERAL : goal.against-shape_of-work-then-byte_at-eq-LITERAL
+against-shape_of-work-then-byte_at-eq-LITERAL t c = c.compare_value.ensures.long
 
-pub against-returns-then-byte_at-eq17 : goal.against-returns-then-byte_at-eq17
-against-returns-then-byte_at-eq17 t c = against_value c.requires.list_ok.few (sym c.byte_at.ensures ∙ c.if-byte_at-eq17.true) (literal_gives c.literal_value.ensures) c.compare_value.ensures
+pub against-returns-then-byte_at-eq-LITERAL : goal.against-returns-then-byte_at-eq-LITERAL
+against-returns-then-byte_at-eq-LITERAL t c = against_value c.requires.list_ok.few (sym c.byte_at.ensures ∙ c.if-byte_at-eq-LITERAL.true) (literal_gives c.literal_value.ensures) c.compare_value.ensures
 
 pub against-copy_list-requires : goal.against-copy_list-requires
 against-copy_list-requires t c = let f = c.requires.list_ok.few in let r = c.requires.room in (omega arith, omega arith)
@@ -233,47 +233,32 @@ expr-returns-then-rule-start t c = expr_behind c.if-rule-start.true
 pub expr-fill_cells-requires : goal.expr-fill_cells-requires
 expr-fill_cells-requires t c = (framed_fillable c.requires (omega arith), c.requires.short)
 
-pub expr-shape_of-work-then-tag-eq16 : goal.expr-shape_of-work-then-tag-eq16
-expr-shape_of-work-then-tag-eq16 t c = c.fill_cells.ensures.long
-
-pub expr-returns-then-tag-eq16 : goal.expr-returns-then-tag-eq16
-expr-returns-then-tag-eq16 t c = expr_column c.requires c.if-tag-eq16.true c.byte_at.ensures c.fill_cells.ensures
+pub expr-returns-in-16 : goal.expr-returns-in-16
+expr-returns-in-16 t c = expr_column c.requires c.in-16.is c.byte_at.ensures c.fill_cells.ensures
 
 pub expr-fill_literal-requires : goal.expr-fill_literal-requires
 expr-fill_literal-requires t c = framed_fillable c.requires (omega arith)
 
-pub expr-shape_of-work-then-tag-eq17 : goal.expr-shape_of-work-then-tag-eq17
-expr-shape_of-work-then-tag-eq17 t c = c.fill_literal.ensures.long
-
-pub expr-returns-then-tag-eq17 : goal.expr-returns-then-tag-eq17
-expr-returns-then-tag-eq17 t c = expr_literal c.requires c.if-tag-eq17.true c.fill_literal.ensures
+pub expr-returns-in-17 : goal.expr-returns-in-17
+expr-returns-in-17 t c = expr_literal c.requires c.in-17.is c.fill_literal.ensures
 
 pub expr-case-requires : goal.expr-case-requires
 expr-case-requires t c = let q = c.decreases in (omega arith, framed_below c.requires (c.args.depth - 1 + 1) (omega arith))
 
-pub expr-shape_of-work-then-tag-eq25 : goal.expr-shape_of-work-then-tag-eq25
-expr-shape_of-work-then-tag-eq25 t c = c.case.ensures.long
-
-pub expr-returns-then-tag-eq25 : goal.expr-returns-then-tag-eq25
-expr-returns-then-tag-eq25 t c = expr_case c.requires (omega arith) c.if-tag-eq25.true c.case.ensures
+pub expr-returns-in-25 : goal.expr-returns-in-25
+expr-returns-in-25 t c = expr_case c.requires (omega arith) c.in-25.is c.case.ensures
 
 pub expr-unary-requires : goal.expr-unary-requires
 expr-unary-requires t c = let q = c.decreases in (omega arith, framed_below c.requires (c.args.depth - 1 + 1) (omega arith))
 
-pub expr-shape_of-work-then-tag-lt23 : goal.expr-shape_of-work-then-tag-lt23
-expr-shape_of-work-then-tag-lt23 t c = c.unary.ensures.long
-
-pub expr-returns-then-tag-lt23 : goal.expr-returns-then-tag-lt23
-expr-returns-then-tag-lt23 t c = expr_unary c.requires (omega arith) refl c.if-tag-eq16.false c.if-tag-eq17.false c.if-tag-eq25.false c.if-tag-lt23.true c.unary.ensures
+pub expr-returns-in-0-to-22 : goal.expr-returns-in-0-to-22
+expr-returns-in-0-to-22 t c = expr_unary c.requires (omega arith) refl (λ e. omega arith) (λ e. omega arith) (λ e. omega arith) (omega arith) c.unary.ensures
 
 pub expr-binary-requires : goal.expr-binary-requires
 expr-binary-requires t c = let q = c.decreases in (omega arith, framed_below c.requires (c.args.depth - 1 + 1) (omega arith))
 
-pub expr-shape_of-work : goal.expr-shape_of-work
-expr-shape_of-work t c = c.binary.ensures.long
-
-pub expr-returns : goal.expr-returns
-expr-returns t c = expr_binary c.requires (omega arith) refl c.if-tag-eq16.false c.if-tag-eq17.false c.if-tag-eq25.false c.if-tag-lt23.false c.binary.ensures
+pub expr-returns-in_default : goal.expr-returns-in_default
+expr-returns-in_default t c = expr_binary c.requires (omega arith) refl (λ e. omega arith) (λ e. omega arith) (λ e. omega arith) (omega arith) c.binary.ensures
 
 pub expr_or_expr-step_values-requires : goal.expr_or_expr-step_values-requires
 expr_or_expr-step_values-requires t c = let f = c.requires.framed in let k = f.list_ok.few in let r = f.room in record { rows = (rows_small f.small f.list_ok, omega arith); values_len = omega arith }
@@ -350,8 +335,8 @@ take-returns t c = start_done c.requires.framed c.start_results.ensures (take_en
 pub take_else-returns-then-at-end : goal.take_else-returns-then-at-end
 take_else-returns-then-at-end t c = else_none c.if-at-end.true
 
-pub take_else-returns-then-byte_at-eq17 : goal.take_else-returns-then-byte_at-eq17
-take_else-returns-then-byte_at-eq17 t c = else_known_lem (sym c.byte_at.ensures ∙ c.if-byte_at-eq17.true)
+pub take_else-returns-then-byte_at-eq-LITERAL : goal.take_else-returns-then-byte_at-eq-LITERAL
+take_else-returns-then-byte_at-eq-LITERAL t c = else_known_lem (sym c.byte_at.ensures ∙ c.if-byte_at-eq-LITERAL.true)
 
 pub take_else-pick-m-requires : goal.take_else-pick-m-requires
 take_else-pick-m-requires t c = let d = c.requires.depth_nonzero.0 in let r = c.requires.framed.room in record { rows = rows_small c.requires.framed.small c.requires.framed.list_ok; in_bounds = (omega arith, c.requires.depth_nonzero.1) }
@@ -389,8 +374,8 @@ take_else-shape_of-work t c = (else_takes c.args.values.now c.requires.framed c.
 pub take_else-returns : goal.take_else-returns
 take_else-returns t c = else_takes c.args.values.now c.requires.framed c.requires.depth_nonzero.0 c.pick-m.ensures c.if-at-end.false c.expr.ensures c.args.to c.apply.ensures c.copy_slots.ensures
 
-pub then-returns-then-byte_at-eq17 : goal.then-returns-then-byte_at-eq17
-then-returns-then-byte_at-eq17 t c = then_known (sym c.byte_at.ensures ∙ c.if-byte_at-eq17.true)
+pub then-returns-then-byte_at-eq-LITERAL : goal.then-returns-then-byte_at-eq-LITERAL
+then-returns-then-byte_at-eq-LITERAL t c = then_known (sym c.byte_at.ensures ∙ c.if-byte_at-eq-LITERAL.true)
 
 pub then-pick-m-requires : goal.then-pick-m-requires
 then-pick-m-requires t c = let d = c.requires.depth_nonzero.0 in let r = c.requires.framed.room in record { rows = rows_small c.requires.framed.small c.requires.framed.list_ok; in_bounds = (omega arith, c.requires.depth_nonzero.1) }
