@@ -24,6 +24,22 @@ pub(crate) enum Leave {
     Rest,
 }
 
+impl Leave {
+    // Whether a row leaves where its WHEN is true.
+    pub(crate) fn asks_true(self) -> bool
+        ensures { result ≡ asks_true self }
+    {
+        matches!(self, Leave::TrueWhen)
+    }
+
+    // Whether a row leaves where its WHEN equals its base.
+    fn asks_equal(self) -> bool
+        ensures { result ≡ asks_equal self }
+    {
+        matches!(self, Leave::EqualWhen)
+    }
+}
+
 // How many rows are left in the open list, and the builder.
 #[derive(Clone, Copy)]
 pub(crate) struct Settled {
@@ -162,13 +178,6 @@ fn split<L: Leaving>(
     m
 }
 
-// Whether a row leaves where its WHEN equals its base.
-fn asks_equal(how: Leave) -> bool
-    ensures { result ≡ asks_equal how }
-{
-    matches!(how, Leave::EqualWhen)
-}
-
 // The order of each open row's base and WHEN, where the way of leaving asks for it.
 fn fill_orders(
     rule: &[u8],
@@ -182,7 +191,7 @@ fn fill_orders(
     requires in_bounds { (12288 ≤ length work.now) × (length orders.old ≡ 512) }
     ensures { OrdersFor how rule.now table.now work.now left orders.new }
 {
-    if asks_equal(how) {
+    if how.asks_equal() {
         compare_list(rule, table, work, 5632, left, false, Value::Null, orders);
     }
 }
@@ -241,13 +250,6 @@ pub(crate) fn settle(
         failed,
     };
     settle_rows(work, left, &leaving, b)
-}
-
-// Whether a row leaves where its WHEN is true.
-pub(crate) fn asks_true(how: Leave) -> bool
-    ensures { result ≡ asks_true how }
-{
-    matches!(how, Leave::TrueWhen)
 }
 
 // The same, where rows leave whose WHEN has index 1.

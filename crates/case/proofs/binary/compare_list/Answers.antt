@@ -1,4 +1,4 @@
-use Rattle.std.proofs.Common.{sym, ◌∙◌, arith}
+use Rattle.std.proofs.Common.{arith}
 use Rattle.case.proofs.CompareLaws.{order_right, orders_none, orders_room, orders_more, orders_all}
 use Rattle.case.proofs.binary.compare_list.Goals as goal
 
@@ -14,14 +14,8 @@ get_slot-x-requires c = (omega (arith, orders_room c.loop-i.invariant c.requires
 pub second_side-y-requires : goal.second_side-y-requires
 second_side-y-requires c = (omega (arith, orders_room c.loop-i.invariant c.requires.rows.0 c.loop-i-test.true c.row_at-r.ensures, c.loop-i.invariant.long), c.requires.in_bounds.0)
 
-pub bounds-orders-r : goal.bounds-orders-r
-bounds-orders-r c = orders_room c.loop-i.invariant c.requires.rows.0 c.loop-i-test.true c.row_at-r.ensures
-
 pub loop-i-preserved : goal.loop-i-preserved
 loop-i-preserved c = orders_more c.loop-i.invariant c.requires.rows.0 c.loop-i-test.true c.row_at-r.ensures (order_right c.args.rule.now c.args.table.now c.get_slot-x.ensures.0 c.second_side-y.ensures c.order_at.ensures)
-
-pub shape_of-orders : goal.shape_of-orders
-shape_of-orders c = c.loop-i.invariant.long ∙ sym c.requires.in_bounds.1
 
 pub returns : goal.returns
 returns c = orders_all c.loop-i.invariant (omega arith)
