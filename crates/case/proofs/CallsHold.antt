@@ -2,15 +2,16 @@
 use Rattle.std.proofs.Common.{◌≡◌, ℕ, List, ◌++◌, length, take, drop, sym, ap, ◌∙◌, subst}
 use lib.Seq.{take-append_seam}
 use Rattle.layout.specs.Result.{Result, ok}
-use Rattle.writer.specs.declared.RunAnswer.TheVariants.{Answered}
+use Rattle.std.specs.Prelude.{Ok}
 use Rattle.writer.specs.Written.{run_answer, output_after}
 use Rattle.case.specs.Promise.{call_run}
 use Rattle.case.specs.Demands.{Holds, Counts, null_rows, CallsAgree, CallCounts, CallFailsExactly}
 use Rattle.case.proofs.RunLaws.{answered_run, refused_run}
+use Rattle.case.proofs.EndsHold.{run_among}
 use Rattle.case.proofs.DemandsHold.{entry_follows_path, answer_counts, fails_exactly}
 
 -- what a call that answers has at the front of its output
-front : (r : Result (List ℕ)) (output o : List ℕ) (n : ℕ) → Answered n ≡ run_answer r → o ≡ output_after r output → (answer : List ℕ) × (r ≡ ok answer) × (take n o ≡ answer)
+front : (r : Result (List ℕ)) (output o : List ℕ) (n : ℕ) → Ok n ≡ run_answer r → o ≡ output_after r output → (answer : List ℕ) × (r ≡ ok answer) × (take n o ≡ answer)
 unfolding output_after
 front r output o n e p =
     let (answer, is, size) = answered_run r n e in
@@ -32,4 +33,4 @@ call_counts rule table e t work output w o n b g =
 pub call_fails_exactly : CallFailsExactly
 call_fails_exactly rule table e t work output w o r p q f h g =
     let (there, back) = fails_exactly rule table e t (length work) (length output) p q f h in
-    (λ is. there (refused_run (call_run rule table work output) 15 (sym is ∙ g.says)), λ s. g.says ∙ ap run_answer (back s))
+    (λ is. there (refused_run (call_run rule table work output) (run_among rule table (length work) (length output)) (sym is ∙ g.says)), λ s. g.says ∙ ap run_answer (back s))

@@ -1,6 +1,5 @@
 -- Casts in the slots of the listed rows: floats by their bits as far as they go, the rows behind them by the values. Assumes nothing.
 use Rattle.std.proofs.Common.{◌≡◌, ℕ, ◌+◌, ◌-◌, ◌*◌, ◌^◌, ◌<◌, ◌≤◌, Bool, true, false, cond, eqb, List, [], ◌∷◌, sym, refl, ap, ◌∙◌, subst, inl, true≢false, arith, eqb-true}
-use mathlib.Core.Bool.{false≢true}
 use native.Mathlib.Decide.{dec_lt}
 use Rattle.layout.specs.Bytes.{byte, number_at}
 use Rattle.scalar.specs.declared.types.DataType.{DataType}
@@ -36,13 +35,6 @@ cast_right short tried n e h p = rw e (cut_gives short n h p)
 pub try_right : (short tried : Bool) (n : ℕ) {v r : Value} → tried ≡ true → n < 2 ^ 64 → v ≡ truncated_as (integer_type short) n → r ≡ cond (failed v) Null v
     → Gives (operation_of (cast_to tried (integer_type short))) (float_value n) r
 try_right short tried n {v} e h p q = rw (e, q) (tried_gives (integer_type short) (float_value n) (float_held n) v (failed v) refl (cut_gives short n h p))
-
--- null for what has failed
-pub null_failed : {v : Value} → v ≡ Failed → Null ≡ cond (failed v) Null v
-null_failed e = rw e refl
-
-pub other_kept : (v : Value) → NotFailed v → v ≡ cond (failed v) Null v
-other_kept v h = rw (not_failed v h) refl
 
 -- ---- one value
 
@@ -163,14 +155,6 @@ module _ (op : Op) {w w₁ : List ℕ} {n k : ℕ} (ok : Fillable w n) (few : k 
           subst (λ (x : Value). Gives (operation_of op) x (slot_at w₂ r)) (first.others r (small r i b e) (λ a. apart r a l)) (rest.here r l)
 
 -- ---- the operations by their kind
-
--- one that is neither NOT nor negative nor IS NOT NULL is a cast
-pub castless_not : {A : Type 0} (op : Op) → OneOf (3 ∷ 4 ∷ []) (tag_of the_type op) → castless op ≡ true → A
-castless_not Not h e = absurd (miss (3 ∷ 4 ∷ []) 0 tt h)
-castless_not Negative h e = absurd (miss (3 ∷ 4 ∷ []) 1 tt h)
-castless_not IsNotNull h e = absurd (miss (3 ∷ 4 ∷ []) 2 tt h)
-castless_not (Cast to) h e = absurd (false≢true e)
-castless_not (TryCast to) h e = absurd (false≢true e)
 
 -- and one that is no cast is one of these
 pub no_cast : (op : Op) → OneOf (0 ∷ 1 ∷ 2 ∷ []) (tag_of the_type op) → castless op ≡ true

@@ -24,10 +24,7 @@ use Rattle.case.specs.Fits.{entry_in}
 use Rattle.case.specs.Frame.{slot_at, Filled}
 use Rattle.case.specs.Taking.{EntryRight, ScalarRight, ColumnRight}
 use Rattle.case.specs.Evaluation.{row_in, LiteralRight, CellRight, ScalarsRight, CellsRight}
-
--- what is right in the slots, said another way
-pub filled_as : {first right : ℕ → Value → Type 0} {w : List ℕ} {n : ℕ} {w' : List ℕ} → Filled first w n w' → ((r : ℕ) (v : Value) → first r v → right r v) → Filled right w n w'
-filled_as {w' = w'} d fits = record { long = d.long; here = λ r l. fits r (slot_at w' r) (d.here r l); others = d.others; low = d.low; high = d.high }
+pub use Rattle.case.proofs.RowsLaws.{filled_as}
 
 -- the index of the column whose node stands at a place
 index_is : {rule : List ℕ} {at c : ℕ} → c ≡ byte rule (at + 3) → (end depth : ℕ) (x : Column) → NodeAt rule at end (column x) depth → x.index ≡ c

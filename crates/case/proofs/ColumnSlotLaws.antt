@@ -1,5 +1,6 @@
 -- The entries of a column in slots. Assumes nothing.
 use Rattle.std.proofs.Common.{◌≡◌, ℕ, ◌+◌, ◌*◌, ◌%◌, ◌^◌, ◌<◌, Bool, true, false, cond, eqb, List, [], ◌∷◌, sym, refl, ap, ◌∙◌, subst, mod-eq_of_lt}
+use Rattle.std.specs.Int.{from_bool}
 use types.Run.{OneOf, miss}
 use denote.Enum.Declared.{tag_of}
 use Rattle.layout.specs.Bytes.{number_at, bit_at}
@@ -20,7 +21,12 @@ use Rattle.table.proofs.EntryLaws.{text_row}
 use Rattle.case.specs.Frame.{Filled}
 use Rattle.case.specs.Taking.{EntryRight}
 use Rattle.case.specs.ColumnSlots.{PayloadRight, NumberRight, text_entry, TextRight}
-use Rattle.case.proofs.CellLaws.{filled_as}
+use Rattle.case.proofs.RowsLaws.{filled_as}
+
+-- a Boolean as a number is its mark
+pub boolean_mark : (b : Bool) → from_bool b ≡ mark_number b
+boolean_mark true = refl
+boolean_mark false = refl
 
 -- ---- the payload of a row's value, type by type
 
@@ -49,17 +55,7 @@ module _ (t : DataType) (values : List ℕ) (r p : ℕ) where
   unfolding value_of value_at
   float64_payload e q b = of_type_lem Float64 e (λ n rule table offsets. float_means p b rule table ∙ ap (λ (x : ℕ). entry (float64 x)) q)
 
-  pub text_payload : t ≡ Utf8 → PayloadRight t values r p
-  text_payload e n = absurd (n e)
-
 -- ---- by the validity
-
-module _ (v : Bool) (number : ℕ) {b : Bool} (is : b ≡ v) where
-  pub kind_valid : {k : ℕ} → b ≡ true → k ≡ number → k ≡ cond v number 0
-  kind_valid q e = e ∙ ap (λ (x : Bool). cond x number 0) (sym q ∙ is)
-
-  pub kind_null : b ≡ false → 0 ≡ cond v number 0
-  kind_null q = ap (λ (x : Bool). cond x number 0) (sym q ∙ is)
 
 -- kind and payload of a row's entry
 pub number_right : (t : DataType) (validity values : List ℕ) (r k p : ℕ) → k ≡ cond (valid_in validity r) (type_number t) 0 → PayloadRight t values r p → NumberRight t validity values r (value_of k p)

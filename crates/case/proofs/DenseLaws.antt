@@ -1,26 +1,17 @@
 -- A dense table of number keys: what stands at a number's distance from the least is the number's index. Assumes nothing.
-use Rattle.std.proofs.Common.{◌≡◌, ℕ, zero, suc, ◌+◌, ◌-◌, ◌/◌, ◌<◌, ◌≤◌, Bool, true, false, cond, eqb, ltb, ◌⊎◌, List, length, get_or, set, sym, refl, ap, ◌∙◌, subst, inl, inr, arith, length-set, get_or-set_other, get_or-set_same, ltb-false, ltb-true, eq-eqb, ne_eqb}
-use mathlib.Core.Bool.{false≢true}
+use Rattle.std.proofs.Common.{◌≡◌, ℕ, zero, suc, ◌+◌, ◌-◌, ◌/◌, ◌<◌, ◌≤◌, Bool, true, false, cond, eqb, ltb, ◌⊎◌, List, length, get_or, set, replicate, sym, refl, ap, ◌∙◌, subst, inl, inr, arith, length-set, get_or-set_other, get_or-set_same, ltb-false, ltb-true, eq-eqb, ne_eqb}
 use native.Mathlib.Decide.{ℕ_discrete}
 use Rattle.table.specs.Column.{valid_in}
-use Rattle.case.specs.LookUpColumns.{number_found, ElseFilled, DenseFilled, dense_row, NumberRow}
+use Rattle.case.specs.LookUpColumns.{number_found, DenseFilled, dense_row, NumberRow}
 use Rattle.case.specs.Steps.{RowsIndexed}
 use Rattle.case.proofs.LookUpColumnLaws.{found_at, found_nowhere}
-use Rattle.case.proofs.SpanLaws.{set_more}
 
 -- ---- the ELSE index everywhere
 
-pub else_none : {otherwise : ℕ} {answers : List ℕ} → length answers ≡ 256 → ElseFilled otherwise 0 answers
-else_none e = record { long = e; each = λ d h. absurd (omega arith) }
-
-pub else_more : {otherwise d : ℕ} {answers : List ℕ} → ElseFilled otherwise d answers → d < 256 → ElseFilled otherwise (d + 1) (set answers d (otherwise / 2 + 1))
-else_more {otherwise} {d} {answers} s h = record {
-  long = length-set answers d (otherwise / 2 + 1) ∙ s.long;
-  each = set_more {f = λ (j : ℕ). otherwise / 2 + 1} answers d (otherwise / 2 + 1) (omega (arith, s.long)) s.each refl;
-}
-
-pub else_all : {otherwise d : ℕ} {answers : List ℕ} → ElseFilled otherwise d answers → 256 ≤ d → ElseFilled otherwise 256 answers
-else_all s h = record { long = s.long; each = λ j l. s.each j (omega arith) }
+filled_alike : (n x i : ℕ) → i < n → get_or (replicate n x) i 0 ≡ x
+filled_alike zero x i h = absurd (omega arith)
+filled_alike (suc n) x zero h = refl
+filled_alike (suc n) x (suc i) h = filled_alike n x i (omega arith)
 
 -- ---- the keys
 
@@ -32,8 +23,8 @@ pub record DenseSoFar (numbers indices : List ℕ) (size otherwise least k : ℕ
   pub held : (j : ℕ) → j < k → get_or answers (get_or numbers j 0 - least) 0 ≡ get_or indices j 0 / 2 + 1
   pub free : (d : ℕ) → d < 256 → ((j : ℕ) → j < k → get_or numbers j 0 ≡ least + d → ⊥) → get_or answers d 0 ≡ otherwise / 2 + 1
 
-pub dense_none : {numbers indices : List ℕ} {size otherwise least : ℕ} {answers : List ℕ} → ElseFilled otherwise 256 answers → DenseSoFar numbers indices size otherwise least 0 answers
-dense_none s = record { few = omega arith; long = s.long; near = λ j h. absurd (omega arith); held = λ j h. absurd (omega arith); free = λ d h no_key. s.each d h }
+pub dense_none : {numbers indices : List ℕ} {size otherwise least : ℕ} → DenseSoFar numbers indices size otherwise least 0 (replicate 256 (otherwise / 2 + 1))
+dense_none {otherwise = otherwise} = record { few = omega arith; long = refl; near = λ j h. absurd (omega arith); held = λ j h. absurd (omega arith); free = λ d h no_key. filled_alike 256 (otherwise / 2 + 1) d h }
 
 -- a number is that of a key, or of none
 key_or_none : (numbers : List ℕ) (x n : ℕ) → ((j : ℕ) × (j < n) × (get_or numbers j 0 ≡ x)) ⊎ ((j : ℕ) → j < n → get_or numbers j 0 ≡ x → ⊥)
@@ -51,9 +42,6 @@ key_or_none numbers x (suc n) = go (key_or_none numbers x n) (ℕ_discrete (get_
     go (inr before) (no d) = inr (λ j h p. last before d j h (ℕ_discrete j n) p)
 
 module _ {numbers indices : List ℕ} {size otherwise least k : ℕ} {answers : List ℕ} (s : DenseSoFar numbers indices size otherwise least k answers) where
-  pub dense_refused : DenseFilled numbers indices size otherwise least false answers
-  dense_refused = record { long = s.long; inside = λ e. absurd (false≢true e); outside = λ e. absurd (false≢true e) }
-
   module _ (once : (i j : ℕ) → i < j → j < size → get_or numbers j 0 ≡ get_or numbers i 0 → ⊥) where
     -- one more
     pub dense_more : k < size → least ≤ get_or numbers k 0 → get_or numbers k 0 - least ≤ 255
@@ -85,11 +73,11 @@ module _ {numbers indices : List ℕ} {size otherwise least k : ℕ} {answers : 
             get_or-set_other answers at (get_or numbers j 0 - least) new 0 (λ e. once j k before h (omega (arith, e, n.0, low))) ∙ s.held j before
 
     -- all
-    pub dense_all : size ≤ k → DenseFilled numbers indices size otherwise least true answers
+    pub dense_all : size ≤ k → DenseFilled numbers indices size otherwise least answers
     dense_all h = record {
       long = s.long;
-      inside = λ e d l. at_distance d l (key_or_none numbers (least + d) size);
-      outside = λ e x out. sym (found_nowhere (λ j. eqb x (get_or numbers j 0)) (λ j. get_or indices j 0) otherwise size (λ j l. ne_eqb x (get_or numbers j 0) (beyond x out j l)));
+      inside = λ d l. at_distance d l (key_or_none numbers (least + d) size);
+      outside = λ x out. sym (found_nowhere (λ j. eqb x (get_or numbers j 0)) (λ j. get_or indices j 0) otherwise size (λ j l. ne_eqb x (get_or numbers j 0) (beyond x out j l)));
     }
       where
         beyond : (x : ℕ) → (x < least) ⊎ (least + 255 < x) → (j : ℕ) → j < size → x ≡ get_or numbers j 0 → ⊥
@@ -111,21 +99,21 @@ module _ {numbers indices : List ℕ} {size otherwise least k : ℕ} {answers : 
 
 -- ---- the rows
 
-pub rows_dense : {validity column numbers indices answers w values : List ℕ} {size otherwise least n : ℕ} {filled : Bool} → DenseFilled numbers indices size otherwise least filled answers → filled ≡ true
-    → RowsIndexed (λ r c. c ≡ dense_row validity column least answers otherwise r) w 0 n values → RowsIndexed (NumberRow validity column numbers indices size otherwise) w 0 n values
-rows_dense {validity} {column} {numbers} {indices} {answers} {size = size} {otherwise} {least} t all s = record { long = s.long; each = λ q l. record { is = s.each q l ∙ by q (valid_in validity q) } }
+pub rows_dense : {validity column numbers indices answers w values : List ℕ} {size otherwise behind least n : ℕ} → DenseFilled numbers indices size otherwise least answers → behind ≡ otherwise
+    → RowsIndexed (λ r c. c ≡ dense_row validity column least answers behind r) w 0 n values → RowsIndexed (NumberRow validity column numbers indices size otherwise) w 0 n values
+rows_dense {validity} {column} {numbers} {indices} {answers} {size = size} {otherwise} {least = least} t e s = record { long = s.long; each = λ q l. record { is = s.each q l ∙ ap (λ (x : ℕ). dense_row validity column least answers x q) e ∙ by q (valid_in validity q) } }
   where
     value : (x : ℕ) → cond (ltb x least) (otherwise / 2 + 1) (cond (ltb 255 (x - least)) (otherwise / 2 + 1) (get_or answers (x - least) 0)) ≡ number_found numbers indices size otherwise x / 2 + 1
     value x = go (ltb x least) refl (ltb 255 (x - least)) refl
       where
         go : (a : Bool) → ltb x least ≡ a → (b : Bool) → ltb 255 (x - least) ≡ b
             → cond a (otherwise / 2 + 1) (cond b (otherwise / 2 + 1) (get_or answers (x - least) 0)) ≡ number_found numbers indices size otherwise x / 2 + 1
-        go true p b q = ap (λ (y : ℕ). y / 2 + 1) (sym (t.outside all x (inl (ltb-true x least p))))
-        go false p true q = ap (λ (y : ℕ). y / 2 + 1) (sym (t.outside all x (inr (let m = ltb-true 255 (x - least) q in omega arith))))
+        go true p b q = ap (λ (y : ℕ). y / 2 + 1) (sym (t.outside x (inl (ltb-true x least p))))
+        go false p true q = ap (λ (y : ℕ). y / 2 + 1) (sym (t.outside x (inr (let m = ltb-true 255 (x - least) q in omega arith))))
         go false p false q =
             let a = ltb-false x least p in
             let b = ltb-false 255 (x - least) q in
-            t.inside all (x - least) (omega arith) ∙ ap (λ (y : ℕ). number_found numbers indices size otherwise y / 2 + 1) (let z : least + (x - least) ≡ x = omega arith in z)
+            t.inside (x - least) (omega arith) ∙ ap (λ (y : ℕ). number_found numbers indices size otherwise y / 2 + 1) (let z : least + (x - least) ≡ x = omega arith in z)
 
     by : (q : ℕ) (b : Bool)
         → cond b (cond (ltb (get_or column q 0) least) (otherwise / 2 + 1) (cond (ltb 255 (get_or column q 0 - least)) (otherwise / 2 + 1) (get_or answers (get_or column q 0 - least) 0))) (otherwise / 2 + 1)

@@ -12,7 +12,10 @@ use Rattle.rule.proofs.RefusalLaws.{rule_refusals_lem}
 use Rattle.table.specs.Reading.{Table, read_table}
 use Rattle.table.proofs.RefusalLaws.{table_refusals_lem}
 use Rattle.builder.specs.Builder.{Builder, rising_below, is_whole, some_held, add_branch_result}
-use Rattle.writer.specs.declared.RunAnswer.{RunAnswer}
+use Rattle.std.specs.Prelude.{Result as RustResult}
+use Rattle.layout.specs.declared.refusal.Refusal.{Refusal}
+use Rattle.layout.specs.Refusals.{number_of, refusal_numbered}
+use Rattle.layout.proofs.RefusalLaws.{number_kept}
 use Rattle.writer.specs.Answer.{text_length}
 use Rattle.writer.specs.Written.{entries_of, text_most, written_as, zeros, run_answer, output_after}
 use Rattle.case.specs.Fits.{fits, row_of}
@@ -43,7 +46,7 @@ read_among e t work output =
     bind_among run_refusals (entries_of (outcomes e t)) _ (entries_among e t) (λ es. written_among e es output)))
 
 -- a run with 1 to 17 or 25
-run_among : (rule table : List ℕ) (work output : ℕ) → RefusedAmong run_refusals (run rule table work output)
+pub run_among : (rule table : List ℕ) (work output : ℕ) → RefusedAmong run_refusals (run rule table work output)
 unfolding run
 run_among rule table work output =
     bind_among run_refusals (read_rule rule) _
@@ -118,10 +121,12 @@ module _ (rule table work output work' output' : List ℕ) where
   leaves : (d : Result (List ℕ)) → call_run rule table work output ≡ d → work' ≡ work_after d work → output' ≡ output_after d output
       → Leaves (call_run rule table work output) work output (run_answer d) work' output'
   unfolding work_after output_after
-  leaves (refused n) is w o = refusal_leaves n is w o
+  leaves (refused n) is w o =
+      let kept = number_kept run_refusals n refl (run_refusals_lem rule table (length work) (length output) n is) in
+      subst (λ (k : ℕ). RefusalLeaves (call_run rule table work output) work output k work' output') (sym kept) (refusal_leaves n is w o)
   leaves (ok answer) is w o = answer_leaves answer is w o
 
 pub call_ends : CallEnds
 call_ends rule table work output r work' output' g =
-    subst (λ (a : RunAnswer). Leaves (call_run rule table work output) work output a work' output') (sym g.says)
+    subst (λ (a : RustResult ℕ Refusal). Leaves (call_run rule table work output) work output a work' output') (sym g.says)
     (leaves rule table work output work' output' (call_run rule table work output) refl g.work_is g.output_is)

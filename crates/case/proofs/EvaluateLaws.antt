@@ -1,5 +1,5 @@
 -- A whole evaluation beside its definition. Assumes nothing.
-use Rattle.std.proofs.Common.{◌≡◌, ℕ, zero, suc, ◌+◌, ◌*◌, ◌<◌, ◌≤◌, Bool, true, false, cond, not, leb, List, ◌∷◌, map, length, replicate, sym, refl, ap, ◌∙◌, ap₂, arith}
+use Rattle.std.proofs.Common.{◌≡◌, ℕ, zero, suc, ◌+◌, ◌*◌, ◌<◌, ◌≤◌, Bool, true, false, cond, not, leb, List, ◌∷◌, map, length, replicate, sym, refl, ap, ◌∙◌, subst, ap₂, arith}
 use borrow.Author.Tests.{lt-leb}
 use Rattle.layout.specs.Bytes.{Bytes}
 use Rattle.layout.specs.Result.{Result, refused, ok, ◌>>=◌, require}
@@ -18,18 +18,21 @@ use Rattle.rule.proofs.ReadNode.{accepted_node}
 use Rattle.rule.proofs.AnswerLaws.{reading_was_refused, reading_was_read}
 use Rattle.rule.proofs.RefusalLaws.{rule_refusals_lem}
 use Rattle.table.specs.declared.places.Table.{Table as Places}
-use Rattle.table.specs.declared.places.TableAnswer.{TableAnswer}
-use Rattle.table.specs.Places.{table_in, reading_in, TableRead}
+use Rattle.table.specs.Places.{table_in, table_from, table_answer, TableRead}
+use Rattle.table.specs.Reading.{read_table}
 use Rattle.table.proofs.TableInversions.{table_inv, table_few}
 use Rattle.table.proofs.RefusalLaws.{table_early}
-use Rattle.writer.specs.declared.RunAnswer.{RunAnswer}
-use Rattle.writer.specs.declared.WriteAnswer.{WriteAnswer}
-use Rattle.writer.specs.declared.WriteAnswer.TheVariants.{Run, NoColumn}
-use Rattle.writer.specs.declared.RunAnswer.TheVariants.{Refused}
+use Rattle.std.specs.Prelude.{Result as RustResult, Ok, Err}
+use Rattle.layout.specs.declared.refusal.Refusal.{Refusal}
+use Rattle.layout.specs.declared.refusal.Refusal.TheVariants.{Fit, WorkSize}
+use Rattle.layout.specs.Refusals.{refusal_numbered}
+use Rattle.layout.proofs.AnswerLaws.{answered_err}
+use Rattle.writer.specs.declared.WriteError.{WriteError}
+use Rattle.writer.specs.declared.WriteError.TheVariants.{NoColumn}
 use Rattle.table.specs.TableBytes.{column_bytes}
 use Rattle.writer.specs.Answer.{column_of, text_length}
 use Rattle.writer.specs.Written.{rows_from, entries_of, text_most, written_as, run_answer, zeros, output_after}
-use Rattle.writer.specs.Write.{row_outcomes, rows_run, ColumnGives, WriteGives, WriteAsks, writable, class_value, classed}
+use Rattle.writer.specs.Write.{said, row_outcomes, rows_run, ColumnGives, WriteGives, WriteAsks, writable, class_value, classed}
 use Rattle.writer.proofs.FitLaws.{column_said, gives_rows, typed_fits, asks_write, asks_classed}
 use Rattle.case.specs.Fits.{fits}
 use Rattle.case.specs.Fitting.{FitsGives}
@@ -47,7 +50,7 @@ use Rattle.case.proofs.FrameLaws.{Kept, kept_rows, listed_to, framed_kept}
 -- ---- a refusal before anything is written
 
 -- a refusal that comes before a run's work leaves both buffers
-pub refused_early : {rule table work output : List ℕ} {n : ℕ} → call_run rule table work output ≡ refused n → among late_refusals n ≡ false → Evaluated rule table work output (Refused n) work output
+pub refused_early : {rule table work output : List ℕ} {n : ℕ} → call_run rule table work output ≡ refused n → among late_refusals n ≡ false → Evaluated rule table work output (Err (refusal_numbered n)) work output
 unfolding work_after output_after
 refused_early {rule} {table} {work} {output} {n} is early = record {
   says = ap run_answer (sym is);
@@ -56,36 +59,27 @@ refused_early {rule} {table} {work} {output} {n} is early = record {
 }
 
 -- by the reading of the rule,
-pub rule_refused : {rule table work output : List ℕ} {a : RuleReading} → a ≡ rule_reading (read_rule rule) → (a.refused ≡ 0 → ⊥)
-    → Evaluated rule table work output (Refused a.refused) work output
+pub rule_refused : {rule table work output : List ℕ} {e : Refusal} → Err e ≡ rule_reading (read_rule rule) → Evaluated rule table work output (Err e) work output
 unfolding run
-rule_refused {rule} {table} {work} {output} {a} g not-0 =
-    let is = reading_was_refused rule a g not-0 in
-    refused_early (simp is) (among_apart rule_refusals late_refusals a.refused refl (rule_refusals_lem rule a.refused is))
+rule_refused {rule} {table} {work} {output} p =
+    let (n, is, same) = reading_was_refused rule p refl in
+    subst (λ (x : Refusal). Evaluated rule table work output (Err x) work output) (sym same)
+    (refused_early {n = n} (simp is) (among_apart rule_refusals late_refusals n refl (rule_refusals_lem rule n is)))
 
 -- of the table,
-reading_refused : (bytes : List ℕ) (n : ℕ) (t : Places) → (n ≡ 0 → ⊥) → reading_in bytes n t ≡ refused n
-reading_refused bytes zero t h = absurd (h refl)
-reading_refused bytes (suc n) t h = refl
-
-reading_ok : (bytes : List ℕ) (n : ℕ) (t : Places) → n ≡ 0 → reading_in bytes n t ≡ ok (table_in bytes t)
-reading_ok bytes zero t h = refl
-reading_ok bytes (suc n) t h = absurd (omega arith)
-
-pub table_refused_lem : {rule table work output : List ℕ} {a : RuleReading} {b : TableAnswer} → Bytes rule → a ≡ rule_reading (read_rule rule) → a.refused ≡ 0 → TableRead table b
-    → (b.refused ≡ 0 → ⊥) → Evaluated rule table work output (Refused b.refused) work output
-unfolding run
-table_refused_lem {rule} {table} {work} {output} {a} {b} bytes g zero_a reads not-0 =
-    let (e, is, read) = reading_was_read rule a g bytes zero_a in
-    let no = sym reads.says ∙ reading_refused table b.refused b.table not-0 in
-    refused_early (simp (is, no)) (table_early table b.refused no)
+pub table_refused_lem : {rule table work output : List ℕ} {a : RuleReading} {e : Refusal} → Bytes rule → Ok a ≡ rule_reading (read_rule rule) → Err e ≡ table_answer (read_table table)
+    → Evaluated rule table work output (Err e) work output
+unfolding run table_answer
+table_refused_lem {rule} {table} {work} {output} {a} bytes g p =
+    let (tree, reads, read) = reading_was_read rule g bytes a refl in
+    let (n, is, same) = answered_err (table_from 5) (read_table table) p in
+    subst (λ (x : Refusal). Evaluated rule table work output (Err x) work output) (sym same) (refused_early {n = n} (simp (reads, is)) (table_early table n is))
 
 -- what the reading of both gives
-pub both_read : {rule table : List ℕ} {a : RuleReading} {b : TableAnswer} → Bytes rule → a ≡ rule_reading (read_rule rule) → a.refused ≡ 0 → TableRead table b → b.refused ≡ 0
-    → ReadAsks rule a table b.table
-both_read {rule} {table} {a} {b} bytes g zero_a reads zero-b =
-    let (e, is, read) = reading_was_read rule a g bytes zero_a in
-    record { tree = e; rule_reads = is; rule_is = read; table_reads = sym reads.says ∙ reading_ok table b.refused b.table zero-b }
+pub both_read : {rule table : List ℕ} {a : RuleReading} {b : Places} → Bytes rule → Ok a ≡ rule_reading (read_rule rule) → TableRead table (Ok b) → ReadAsks rule a table b
+both_read {rule} {table} {a} {b} bytes g reads =
+    let (e, is, read) = reading_was_read rule g bytes a refl in
+    record { tree = e; rule_reads = is; rule_is = read; table_reads = sym reads.says }
 
 -- ---- the rows
 
@@ -95,18 +89,18 @@ module _ {rule table : List ℕ} {t : Places} {result : DataType} {w w₁ : List
 
   module _ {found : Bool} {w₂ classes kinds payloads : List ℕ} (c : ClassesGive rule table t result w₁ found w₂ classes kinds payloads) where
     -- the rows' classes are a column
-    pub classes_column : {run : Result (List ℕ)} {output output' : List ℕ} {a : WriteAnswer} → found ≡ true → ColumnGives (classed t.rows result classes payloads) run output a output' → a ≡ NoColumn → ⊥
+    pub classes_column : {run : Result (List ℕ)} {output output' : List ℕ} {a : RustResult ℕ WriteError} → found ≡ true → ColumnGives (classed t.rows result classes payloads) run output a output' → a ≡ Err NoColumn → ⊥
     classes_column is wrote = column_said (asks_classed t.rows classes payloads (c.asks is)) wrote
 
     -- the rows by their classes
-    pub by_classes : {n : Bool} {output output' : List ℕ} {a : WriteAnswer} {r : RunAnswer} → found ≡ true
-        → ((rule table : List ℕ) → ColumnGives (classed t.rows result classes payloads) (rows_run rule table (class_value result classes payloads) t.rows result n (length output)) output a output') → a ≡ Run r
+    pub by_classes : {n : Bool} {output output' : List ℕ} {a : RustResult ℕ WriteError} {r : RustResult ℕ Refusal} → found ≡ true
+        → ((rule table : List ℕ) → ColumnGives (classed t.rows result classes payloads) (rows_run rule table (class_value result classes payloads) t.rows result n (length output)) output a output') → a ≡ said r
         → AnswerGives rule table t result n w output r w₂ output'
-    by_classes is wrote run = record {
+    by_classes {r = r} is wrote run = record {
       long = c.long ∙ all.long;
       value = class_value result classes payloads;
       right = c.right is;
-      wrote = gives_rows (asks_classed t.rows classes payloads (c.asks is)) (wrote rule table) run;
+      wrote = gives_rows r (asks_classed t.rows classes payloads (c.asks is)) (wrote rule table) run;
     }
 
     -- the list is still there
@@ -140,17 +134,17 @@ module _ {rule table : List ℕ} {t : Places} {result : DataType} {w w₁ : List
         each = λ i h. typed_fits rule table result (slot_at w₃ i) ((asks.typed (slot_at w₃) slots_right).typed i h);
       }
 
-      pub slots_column : {run : Result (List ℕ)} {output output' : List ℕ} {a : WriteAnswer} → ColumnGives (writable rule table w₃ t.rows result) run output a output' → a ≡ NoColumn → ⊥
+      pub slots_column : {run : Result (List ℕ)} {output output' : List ℕ} {a : RustResult ℕ WriteError} → ColumnGives (writable rule table w₃ t.rows result) run output a output' → a ≡ Err NoColumn → ⊥
       slots_column wrote = column_said (asks_write rule table w₃ t.rows write_asks) wrote
 
-      pub by_slots : {n : Bool} {output output' : List ℕ} {a : WriteAnswer} {r : RunAnswer}
-          → ColumnGives (writable rule table w₃ t.rows result) (rows_run rule table (slot_at w₃) t.rows result n (length output)) output a output' → a ≡ Run r
+      pub by_slots : {n : Bool} {output output' : List ℕ} {a : RustResult ℕ WriteError} {r : RustResult ℕ Refusal}
+          → ColumnGives (writable rule table w₃ t.rows result) (rows_run rule table (slot_at w₃) t.rows result n (length output)) output a output' → a ≡ said r
           → AnswerGives rule table t result n w output r w₃ output'
-      by_slots wrote run = record {
+      by_slots {r = r} wrote run = record {
         long = d.long ∙ c.long ∙ all.long;
         value = slot_at w₃;
         right = slots_right;
-        wrote = gives_rows (asks_write rule table w₃ t.rows write_asks) wrote run;
+        wrote = gives_rows r (asks_write rule table w₃ t.rows write_asks) wrote run;
       }
 
 -- ---- a rule and a table that were read
@@ -202,17 +196,17 @@ module _ {rule table : List ℕ} {a : RuleReading} {t : Places} (bytes : Bytes r
     fits_is : seen-fits ≡ fits asks.tree (table_in table t)
     fits_is = gives.says table asks.tree asks.rule_is.seen_are
 
-    pub not_fitting : {work output : List ℕ} → not seen-fits ≡ true → Evaluated rule table work output (Refused 13) work output
+    pub not_fitting : {work output : List ℕ} → not seen-fits ≡ true → Evaluated rule table work output (Err Fit) work output
     unfolding run_read
-    not_fitting {work} {output} un = refused_early (call_is work output ∙ simp (sym fits_is ∙ not-false seen-fits un)) refl
+    not_fitting {work} {output} un = refused_early {n = 13} (call_is work output ∙ simp (sym fits_is ∙ not-false seen-fits un)) refl
 
     module _ (yes-fits : not seen-fits ≡ false) where
       fitting : fits asks.tree (table_in table t) ≡ true
       fitting = sym fits_is ∙ not-true seen-fits yes-fits
 
-      pub too_short : {work output : List ℕ} → length work < 65536 → Evaluated rule table work output (Refused 14) work output
+      pub too_short : {work output : List ℕ} → length work < 65536 → Evaluated rule table work output (Err WorkSize) work output
       unfolding run_read
-      too_short {work} {output} less = refused_early (call_is work output ∙ simp (fitting, lt-leb 65536 (length work) less)) refl
+      too_short {work} {output} less = refused_early {n = 14} (call_is work output ∙ simp (fitting, lt-leb 65536 (length work) less)) refl
 
       module _ {v : ℕ → Value} (rows : RowsRight rule table t v) where
         node : NodeAt rule 0 (length rule) asks.tree 8
@@ -229,7 +223,7 @@ module _ {rule table : List ℕ} {a : RuleReading} {t : Places} (bytes : Bytes r
               ∙ run_sound rule table asks.tree (table_in table t) i bytes table_bytes_lem asks.rule_reads asks.table_reads fitting;
         }
 
-        module _ {output output' : List ℕ} {r : RunAnswer}
+        module _ {output output' : List ℕ} {r : RustResult ℕ Refusal}
             (wrote : WriteGives rule table v t.rows a.result a.nullable output r output') where
           run_rows_are : (w : List ℕ) → 65536 ≤ length w → call_run rule table w output ≡ rows_run rule table v t.rows a.result a.nullable (length output)
           run_rows_are w room =

@@ -178,21 +178,8 @@ module _ (seen : Seen) (t : Table) where
           sym (all_fit (table_in bytes t).columns (reverse (columns_of e)) g.all_alike (mark_fits_lem bytes e g)) ∙ rule_fits e (table_in bytes t).columns;
     }
 
--- ---- one column
+-- ---- one column: the table doesn't have it, or has it
 
--- another type, a column that may be nullable, and one that may not
-module _ (m : ℕ) (p : ColumnPlace) where
-  pub other_type : (m % 8 ≡ type_number p.data_type → ⊥) → (bytes : List ℕ) → false ≡ mark_fits m (some (column_in bytes p))
-  other_type n bytes = sym (ap (λ (b : Bool). b && (leb 8 m || not p.nullable)) (ne_eqb (m % 8) (type_number p.data_type) n))
-
-  module _ (e : m % 8 ≡ type_number p.data_type) where
-    pub any_nullable_lem : 8 ≤ m → (bytes : List ℕ) → true ≡ mark_fits m (some (column_in bytes p))
-    any_nullable_lem h bytes = sym (ap₂ (λ (b c : Bool). b && (c || not p.nullable)) (eq-eqb (m % 8) (type_number p.data_type) e) (le-leb 8 m h))
-
-    pub not_nullable : m < 8 → (bytes : List ℕ) → not p.nullable ≡ mark_fits m (some (column_in bytes p))
-    not_nullable h bytes = sym (ap₂ (λ (b c : Bool). b && (c || not p.nullable)) (eq-eqb (m % 8) (type_number p.data_type) e) (lt-leb 8 m h))
-
--- a column that the table doesn't have, and one that it has
 module _ {A : Type 0} (f : ColumnPlace → A) (t : Table) (long : length (map f t.columns) ≡ 16) (m index : ℕ) where
   pub index_missing : min t.count 16 ≤ index → (bytes : List ℕ) → false ≡ mark_fits m (get_elem? (table_in bytes t).columns index)
   index_missing h bytes = sym (ap (mark_fits m) (column_missing f bytes t long index 0 h))

@@ -5,7 +5,6 @@ pub mod FitsLaws
 pub mod SlotLaws
 pub mod RowsLaws
 pub mod CastingLaws
-pub mod CodeLaws
 pub mod TruthLaws
 pub mod ClassLaws
 pub mod SiftLaws
@@ -23,6 +22,7 @@ pub mod TakeLaws
 pub mod MergeLaws
 pub mod CellLaws
 pub mod ColumnSlotLaws
+pub mod CompareLaws
 pub mod LookUpLaws
 pub mod LookUpTrees
 pub mod WordLaws

@@ -27,6 +27,7 @@ use Rattle.table.specs.declared.places.Table.{Table}
 use Rattle.table.specs.Column as columns
 use Rattle.table.specs.Column.{valid_in, entry_at}
 use Rattle.table.specs.Places.{column_in, no_place}
+use Rattle.case.specs.declared.when_literal_index_map.WhenLiteralIndexMap.{WhenLiteralIndexMap}
 use Rattle.case.specs.ColumnSlots.{text_entry}
 use Rattle.case.specs.Evaluation.{row_in}
 use Rattle.case.specs.Choosing.{true_outcome}
@@ -152,16 +153,12 @@ module _ {kinds keys : List ℕ} {size kind k : ℕ} {numbers hints : List ℕ} 
       each_at j l (yes e) = subst (λ (i : ℕ). NumberOf (value_at kinds keys i) kind (get_or numbers' i 0)) (sym e) (subst (λ (y : ℕ). NumberOf (value_at kinds keys k) kind y) (sym new) here)
       each_at j l (no d) = subst (λ (y : ℕ). NumberOf (value_at kinds keys j) kind y) (sym (old j d)) (s.each j (omega arith))
 
-  -- one of another kind
-  pub numbers_refused : NumbersRead kinds keys size kind false numbers hints
-  numbers_refused = record { numbers_long = s.numbers_long; hints_long = s.hinted.long; each = λ e. absurd (false≢true e); hinted = λ e. absurd (false≢true e) }
-
-  pub numbers_all : size ≤ k → NumbersRead kinds keys size kind true numbers hints
+  pub numbers_all : size ≤ k → NumbersRead kinds keys size kind numbers hints
   numbers_all h = let z : k ≡ size = omega (arith, s.few) in record {
     numbers_long = s.numbers_long;
     hints_long = s.hinted.long;
-    each = λ e j l. s.each j (omega arith);
-    hinted = λ e. subst (λ (m : ℕ). Hinted (λ j. number_hint (get_or numbers j 0)) m hints) z s.hinted;
+    each = λ j l. s.each j (omega arith);
+    hinted = subst (λ (m : ℕ). Hinted (λ j. number_hint (get_or numbers j 0)) m hints) z s.hinted;
   }
 
 -- the index of a number, by its hint
@@ -196,21 +193,21 @@ same_numbers : (rule table : List ℕ) (v : Value) {kind x y : ℕ} (e : Entry) 
 same_numbers rule table v e n k = sym (ap (same_key (entry e)) (k.means rule table) ∙ ap true_outcome (numbers_equal e k.value n k.numbered))
 
 -- the table of the numbers
-pub numbers_table : {rule table kinds keys indices : List ℕ} {size otherwise kind : ℕ} {read : Bool} {numbers hints : List ℕ} → Keys kinds keys indices size otherwise → EachOnce rule table kinds keys size
-    → otherwise ≤ 64 → NumbersRead kinds keys size kind read numbers hints → read ≡ true → NumberTable numbers indices hints size otherwise
-numbers_table {rule} {table} {kinds} {keys} {indices} {size} {otherwise} {kind} {read} {numbers} {hints} t once small r all = record {
+pub numbers_table : {rule table kinds keys indices : List ℕ} {size otherwise kind : ℕ} {numbers hints : List ℕ} → Keys kinds keys indices size otherwise → EachOnce rule table kinds keys size
+    → otherwise ≤ 64 → NumbersRead kinds keys size kind numbers hints → NumberTable numbers indices hints size otherwise
+numbers_table {rule} {table} {kinds} {keys} {indices} {size} {otherwise} {kind} {numbers} {hints} t once small r = record {
   numbers_long = r.numbers_long;
   indices_long = t.indices_long;
   few = t.few;
   small = small;
   below = t.below;
-  hinted = r.hinted all;
+  hinted = r.hinted;
   once = λ j k l h e.
-      let a = r.each all k h in
+      let a = r.each k h in
       false≢true (
       sym (once.unlike j k l h)
       ∙ ap (λ (o : Outcome). same_key o (meaning rule table (value_at kinds keys j))) (a.means rule table)
-      ∙ sym (same_numbers rule table (value_at kinds keys j) a.value a.numbered (r.each all j (omega arith)))
+      ∙ sym (same_numbers rule table (value_at kinds keys j) a.value a.numbered (r.each j (omega arith)))
       ∙ eq-eqb (get_or numbers k 0) (get_or numbers j 0) e
       );
 }
@@ -301,18 +298,34 @@ pub text_below : (rule table text : List ℕ) {kinds keys indices : List ℕ} {s
 text_below rule table text {kinds} {keys} {indices} {size} {otherwise} t =
     found_below (λ k. same_key (entry (utf8 text)) (meaning rule table (value_at kinds keys k))) (λ k. get_or indices k 0) otherwise size 0 (λ i l. t.below i (omega arith))
 
+-- the rows by the fields of a map of its own
+pub numbers_alike : {validity column numbers indices indices' w values : List ℕ} {size size' otherwise behind n : ℕ} → indices' ≡ indices → size' ≡ size → behind ≡ otherwise
+    → RowsIndexed (NumberRow validity column numbers indices' size' behind) w 0 n values → RowsIndexed (NumberRow validity column numbers indices size otherwise) w 0 n values
+numbers_alike {validity} {column} {numbers} {indices} {indices'} {w} {values} {size} {size'} {otherwise} {behind} {n} a b e s =
+    subst (λ (x : ℕ). RowsIndexed (NumberRow validity column numbers indices size x) w 0 n values) e
+    (subst (λ (x : ℕ). RowsIndexed (NumberRow validity column numbers indices x behind) w 0 n values) b
+    (subst (λ (x : List ℕ). RowsIndexed (NumberRow validity column numbers x size' behind) w 0 n values) a s))
+
+pub texts_alike : {rule rule' table table' validity offsets texts w values : List ℕ} {m m' : WhenLiteralIndexMap} {n : ℕ} → rule' ≡ rule → table' ≡ table → m' ≡ m
+    → RowsIndexed (TextRow rule' table' validity offsets texts m'.kinds m'.keys m'.indices m'.size m'.else_index) w 0 n values
+    → RowsIndexed (TextRow rule table validity offsets texts m.kinds m.keys m.indices m.size m.else_index) w 0 n values
+texts_alike {rule} {rule'} {table} {table'} {validity} {offsets} {texts} {w} {values} {m} {m'} {n} a b e s =
+    subst (λ (x : WhenLiteralIndexMap). RowsIndexed (TextRow rule table validity offsets texts x.kinds x.keys x.indices x.size x.else_index) w 0 n values) e
+    (subst (λ (x : List ℕ). RowsIndexed (TextRow rule x validity offsets texts m'.kinds m'.keys m'.indices m'.size m'.else_index) w 0 n values) b
+    (subst (λ (x : List ℕ). RowsIndexed (TextRow x table' validity offsets texts m'.kinds m'.keys m'.indices m'.size m'.else_index) w 0 n values) a s))
+
 -- ---- a column
 
 module _ {table : List ℕ} {place : ColumnPlace} {kinds keys indices : List ℕ} {size otherwise : ℕ} {w : List ℕ} {n : ℕ} where
   pub column_refused : {values : List ℕ} → length values ≡ 512 → (rule : List ℕ) → ColumnKeyed table place kinds keys indices size otherwise w n rule false values
   column_refused e rule = record { long = e; each = λ h. absurd (false≢true h) }
 
-  pub numbers_keyed : {rows code : ℕ} {read : Bool} {entries validity numbers hints column values : List ℕ} → code ≡ type_number place.data_type → type_number place.data_type ≤ 4 → Rows w 0 n rows
-      → NumbersRead kinds keys size code read numbers hints → read ≡ true → entries ≡ (column_in table place).values → KeysAt place.data_type entries rows column
+  pub numbers_keyed : {rows code : ℕ} {entries validity numbers hints column values : List ℕ} → code ≡ type_number place.data_type → type_number place.data_type ≤ 4 → Rows w 0 n rows
+      → NumbersRead kinds keys size code numbers hints → entries ≡ (column_in table place).values → KeysAt place.data_type entries rows column
       → validity ≡ (column_in table place).validity → RowsIndexed (NumberRow validity column numbers indices size otherwise) w 0 n values
       → (rule : List ℕ) → ColumnKeyed table place kinds keys indices size otherwise w n rule true values
   unfolding entry_at
-  numbers_keyed {rows} {code} {read} {entries} {validity} {numbers} {hints} {column} {values} code_is small listed r all entries-is xs validity_is s rule = record {
+  numbers_keyed {rows} {code} {entries} {validity} {numbers} {hints} {column} {values} code_is small listed r entries-is xs validity_is s rule = record {
     long = s.long;
     each = λ h q l. (s.each q l).is ∙ ap (λ (y : ℕ). y / 2 + 1) (go q (subst (λ (y : ℕ). y < rows) l.2 (listed.below l.0 l.1)));
   }
@@ -326,7 +339,7 @@ module _ {table : List ℕ} {place : ColumnPlace} {kinds keys indices : List ℕ
           ((subst (λ (y : List ℕ). KeyAt place.data_type y q (get_or column q 0)) entries-is (xs.each q h)).is small (column_in table place).offsets)
 
       by : (q : ℕ) → q < rows → (b : Bool) → cond b (number_found numbers indices size otherwise (get_or column q 0)) otherwise ≡ key_index rule table kinds keys indices size otherwise (entry (cond b (value q) null))
-      by q h true = found_same otherwise size 0 (λ k l. same_numbers rule table (value_at kinds keys k) (value q) (numbered q h) (r.each all k (omega arith))) (λ k l. refl)
+      by q h true = found_same otherwise size 0 (λ k l. same_numbers rule table (value_at kinds keys k) (value q) (numbered q h) (r.each k (omega arith))) (λ k l. refl)
       by q h false = sym (found_none (λ k. same_key (entry null) (meaning rule table (value_at kinds keys k))) (λ k. get_or indices k 0) otherwise size 0 (λ i. null_first (meaning rule table (value_at kinds keys i))))
 
       go : (q : ℕ) → q < rows → cond (valid_in validity q) (number_found numbers indices size otherwise (get_or column q 0)) otherwise ≡ key_index rule table kinds keys indices size otherwise (entry (entry_at (column_in table place) q))
@@ -357,19 +370,12 @@ module _ {table : List ℕ} {place : ColumnPlace} {kinds keys indices : List ℕ
           is_utf8 Of.Utf8 e = refl
 
 -- the number of a type, of any but text
-pub number_type_lem : (d : DataType) {code : ℕ} → code ≡ type_number d → (code ≡ 5 → ⊥) → type_number d ≤ 4
-number_type_lem Of.Boolean e h = omega arith
-number_type_lem Of.Int32 e h = omega arith
-number_type_lem Of.Int64 e h = omega arith
-number_type_lem Of.Float64 e h = omega arith
-number_type_lem Of.Utf8 e h = absurd (h e)
-
-pub type_some : (d : DataType) {code : ℕ} → code ≡ type_number d → 0 < code
-type_some Of.Boolean e = omega arith
-type_some Of.Int32 e = omega arith
-type_some Of.Int64 e = omega arith
-type_some Of.Float64 e = omega arith
-type_some Of.Utf8 e = omega arith
+pub number_type_lem : (d : DataType) → (d ≡ Of.Utf8 → ⊥) → type_number d ≤ 4
+number_type_lem Of.Boolean h = omega arith
+number_type_lem Of.Int32 h = omega arith
+number_type_lem Of.Int64 h = omega arith
+number_type_lem Of.Float64 h = omega arith
+number_type_lem Of.Utf8 h = absurd (h refl)
 
 -- ---- in a table
 

@@ -1,9 +1,9 @@
 -- Lookup tables: a search for the first that is the same, equal keys, and a table that has each base at the index of the first WHEN that equals it.
 -- Assumes nothing.
-use Rattle.std.proofs.Common.{◌≡◌, ℕ, zero, suc, ◌+◌, ◌-◌, ◌*◌, ◌/◌, ◌%◌, ◌^◌, ◌<◌, ◌≤◌, Bool, true, false, cond, ◌&&◌, eqb, List, [], ◌∷◌, length, get_or, set, sym, refl, ap, ◌∙◌, subst, ap₂, add-zero, add-suc, suc-add, add-one, arith, length-set, get_or-set_other, get_or-set_same, eq-eqb, ne_eqb, eqb-true}
+use Rattle.std.proofs.Common.{◌≡◌, ℕ, zero, suc, ◌+◌, ◌-◌, ◌*◌, ◌/◌, ◌%◌, ◌^◌, ◌<◌, ◌≤◌, Bool, true, false, cond, ◌&&◌, eqb, List, [], ◌∷◌, get_or, set, sym, refl, ap, ◌∙◌, subst, ap₂, add-zero, add-suc, suc-add, add-one, arith, length-set, get_or-set_other, get_or-set_same, eq-eqb, ne_eqb, eqb-true}
 use native.Mathlib.Nat.{sub-zero}
 use native.Mathlib.Decide.{ℕ_discrete}
-use lib.Ieee.{Float, binary64, nan_bits, of_bits}
+use lib.Ieee.{binary64, nan_bits, of_bits}
 use types.Run.{OneOf, hit, miss}
 use denote.Enum.Declared.{tag_of}
 use Rattle.scalar.specs.declared.value.Value.{Value}
@@ -16,11 +16,9 @@ use Rattle.scalar.specs.Text.{same_bytes}
 use Rattle.scalar.specs.Value.{meaning, value_of, kind_of, payload_of, place_text, Storable}
 use Rattle.scalar.proofs.ValueLaws.{payload_back}
 use Rattle.scalar.proofs.EntryLaws.{agree_eq}
-use Rattle.scalar.proofs.TextLaws.{same_length}
-use Rattle.case.proofs.WordLaws.{rule_bytes, table_bytes_lem, place_cut, place_few}
 use Rattle.case.specs.declared.boolean_lookup_table.BooleanIndexMap.{BooleanIndexMap}
 use Rattle.case.specs.LookUpBooleans.{BooleansOf}
-use Rattle.case.specs.LookUpTables.{bytes_of, same_key, found, value_at, key_index, when_index, base_index, number_index, Keys, EachOnce, TableOf, Added}
+use Rattle.case.specs.LookUpTables.{same_key, found, value_at, key_index, when_index, base_index, number_index, Keys, EachOnce, TableOf, Added}
 
 -- ---- a search
 
@@ -166,32 +164,9 @@ module _ (rule table text : List ℕ) (k p : ℕ) where
   unfolding pair_of value_of
   text_in_rule e q = q ∙ sym (ap (λ (x : ℕ). same_key (entry (utf8 text)) (meaning rule table (value_of x p))) e)
 
-  text_in_table : {r : Bool} → k ≡ 6 → r ≡ same_bytes text (place_text table (p % 2 ^ 32) (p / 2 ^ 32)) → r ≡ same_key (entry (utf8 text)) (meaning rule table (value_of k p))
+  pub text_in_table : {r : Bool} → k ≡ 6 → r ≡ same_bytes text (place_text table (p % 2 ^ 32) (p / 2 ^ 32)) → r ≡ same_key (entry (utf8 text)) (meaning rule table (value_of k p))
   unfolding pair_of value_of
   text_in_table e q = q ∙ sym (ap (λ (x : ℕ). same_key (entry (utf8 text)) (meaning rule table (value_of x p))) e)
-
-  module _ (low : 5 ≤ k) (high : k ≤ 6) where
-    text_of_kind : {r : Bool} → r ≡ same_bytes text (place_text (bytes_of k rule table) (p % 2 ^ 32) (p / 2 ^ 32)) → r ≡ same_key (entry (utf8 text)) (meaning rule table (value_of k p))
-    text_of_kind {r} q = go (ℕ_discrete k 5)
-      where
-        in_bytes : {l : List ℕ} → bytes_of k rule table ≡ l → r ≡ same_bytes text (place_text l (p % 2 ^ 32) (p / 2 ^ 32))
-        in_bytes e = q ∙ ap (λ (l : List ℕ). same_bytes text (place_text l (p % 2 ^ 32) (p / 2 ^ 32))) e
-
-        go : Dec (k ≡ 5) → r ≡ same_key (entry (utf8 text)) (meaning rule table (value_of k p))
-        go (yes e) = text_in_rule e (in_bytes (rule_bytes rule table e))
-        go (no n) = text_in_table (omega arith) (in_bytes (table_bytes_lem rule table n))
-
-    module _ {n : ℕ} (size : n ≡ length (place_text (bytes_of k rule table) (p % 2 ^ 32) (p / 2 ^ 32))) where
-      -- of another size
-      pub text_unlike : (n ≡ length text → ⊥) → false ≡ same_key (entry (utf8 text)) (meaning rule table (value_of k p))
-      text_unlike d = text_of_kind (sym (same_length text (place_text (bytes_of k rule table) (p % 2 ^ 32) (p / 2 ^ 32)) (λ e. d (size ∙ sym e))))
-
-      -- of the same size
-      pub text_few : n ≡ length text → length text ≤ length (bytes_of k rule table) - p % 2 ^ 32
-      text_few e = place_few (bytes_of k rule table) (p % 2 ^ 32) (p / 2 ^ 32) (sym size ∙ e)
-
-      pub text_like : {r : Bool} → n ≡ length text → r ≡ same_bytes text (place_text (bytes_of k rule table) (p % 2 ^ 32) (length text)) → r ≡ same_key (entry (utf8 text)) (meaning rule table (value_of k p))
-      text_like e q = text_of_kind (q ∙ ap (same_bytes text) (sym (place_cut (bytes_of k rule table) (p % 2 ^ 32) (p / 2 ^ 32) (sym size ∙ e))))
 
 pub text_nowhere : (rule table text : List ℕ) (k p : ℕ) → (k ≡ 5 → ⊥) → (k ≡ 6 → ⊥) → false ≡ same_key (entry (utf8 text)) (meaning rule table (value_of k p))
 unfolding pair_of value_of
@@ -300,22 +275,6 @@ module _ (rule table : List ℕ) {kinds keys indices : List ℕ} {size otherwise
   told_index w e h p =
       number_index_lem w h refl refl p ∙ sym (ap (λ (x : Value). base_index (key_index rule table kinds keys indices size otherwise) otherwise (meaning rule table x)) e)
 
-  pub int32_index : {v : Value} {n r : ℕ} → v ≡ Int32 n → r ≡ number_index kinds keys indices size otherwise 2 n
-      → r ≡ base_index (key_index rule table kinds keys indices size otherwise) otherwise (meaning rule table v)
-  int32_index {n = n} e p = told_index (Int32 n) e (hit (1 ∷ 2 ∷ 3 ∷ 4 ∷ 5 ∷ []) 2 tt) p
-
-  pub int64_index : {v : Value} {n r : ℕ} → v ≡ Int64 n → r ≡ number_index kinds keys indices size otherwise 3 n
-      → r ≡ base_index (key_index rule table kinds keys indices size otherwise) otherwise (meaning rule table v)
-  int64_index {n = n} e p = told_index (Int64 n) e (hit (1 ∷ 2 ∷ 3 ∷ 4 ∷ 5 ∷ []) 3 tt) p
-
-  pub float64_index : {v : Value} {f : Float} {bits r : ℕ} → v ≡ Float64 f → bits ≡ payload_of (Float64 f) → r ≡ number_index kinds keys indices size otherwise 4 bits
-      → r ≡ base_index (key_index rule table kinds keys indices size otherwise) otherwise (meaning rule table v)
-  float64_index {f = f} e q p = told_index (Float64 f) e (hit (1 ∷ 2 ∷ 3 ∷ 4 ∷ 5 ∷ []) 4 tt) (p ∙ ap (number_index kinds keys indices size otherwise 4) q)
-
-  pub nan_index : {v : Value} {n r : ℕ} → v ≡ Nan n → r ≡ number_index kinds keys indices size otherwise 4 n
-      → r ≡ base_index (key_index rule table kinds keys indices size otherwise) otherwise (meaning rule table v)
-  nan_index {n = n} e p = told_index (Nan n) e (hit (1 ∷ 2 ∷ 3 ∷ 4 ∷ 5 ∷ []) 5 tt) p
-
   pub boolean_index : {v : Value} {b : Bool} {m : BooleanIndexMap} {r : ℕ} → v ≡ Boolean b → BooleansOf kinds keys indices size otherwise m → r ≡ cond b m.true_index m.false_index
       → r ≡ base_index (key_index rule table kinds keys indices size otherwise) otherwise (meaning rule table v)
   boolean_index {b = b} {m} {r} e both p = told_index (Boolean b) e (hit (1 ∷ 2 ∷ 3 ∷ 4 ∷ 5 ∷ []) 1 tt) (p ∙ go b)
@@ -335,7 +294,7 @@ module _ (rule table : List ℕ) {kinds keys indices : List ℕ} {size otherwise
 -- ---- a key more
 
 -- a table with no key
-pub no_keys : {kinds keys indices : List ℕ} (otherwise : ℕ) → Keys kinds keys indices 0 0 → Keys kinds keys indices 0 otherwise
+pub no_keys : {kinds keys indices : List ℕ} {of : ℕ} (otherwise : ℕ) → Keys kinds keys indices 0 of → Keys kinds keys indices 0 otherwise
 no_keys otherwise t = record {
   kinds_long = t.kinds_long;
   keys_long = t.keys_long;
@@ -490,12 +449,18 @@ pub added_value : {rule table : List ℕ} {v w : Value} {index otherwise : ℕ} 
 added_value {rule} {table} {index = index} {otherwise} {ks} {ps} {is} {ks'} {ps'} {is'} {size} {size'} e a =
     subst (λ (x : Value). Added rule table x index otherwise ks ps is size ks' ps' is' size') e a
 
+-- by the index of ELSE
+pub added_behind : {rule table : List ℕ} {v : Value} {index behind otherwise : ℕ} {ks ps is ks' ps' is' : List ℕ} {size size' : ℕ} → behind ≡ otherwise
+    → Added rule table v index behind ks ps is size ks' ps' is' size' → Added rule table v index otherwise ks ps is size ks' ps' is' size'
+added_behind {rule} {table} {v} {index} {ks = ks} {ps} {is} {ks'} {ps'} {is'} {size} {size'} e a = subst (λ (x : ℕ). Added rule table v index x ks ps is size ks' ps' is' size') e a
+
 -- ---- the table of the WHENs
 
 module _ {rule table kinds payloads : List ℕ} {otherwise : ℕ} where
-  pub table_none : {key-kinds keys indices : List ℕ} → Keys key-kinds keys indices 0 0 → TableOf rule table kinds payloads 0 otherwise key-kinds keys indices 0
+  pub table_none : {key-kinds keys indices : List ℕ} {size of : ℕ} → Keys key-kinds keys indices size of → size ≡ 0 → TableOf rule table kinds payloads 0 otherwise key-kinds keys indices size
   unfolding found
-  table_none t = record { arrays = no_keys otherwise t; each_once = record { no_null_lem = λ k h. absurd (omega arith); unlike = λ j k l h. absurd (omega arith) }; no_more = omega arith; right = λ b. refl }
+  table_none {size = suc n} t e = absurd (omega arith)
+  table_none {size = zero} t e = record { arrays = no_keys otherwise t; each_once = record { no_null_lem = λ k h. absurd (omega arith); unlike = λ j k l h. absurd (omega arith) }; no_more = omega arith; right = λ b. refl }
 
   -- one WHEN more
   when_more : {n : ℕ} {ks ps is ks' ps' is' : List ℕ} {size size' index : ℕ} {v : Value} → TableOf rule table kinds payloads n otherwise ks ps is size → 2 * n + 1 < otherwise

@@ -426,9 +426,10 @@ module _ {rule : List ℕ} (table : List ℕ) {kinds payloads : List ℕ} {at en
     outcome_found unfit = ap (λ (x : ℕ). meaning rule table (value_of x (get_or payloads (2 * count + 1) 0))) read.failed
 
   -- by the table
-  pub looked_up : {ks ps is : List ℕ} {size : ℕ} (w : List ℕ) (to : DataType) → TableOf rule table kinds payloads count (2 * count) ks ps is size → (r : ℕ) (v : Value)
-      → MappedBy rule table kinds payloads (key_index rule table ks ps is size (2 * count)) (2 * count) w r v → LookedUp rule at end count to table w r v
-  looked_up {ks} {ps} {is} {size} w to t r v mapped bs els depth row trees counted few serves result =
+  pub looked_up : {ks ps is : List ℕ} {size otherwise : ℕ} (w : List ℕ) (to : DataType) → TableOf rule table kinds payloads count (2 * count) ks ps is size → otherwise ≡ 2 * count → (r : ℕ) (v : Value)
+      → MappedBy rule table kinds payloads (key_index rule table ks ps is size otherwise) otherwise w r v → LookedUp rule at end count to table w r v
+  looked_up {ks} {ps} {is} {size} w to t behind r v found bs els depth row trees counted few serves result =
+      let mapped = subst (λ (x : ℕ). MappedBy rule table kinds payloads (key_index rule table ks ps is size x) x w r v) behind found in
       let (all, else-serves) = serves_told bs (drop_null els) serves in
       ap (meaning rule table) mapped
       ∙ ap (λ (x : ℕ). meaning rule table (value_at kinds payloads x)) (by_table (meaning rule table (slot_at w r)))
@@ -453,8 +454,12 @@ module _ {rule : List ℕ} (table : List ℕ) {kinds payloads : List ℕ} {at en
         e : Entry
         e = columns.entry_at (column_in table place) q
 
-    pub based_by : {w : List ℕ} {n : ℕ} {served : Bool} {values : List ℕ} → ColumnKeyed table place ks ps is size (2 * count) w n rule served values → BaseGives rule at end table place count w n served values
-    based_by {values = values} g = record { long = g.long; each = λ s q l. keyed_base q (get_or values q 0) (g.each s q l) }
+    pub based_by : {w : List ℕ} {n otherwise : ℕ} {served : Bool} {values : List ℕ} → otherwise ≡ 2 * count → ColumnKeyed table place ks ps is size otherwise w n rule served values
+        → BaseGives rule at end table place count w n served values
+    based_by {values = values} behind g = record {
+      long = g.long;
+      each = λ s q l. keyed_base q (get_or values q 0) (subst (λ (x : ℕ). KeyedRow rule table place ks ps is size x q (get_or values q 0)) behind (g.each s q l));
+    }
 
 -- arrays that are new
 pub zeros : (n i : ℕ) → ◌≡◌ {A = ℕ} (get_or (replicate n 0) i 0) 0

@@ -81,22 +81,10 @@ pub record NumberedSoFar (w : List ℕ) (n : ℕ) (values : List ℕ) (from : �
   pub few : i ≤ n
   pub numbered : Numbered w i values from classes classes'
 
-pub numbered_none : {w : List ℕ} {n : ℕ} {values : List ℕ} {from : ℕ} {classes : List ℕ} → length classes ≡ 512 → NumberedSoFar w n values from classes classes 0
-numbered_none long = record { few = omega arith; numbered = record { long = long; here = λ q l. absurd (let h = l.1 in omega arith); others = λ q h. refl } }
-
 module _ {w : List ℕ} {n : ℕ} {values : List ℕ} {from : ℕ} {classes classes' : List ℕ} {i : ℕ} (s : NumberedSoFar w n values from classes classes' i) where
-  pub numbered_all : n ≤ i → Numbered w n values from classes classes'
-  numbered_all all =
-      let f = s.few in
-      let e : i ≡ n = omega arith in
-      subst (λ (m : ℕ). Numbered w m values from classes classes') e s.numbered
-
   module _ (ok : Rows w 0 n 512) (more : i < n) {r : ℕ} (e : r ≡ row_at w 0 i) where
     pub number_in : r < 512
     number_in = let b = ok.below i more in omega arith
-
-    pub number_listed : Listed w 0 n r
-    number_listed = (i, more, sym e)
 
     pub numbered_next : NumberedSoFar w n values from classes (set classes' r (from + get_or values r 0)) (i + 1)
     numbered_next = record {
@@ -135,10 +123,7 @@ case_none long grown = record {
   here = λ n. absurd (n refl);
 }
 
--- the results of a CASE were not read, or are as they have to be
-pub nested_none : {rule : List ℕ} {start end code from : ℕ} {kinds payloads kinds' payloads' : List ℕ} → Grown from kinds payloads kinds' payloads' → NestedResults rule start end code from kinds payloads 0 kinds' payloads'
-nested_none grown = record { grown = grown; found = λ there. absurd (there refl) }
-
+-- the results of a CASE, as they have to be
 pub nested_give : {rule : List ℕ} {start end code from place count : ℕ} {kinds payloads kinds' payloads' : List ℕ} {to : DataType} {all : Bool} → start < length rule → count ≡ byte rule (start + 4)
     → from + count + 3 ≤ 258 → TypeGives rule start to → Grown from kinds payloads kinds' payloads' → BlockRead rule place end count to from kinds' payloads' → all ≡ all_of_kind kinds' code from (count + 1) → all ≡ true
     → NestedResults rule start end code from kinds payloads place kinds' payloads'

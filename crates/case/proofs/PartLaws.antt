@@ -7,10 +7,12 @@ use Rattle.layout.specs.Result.{ok}
 use Rattle.layout.proofs.TestLaws.{both_hold}
 use Rattle.layout.proofs.ResultLaws.{ok_injective, refused_not_ok}
 use Rattle.builder.specs.declared.ResultBuilder.{ResultBuilder}
-use Rattle.builder.specs.declared.BuilderAnswer.{BuilderAnswer}
-use Rattle.builder.specs.Builder.{Builder, rising_below, holds, some_held, hold_all}
-use Rattle.builder.specs.BuilderStruct.{count_of, builder_of, answer_of, add_answer}
-use Rattle.builder.proofs.BuilderLaws.{rising_length, count_is, add_goes, add_gives}
+use Rattle.builder.specs.Builder.{Builder, is_whole, rising_below, holds, some_held, hold_all}
+use Rattle.builder.specs.BuilderStruct.{count_of, builder_of, answer_of, AddGives}
+use Rattle.builder.proofs.BuilderLaws.{rising_length, count_is, Answers, add_goes, add_gives}
+use Rattle.std.specs.Prelude.{Result as RustResult, Ok, Err, IsOk}
+use Rattle.layout.specs.declared.refusal.Refusal.{Refusal}
+use Rattle.layout.specs.Refusals.{number_of}
 use Rattle.case.specs.Choosing.{held_by}
 use Rattle.case.specs.Parting.{Among, PartAsks, PartGives}
 
@@ -97,9 +99,14 @@ hold_here (r ∷ rows) held (v ∷ values) from p e (suc k) h =
 -- ---- the part
 
 -- what an answer that is no refusal says
-pub answer_is : (n : ℕ) (r : ResultBuilder) (x : Builder ℕ) → answer_of n r ≡ ok x → builder_of r ≡ x
-answer_is zero r x p = ok_injective p
-answer_is (suc n) r x p = absurd (refused_not_ok (suc n) x p)
+answer_is : (r : RustResult (Unit {0}) Refusal) (b : ResultBuilder) (x : Builder ℕ) → answer_of (λ _. builder_of b) r ≡ ok x → builder_of b ≡ x
+answer_is (Ok u) b x p = ok_injective p
+answer_is (Err e) b x p = absurd (refused_not_ok (number_of e) x p)
+
+-- and that it is none
+answer_there : (r : RustResult (Unit {0}) Refusal) (b : ResultBuilder) (x : Builder ℕ) → answer_of (λ _. builder_of b) r ≡ ok x → IsOk r
+answer_there (Ok u) b x p = refl
+answer_there (Err e) b x p = absurd (refused_not_ok (number_of e) x p)
 
 no_clash : (whole part all : Bool) → (whole ≡ true → ⊥) → (part ≡ true → all ≡ true → ⊥) → not (not whole && not (part && all)) ≡ false
 no_clash true part all a b = absurd (a refl)
@@ -139,12 +146,24 @@ module _ (b : ResultBuilder) (rows values : List ℕ) (asks : PartAsks b rows va
         twice : (q k : ℕ) → k < length rows → get_or rows k 0 ≡ q → holds (held_by b q) ≡ true → ⊥
         twice q k h is t = false≢true (sym (ap holds (ap (held_by b) (sym is) ∙ asks.free k h)) ∙ t)
 
-    pub part_added : (length rows ≡ 0 → ⊥) → (r : BuilderAnswer) → r ≡ add_answer b rows values → PartGives b rows values r.builder
-    part_added some-row r said =
-        let g = add_gives b rows values long long_values said in
-        let fits = no_clash b.whole b.part (eqb (length rows) (count_of b)) (λ p. some-row (asks.whole_done p)) clash in
-        let goes = add_goes b rows values long long_values asks.same (rising_rows (count_of b) counted) fits (none_held (builder_of b).held rows asks.free) in
-        let is = answer_is r.refused r.builder _ (g.says ∙ goes) in
+    module _ (some-row : length rows ≡ 0 → ⊥) {r : RustResult (Unit {0}) Refusal} {b' : ResultBuilder} (said : Answers b rows values long long_values r b') where
+      g : AddGives b rows values r b'
+      g = add_gives b rows values long long_values said
+
+      goes : answer_of (λ _. builder_of b') r ≡ ok (record { part = b.part || not (is_whole (builder_of b) rows); whole = is_whole (builder_of b) rows; held = hold_all (builder_of b).held rows values })
+      goes =
+          let fits = no_clash b.whole b.part (eqb (length rows) (count_of b)) (λ p. some-row (asks.whole_done p)) clash in
+          g.says ∙ add_goes b rows values long long_values asks.same (rising_rows (count_of b) counted) fits (none_held (builder_of b).held rows asks.free)
+
+      -- none of the refusals occurs
+      pub part_taken : IsOk r
+      part_taken = answer_there r b' _ goes
+
+      is : builder_of b' ≡ record { part = b.part || not (is_whole (builder_of b) rows); whole = is_whole (builder_of b) rows; held = hold_all (builder_of b).held rows values }
+      is = answer_is r b' _ goes
+
+      pub part_added : PartGives b rows values b'
+      part_added =
         record {
           same_rows = g.same_rows;
           here = λ k h. ap (λ (x : Builder ℕ). get_or x.held (get_or rows k 0) none) is ∙ hold_here rows (builder_of b).held values 0 (rising_rows (length (builder_of b).held) size) asks.same k h;

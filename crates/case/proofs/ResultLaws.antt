@@ -19,11 +19,11 @@ use Rattle.rule.proofs.WalkLaws.{node_of_tag, first_two, branches_length}
 use Rattle.case.specs.Frame.{row_at, Filled, Fillable, SlotPut}
 use Rattle.case.specs.LookUpTables.{value_at}
 use Rattle.case.specs.Evaluation.{result_at, indexed}
-use Rattle.case.specs.Results.{else_known, result_known, index_known, StartRight, Held, EmptyArrays, ThensRead, ResultsRead, PutBy}
+use Rattle.case.specs.Results.{else_known, result_known, index_known, StartRight, Held, ThensRead, ResultsRead, PutBy}
 use Rattle.case.proofs.CaseLaws.{is_literal_lem, result_else, result_failed}
-use Rattle.case.proofs.CellLaws.{filled_as}
+use Rattle.case.proofs.RowsLaws.{filled_as}
 use Rattle.case.proofs.RowsLaws.{FilledSoFar, next}
-use Rattle.case.proofs.BranchLaws.{BranchAt, branch_at, branch_stands, behind_none, behind_two, known_then, known_else}
+use Rattle.case.proofs.BranchLaws.{BranchAt, branch_at, branch_stands, behind_two, known_then, known_else}
 
 -- ---- what is known without the row
 
@@ -68,28 +68,7 @@ pub record ThensSoFar (rule : List ℕ) (at count : ℕ) (kinds payloads : List 
   pub small : count ≤ 255
   pub read : ThensRead rule at count (k - 1) kinds payloads place
 
-pub thens_none : {rule : List ℕ} {at count : ℕ} {kinds payloads : List ℕ} → EmptyArrays count kinds payloads → ThensSoFar rule at count kinds payloads at 1
-thens_none {rule} {at} a = record {
-  first = omega arith;
-  few = omega arith;
-  small = a.few;
-  read = record {
-    kinds_long = a.kinds_long;
-    payloads_long = a.payloads_long;
-    null_first = a.empty 0;
-    unread = λ j h. a.empty j;
-    behind = behind_none (2 * (1 - 1)) refl;
-    held = λ bs els rest end depth row o table trees n j h. absurd (omega arith);
-  };
-}
-
 module _ {rule : List ℕ} {at count : ℕ} {kinds payloads : List ℕ} {place k : ℕ} (s : ThensSoFar rule at count kinds payloads place k) where
-  pub thens_all : count < k → ThensRead rule at count count kinds payloads place
-  thens_all all =
-      let few = s.few in
-      let e : k - 1 ≡ count = omega arith in
-      subst (λ (i : ℕ). ThensRead rule at count i kinds payloads place) e s.read
-
   module _ (more : k ≤ count) where
     -- the index lies in the arrays
     pub then_in : k < 258

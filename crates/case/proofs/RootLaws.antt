@@ -103,7 +103,7 @@ module _ {rule table : List ℕ} {t : Table} {w classes kinds payloads : List �
       number = (omega arith, omega arith);
       inside = record {
         few = asks.few;
-        classes_long_lem = thens.classes_long_lem;
+        classes_full = thens.classes_long_lem;
         payloads_long = thens.arrays.1;
         below = λ i l. (thens.here h i (root_listed asks i l)).below;
       };

@@ -1,5 +1,6 @@
 -- Loops over the listed rows of the work buffer: one row a turn. Assumes nothing.
-use Rattle.std.proofs.Common.{◌≡◌, ℕ, ◌+◌, ◌-◌, ◌*◌, ◌<◌, ◌≤◌, List, length, sym, refl, ap, ◌∙◌, subst, inl, ⊎_elim, arith}
+use Rattle.std.proofs.Common.{◌≡◌, ℕ, ◌+◌, ◌-◌, ◌*◌, ◌<◌, ◌≤◌, List, length, sym, refl, ap, ◌∙◌, subst, inl, ⊎_elim, arith, ◌++◌, take, drop, length-append, length-drop, length-take-le}
+use Rattle.std.proofs.lemmas.List.{get_or-take, get_or-drop, get_or_append_left, get_or-append_right}
 use native.Mathlib.Decide.{ℕ_discrete}
 use Rattle.layout.specs.Bytes.{byte}
 use Rattle.scalar.specs.declared.value.Value.{Value}
@@ -41,6 +42,10 @@ ends {at} {right} {w} {n} {i} {w'} s h =
     let few = s.few in
     let e : i ≡ n = omega arith in
     subst (λ (k : ℕ). FilledFrom at right w k w') e s.done
+
+-- the same by what is right of the listed rows
+pub filled_as : {at : ℕ} {first right : ℕ → Value → Type 0} {w : List ℕ} {n : ℕ} {w' : List ℕ} → FilledFrom at first w n w' → ((r : ℕ) (v : Value) → first r v → right r v) → FilledFrom at right w n w'
+filled_as {w' = w'} d fits = record { long = d.long; here = λ r l. fits r (slot_at w' r) (d.here r l); others = d.others; low = d.low; high = d.high }
 
 -- one turn, at the row that is read
 module _ {at : ℕ} {right : ℕ → Value → Type 0} {w : List ℕ} {n i : ℕ} {m : List ℕ} (s : FilledFromSoFar at right w n i m) (ok : FillableFrom at w n) (more : i < n) where
@@ -96,7 +101,7 @@ module _ {at : ℕ} {right : ℕ → Value → Type 0} {w : List ℕ} {n i : ℕ
             subst (right q) (sym (put.others q p)) (s.done.here q (l.0, earlier q l.0 l.1 l.2 p (ℕ_discrete l.0 i), l.2))
 
 -- the frame's own list
-own : {w : List ℕ} {n : ℕ} → Fillable w n → FillableFrom 0 w n
+pub own : {w : List ℕ} {n : ℕ} → Fillable w n → FillableFrom 0 w n
 own ok = record {
   rows_ok = ok.rows_ok;
   room = ok.room;
@@ -119,20 +124,40 @@ module _ {right : ℕ → Value → Type 0} {w : List ℕ} {n i : ℕ} {m : List
     pub next : {v : Value} {m' : List ℕ} → SlotPut m r v m' → right r v → FilledSoFar right w n (i + 1) m'
     next = next_from s (own ok) more e
 
--- ---- a list, copied behind it
+-- ---- a list, copied behind it: the bytes before, the list, and what stands behind
 
-pub copied : {w w' : List ℕ} {n from to : ℕ} → (from + 2 * n ≤ to) × (to + 2 * n ≤ length w) → length w' ≡ length w
-    → ((k : ℕ) → to ≤ k → k < to + 2 * n → byte w' k ≡ byte w (from + (k - to))) → ((k : ℕ) → k < to → byte w' k ≡ byte w k) → Copied w n from to w'
-copied {w} {w'} {n} {from} {to} ask long same before = record {
-  long = long;
+pub copied : {w : List ℕ} {n from to m : ℕ} (front part rest : List ℕ) → (from + 2 * n ≤ to) × (to + 2 * n ≤ length w) → front ≡ take to w → m ≡ 2 * n → part ≡ take m (drop from front)
+    → length (part ++ rest) ≡ length w - to → Copied w n from to (front ++ (part ++ rest))
+copied {w} {n} {from} {to} {m} front part rest ask is size part_is left = record {
+  long = length-append front (part ++ rest) ∙ omega (arith, front_long, left);
   rows_copied = λ k h. number_same 2 w' w (to + 2 * k) (from + 2 * k) (λ j b. byte_at k h j b);
-  before = before;
+  before = λ j h. get_or_append_left front (part ++ rest) 0 j (omega (arith, front_long)) ∙ front_at j h;
 }
   where
+    w' : List ℕ
+    w' = front ++ (part ++ rest)
+
+    front_long : length front ≡ to
+    front_long = ap length is ∙ length-take-le to w (omega arith)
+
+    part_long : length part ≡ 2 * n
+    part_long = ap length part_is ∙ length-take-le m (drop from front) (omega (arith, length-drop from front, front_long)) ∙ size
+
+    front_at : (j : ℕ) → j < to → byte front j ≡ byte w j
+    front_at j h = ap (λ (l : List ℕ). byte l j) is ∙ get_or-take to w j 0 h
+
     byte_at : (k : ℕ) → k < n → (j : ℕ) → j < 2 → byte w' (to + 2 * k + j) ≡ byte w (from + 2 * k + j)
     byte_at k h j b =
-        let q : from + (to + 2 * k + j - to) ≡ from + 2 * k + j = omega arith in
-        same (to + 2 * k + j) (omega arith) (omega arith) ∙ ap (byte w) q
+        let p : to + 2 * k + j - to ≡ 2 * k + j = omega arith in
+        let q : from + (2 * k + j) ≡ from + 2 * k + j = omega arith in
+        get_or-append_right front (part ++ rest) to (to + 2 * k + j) 0 front_long (omega arith)
+        ∙ ap (byte (part ++ rest)) p
+        ∙ get_or_append_left part rest 0 (2 * k + j) (omega (arith, part_long))
+        ∙ ap (λ (l : List ℕ). byte l (2 * k + j)) part_is
+        ∙ get_or-take m (drop from front) (2 * k + j) 0 (omega arith)
+        ∙ get_or-drop from front (2 * k + j) 0
+        ∙ front_at (from + (2 * k + j)) (omega arith)
+        ∙ ap (byte w) q
 
 -- ---- all rows, put in the frame's own list
 
@@ -141,14 +166,7 @@ pub record AllRowsSoFar (n i : ℕ) (w w' : List ℕ) : Type 0 where
   pub few : i ≤ n
   pub done : AllRows i w w'
 
-pub all_none : {n : ℕ} {w : List ℕ} → AllRowsSoFar n 0 w w
-all_none = record { few = omega arith; done = record { long = refl; rows_are = λ i h. absurd (omega arith); high = λ j h. refl } }
-
 module _ {n i : ℕ} {w m : List ℕ} (s : AllRowsSoFar n i w m) (ok : (n ≤ 512) × (1024 ≤ length w)) (more : i < n) where
-  -- the row's place lies in the buffer
-  pub all_in : (0 + 2 * i + 2 ≤ length m) × (i < 65536)
-  all_in = (omega (arith, ok.0, ok.1, s.done.long), omega (arith, ok.0))
-
   pub all_more : {m' : List ℕ} → RowPut m 0 i i m' → AllRowsSoFar n (i + 1) w m'
   all_more {m'} put = record {
     few = omega arith;
@@ -162,12 +180,6 @@ module _ {n i : ℕ} {w m : List ℕ} (s : AllRowsSoFar n i w m) (ok : (n ≤ 51
       row_is : (k : ℕ) → k < i + 1 → Dec (k ≡ i) → row_at m' 0 k ≡ k
       row_is k h (yes e) = ap (row_at m' 0) e ∙ put.here ∙ sym e
       row_is k h (no e) = number_same 2 m' m (0 + 2 * k) (0 + 2 * k) (λ j b. put.before (0 + 2 * k + j) (omega arith)) ∙ s.done.rows_are k (omega arith)
-
-pub all_ends : {n i : ℕ} {w w' : List ℕ} → AllRowsSoFar n i w w' → n ≤ i → AllRows n w w'
-all_ends {n} {i} {w} {w'} s h =
-    let few = s.few in
-    let e : i ≡ n = omega arith in
-    subst (λ (k : ℕ). AllRows k w w') e s.done
 
 -- all rows rise, and each is listed
 module _ {n : ℕ} {w w' : List ℕ} (a : AllRows n w w') where

@@ -1,7 +1,7 @@
 -- A run, taken backwards, and its rows. Assumes nothing.
 use Rattle.std.proofs.Common.{◌≡◌, ℕ, zero, suc, ◌+◌, ◌<◌, ◌≤◌, Bool, true, false, leb, List, [], ◌∷◌, map, length, get_or, sym, refl, ap, ◌∙◌, subst, arith, le-leb, leb-true}
 use Rattle.layout.specs.Result.{Result, refused, ok, ◌>>=◌, require}
-use Rattle.layout.proofs.ResultLaws.{refused_not_ok, ok_injective, bind_ok, require_ok}
+use Rattle.layout.proofs.ResultLaws.{RefusedAmong, refused_not_ok, ok_injective, bind_ok, require_ok}
 use Rattle.scalar.specs.Entry.{Entry, null, Outcome, entry, unfit}
 use Rattle.scalar.specs.Cast.{is_unfit}
 use Rattle.rule.specs.Tree.{Expr}
@@ -9,7 +9,11 @@ use Rattle.rule.specs.Row.{eval}
 use Rattle.rule.specs.Reading.{read_rule}
 use Rattle.table.specs.Reading.{Table, read_table}
 use Rattle.writer.specs.Answer.{text_length}
-use Rattle.writer.specs.declared.RunAnswer.TheVariants as Says
+use Rattle.std.specs.Prelude.{Ok, Err}
+use Rattle.layout.specs.declared.refusal.Refusal.{Refusal}
+use Rattle.layout.specs.Refusals.{run_refusals, number_of}
+use Rattle.layout.proofs.RefusalLaws.{number_kept}
+use Rattle.layout.proofs.AnswerLaws.{answered_ok, answered_err}
 use Rattle.writer.specs.Written.{rows_from, entries_of, text_most, written_as, run_answer}
 use Rattle.case.specs.Fits.{fits, row_of}
 use Rattle.case.specs.Run.{outcomes, work_least, answer_bytes, written, run_read, run}
@@ -150,13 +154,13 @@ run_fits rule table work output answer r =
     (run_answered rule table work output answer e t reads table_reads r).1.room
 
 -- a run by what it says
-pub answered_run : (d : Result (List ℕ)) (k : ℕ) → Says.Answered k ≡ run_answer d → (l : List ℕ) × (d ≡ ok l) × (k ≡ length l)
-answered_run (refused n) k e = let z : ◌≡◌ {A = ℕ} 0 1 = cc in absurd (omega arith)
-answered_run (ok l) k e = (l, refl, cc)
+pub answered_run : (d : Result (List ℕ)) (k : ℕ) → Ok k ≡ run_answer d → (l : List ℕ) × (d ≡ ok l) × (k ≡ length l)
+answered_run d k e = answered_ok length d e
 
-pub refused_run : (d : Result (List ℕ)) (n : ℕ) → Says.Refused n ≡ run_answer d → d ≡ refused n
-refused_run (refused m) n e = cc
-refused_run (ok l) n e = let z : ◌≡◌ {A = ℕ} 0 1 = cc in absurd (omega arith)
+pub refused_run : (d : Result (List ℕ)) → RefusedAmong run_refusals d → {r : Refusal} → Err r ≡ run_answer d → d ≡ refused (number_of r)
+refused_run d numbers p =
+    let (n, is, same) = answered_err length d p in
+    is ∙ ap refused (sym (number_kept run_refusals n refl (numbers.one n is)) ∙ sym (ap number_of same))
 
 -- writing is not refused with 15
 written_not_15 : (e : Expr) (es : List Entry) (output : ℕ) → written e es output ≡ refused 15 → ⊥

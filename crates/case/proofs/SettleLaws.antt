@@ -1,19 +1,22 @@
 -- Settling: the rows that leave go to the builder, and the open list stays one. Assumes nothing.
-use Rattle.std.proofs.Common.{◌≡◌, ℕ, zero, suc, ◌-◌, ◌<◌, ◌≤◌, true, false, List, length, get_or, take, replicate, sym, refl, ap, ◌∙◌, subst, ⊎_elim, arith, length-take-le, get_or-take, le-leb}
+use Rattle.std.proofs.Common.{◌≡◌, ℕ, zero, suc, ◌-◌, ◌<◌, ◌≤◌, Bool, true, false, List, length, get_or, take, replicate, sym, refl, ap, ◌∙◌, subst, ⊎_elim, arith, length-take-le, get_or-take, le-leb}
 use mathlib.Core.Bool.{false≢true}
 use mathlib.Core.Option.{Option, some, none}
 use lib.ListN.{get_or-map}
 use Rattle.builder.specs.declared.ResultBuilder.{ResultBuilder}
-use Rattle.builder.specs.declared.BuilderAnswer.{BuilderAnswer}
 use Rattle.builder.specs.declared.Finished.{Finished}
 use Rattle.builder.specs.Builder.{Builder, holds, or_else}
-use Rattle.builder.specs.BuilderStruct.{builder_of, new_answer, finish_answer}
+use Rattle.builder.specs.BuilderStruct.{builder_of, empty_builder, new_answer, finish_answer}
 use Rattle.builder.proofs.BuilderLaws.{new_gives, finish_gives}
 use Rattle.case.specs.Frame.{row_at, Rows, Listed}
 use Rattle.case.specs.declared.settle.Settled.{Settled}
 use Rattle.case.specs.Choosing.{held_by, Open, Settles}
 use Rattle.case.specs.Parting.{Among, Parted, PartAsks, PartGives}
-use Rattle.case.proofs.PartLaws.{answer_is}
+use Rattle.layout.specs.declared.refusal.Refusal.{Refusal}
+use Rattle.layout.specs.Result.{◌>>=◌, require, answered}
+use Rattle.layout.specs.Result as Read
+use Rattle.layout.proofs.ResultLaws.{ok_injective}
+use Rattle.std.specs.Prelude.{Result as RustResult, Ok, is_ok, IsOk}
 
 -- ---- the beginning and the end
 
@@ -23,16 +26,21 @@ nothing zero q = refl
 nothing (suc n) zero = refl
 nothing (suc n) (suc q) = nothing n q
 
-module _ (rows : ℕ) (r : BuilderAnswer) (said : r ≡ new_answer rows) (few : rows ≤ 512) where
-  new_is : builder_of r.builder ≡ record { part = false; whole = false; held = replicate rows none }
-  new_is = answer_is r.refused r.builder _ ((new_gives said).says ∙ simp (le-leb rows 512 few))
+-- so many rows have a builder
+pub new_there : {rows : ℕ} {r : RustResult ResultBuilder Refusal} → r ≡ new_answer rows → rows ≤ 512 → IsOk r
+unfolding new_answer
+new_there {rows} e few = ap is_ok e ∙ ap (λ (t : Bool). is_ok (answered (λ (b : Builder ℕ). empty_builder rows) (require t 10 >>= λ _. Read.ok (record { part = false; whole = false; held = replicate rows none })))) (le-leb rows 512 few)
 
-  pub new_free : (q : ℕ) → held_by r.builder q ≡ none
+module _ (rows : ℕ) (b : ResultBuilder) (said : Ok b ≡ new_answer rows) (few : rows ≤ 512) where
+  new_is : builder_of b ≡ record { part = false; whole = false; held = replicate rows none }
+  new_is = ok_injective ((new_gives said).says ∙ simp (le-leb rows 512 few))
+
+  pub new_free : (q : ℕ) → held_by b q ≡ none
   new_free q = ap (λ (x : Builder ℕ). get_or x.held q none) new_is ∙ nothing rows q
 
-  pub new_open : (w : List ℕ) (left : ℕ) → Rows w 5632 left rows → Open r.builder w left rows
+  pub new_open : (w : List ℕ) (left : ℕ) → Rows w 5632 left rows → Open b w left rows
   new_open w left ok = record {
-    sized = (new_gives said).same_rows few;
+    sized = (new_gives said).same_rows;
     small = few;
     list_ok = ok;
     free = λ q l. new_free q;

@@ -140,11 +140,6 @@ slot_copied {w} {r} {w'} a b s =
     let e : 7680 + 9 * r + 1 ≡ 7681 + 9 * r = omega arith in
     subst (λ (x : Value). SlotPut w r x w') (ap₂ value_of a (b ∙ ap (number_at 8 w) e)) s
 
--- the value at a slot's place, its payload right behind
-pub slot_there : (w : List ℕ) (at behind : ℕ) (v : Value) → at + 1 ≡ behind → (v ≡ value_of (byte w at) (number_at 8 w (at + 1))) × Storable v
-    → (v ≡ value_of (byte w at) (number_at 8 w behind)) × Storable v
-slot_there w at behind v e (p, s) = (p ∙ ap (λ (k : ℕ). value_of (byte w at) (number_at 8 w k)) e, s)
-
 -- a value by its kind and its payload
 pub stored_is : (v : Value) {k p : ℕ} {r : Value} → k ≡ kind_of v → p ≡ payload_of v → r ≡ value_of k p → p < 2 ^ 64 → Storable r × (Storable v → r ≡ v)
 stored_is v {k} {p} {r} a b c small = (

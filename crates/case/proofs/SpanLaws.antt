@@ -1,21 +1,25 @@
 -- The numbers that pass a step lie between two: a row's index by spans is its index by steps. Assumes nothing.
-use Rattle.std.proofs.Common.{◌≡◌, ℕ, suc, ◌+◌, ◌-◌, ◌^◌, ◌<◌, ◌≤◌, Bool, true, false, cond, eqb, ltb, ◌⊎◌, List, length, get_or, set, sym, refl, ap, ◌∙◌, subst, ap₂, inl, inr, ⊎_elim, arith, length-set, get_or-set_other, get_or-set_same, ltb-false, ltb-true, le-ltb, lt-ltb, eqb-true, le-leb}
+use Rattle.std.proofs.Common.{◌≡◌, ℕ, suc, ◌+◌, ◌-◌, ◌^◌, ◌<◌, ◌≤◌, Bool, true, false, cond, eqb, ltb, ◌⊎◌, zero, List, [], ◌∷◌, length, get_or, set, replicate, sym, refl, ap, ◌∙◌, subst, ap₂, inl, inr, ⊎_elim, arith, length-set, get_or-set_other, get_or-set_same, ltb-false, ltb-true, le-ltb, lt-ltb, eqb-true, le-leb}
 use native.Mathlib.Decide.{ℕ_discrete}
 use borrow.Author.Tests.{eqb-false, lt-leb}
 use Rattle.scalar.specs.declared.types.DataType.{DataType}
 use Rattle.scalar.specs.declared.order.Key.{Key}
 use Rattle.scalar.specs.declared.order.Key.TheVariants as Keys
-use Rattle.scalar.specs.Types.{mark_number}
+use Rattle.scalar.specs.Types.{mark_number, type_number}
 use Rattle.scalar.specs.Float.{sign_turned, total_key}
 use Rattle.scalar.specs.Entry.{Entry, null, boolean, int32, int64, float64, utf8}
 use Rattle.scalar.specs.Order.{Numbered}
 use Rattle.scalar.proofs.FloatLaws.{sign_turned_below}
 use Rattle.table.specs.Column.{valid_in, value_at}
+use Rattle.rule.specs.Walks.{EndGives}
+use Rattle.table.specs.declared.places.ColumnPlace.{ColumnPlace}
+use Rattle.table.specs.Places.{column_in}
+use Rattle.case.specs.declared.steps.Step.{Step}
 use Rattle.case.specs.Frame.{Rows}
 use Rattle.case.specs.LookUpTables.{found}
-use Rattle.case.specs.Steps.{KeysAt, number_most, step_passes, step_index, step_low, step_high, SpansOf, in_span, span_index, row_span, one_span, RowIndex, RowsIndexed}
+use Rattle.case.specs.Steps.{comparison_tag, StepGives, SpansRead, ColumnGives, StepRows, KeysAt, number_most, step_passes, step_index, step_low, step_high, SpansOf, in_span, span_index, row_span, one_span, RowIndex, RowsIndexed}
 use Rattle.case.proofs.LookUpLaws.{found_same}
-use Rattle.case.proofs.StepLaws.{row_null, row_value}
+use Rattle.case.proofs.StepLaws.{StepsSoFar, steps_none, steps_more, steps_all, row_null, row_value, column_gives, step_gives}
 
 -- ---- one step
 
@@ -101,6 +105,66 @@ module _ {tags keys lows highs : List ℕ} {k : ℕ} (s : SpansOf tags keys k lo
   pub spans_all : {count : ℕ} → count ≤ k → SpansOf tags keys count lows highs
   spans_all h = record { lows_long = s.lows_long; highs_long = s.highs_long; low_is = λ j l. s.low_is j (omega arith); high_is = λ j l. s.high_is j (omega arith) }
 
+-- of one step
+pub spans_one : {tag key low high : ℕ} → low ≡ step_low tag key → high ≡ step_high tag key → SpansOf (tag ∷ []) (key ∷ []) 1 (replicate 32 low) (replicate 32 high)
+spans_one {tag} {key} {low} {high} p q = record { lows_long = refl; highs_long = refl; low_is = λ k h. first_low k h; high_is = λ k h. first_high k h }
+  where
+    first_low : (k : ℕ) → k < 1 → get_or (replicate 32 low) k 0 ≡ step_low (get_or (tag ∷ []) k 0) (get_or (key ∷ []) k 0)
+    first_low zero h = p
+    first_low (suc k) h = absurd (omega arith)
+
+    first_high : (k : ℕ) → k < 1 → get_or (replicate 32 high) k 0 ≡ step_high (get_or (tag ∷ []) k 0) (get_or (key ∷ []) k 0)
+    first_high zero h = q
+    first_high (suc k) h = absurd (omega arith)
+
+-- ---- the spans of the steps of a CASE
+
+-- where the loop stands: i steps are read, and have their spans
+pub record SpansSoFar (rule : List ℕ) (at count column kind place i : ℕ) (lows highs : List ℕ) : Type 0 where
+  pub tags : List ℕ
+  pub keys : List ℕ
+  pub steps : StepsSoFar rule at count column kind place i tags keys
+  pub spans : SpansOf tags keys i lows highs
+
+pub read_none : {rule : List ℕ} {at count column kind : ℕ} {lows highs : List ℕ} → length lows ≡ 32 → length highs ≡ 32 → count ≤ 32 → SpansSoFar rule at count column kind at 0 lows highs
+read_none p q few = record { tags = replicate 32 0; keys = replicate 32 0; steps = steps_none refl refl few; spans = spans_none p q }
+
+module _ {rule : List ℕ} {at count column kind place i : ℕ} {lows highs : List ℕ} (s : SpansSoFar rule at count column kind place i lows highs) where
+  pub read_more : {then next low high : ℕ} {x : Step} → i < count → EndGives rule place then → StepGives rule place then x → x.column ≡ column → x.kind ≡ kind → EndGives rule then next
+      → low ≡ step_low (comparison_tag x.comparison) x.key → high ≡ step_high (comparison_tag x.comparison) x.key → SpansSoFar rule at count column kind next (i + 1) (set lows i low) (set highs i high)
+  read_more {x = x} more to-then step column_is kind_is to-next p q = record {
+    tags = set s.tags i tag;
+    keys = set s.keys i x.key;
+    steps = steps_more s.steps more to-then step column_is kind_is to-next;
+    spans = spans_more kept more s.steps.small (p ∙ sym (ap₂ step_low new_tag new_key)) (q ∙ sym (ap₂ step_high new_tag new_key));
+  }
+    where
+      tag : ℕ
+      tag = comparison_tag x.comparison
+
+      new_tag : get_or (set s.tags i tag) i 0 ≡ tag
+      new_tag = get_or-set_same s.tags i tag 0 (omega (arith, s.steps.tags_long, s.steps.small))
+
+      new_key : get_or (set s.keys i x.key) i 0 ≡ x.key
+      new_key = get_or-set_same s.keys i x.key 0 (omega (arith, s.steps.keys_long, s.steps.small))
+
+      old_tag : (j : ℕ) → j < i → get_or (set s.tags i tag) j 0 ≡ get_or s.tags j 0
+      old_tag j h = get_or-set_other s.tags i j tag 0 (λ e. omega arith)
+
+      old_key : (j : ℕ) → j < i → get_or (set s.keys i x.key) j 0 ≡ get_or s.keys j 0
+      old_key j h = get_or-set_other s.keys i j x.key 0 (λ e. omega arith)
+
+      kept : SpansOf (set s.tags i tag) (set s.keys i x.key) i lows highs
+      kept = record {
+        lows_long = s.spans.lows_long;
+        highs_long = s.spans.highs_long;
+        low_is = λ j h. s.spans.low_is j h ∙ sym (ap₂ step_low (old_tag j h) (old_key j h));
+        high_is = λ j h. s.spans.high_is j h ∙ sym (ap₂ step_high (old_tag j h) (old_key j h));
+      }
+
+  pub read_all : count ≤ i → SpansRead rule at count column kind lows highs
+  read_all h = record { tags = s.tags; keys = s.keys; steps = steps_all s.steps h; spans = spans_all s.spans h }
+
 -- ---- the index of a row
 
 -- by one span
@@ -171,3 +235,23 @@ pub rows_of : {kind : DataType} {values values' validity validity' tags keys w i
 rows_of {kind} {values} {values'} {validity} {validity'} {tags} {keys} {w} {indices} {count} {at} {n} p q s =
     subst (λ (y : List ℕ). RowsIndexed (RowIndex kind values' y tags keys count) w at n indices) q
     (subst (λ (y : List ℕ). RowsIndexed (RowIndex kind y validity tags keys count) w at n indices) p s)
+
+-- ---- a column by the spans of its steps
+
+rows_by : {kind : DataType} {values validity w lows highs indices tags keys : List ℕ} {at n m count : ℕ}
+    → ((tags keys : List ℕ) → SpansOf tags keys m lows highs → RowsIndexed (RowIndex kind values validity tags keys m) w at n indices) → m ≡ count → SpansOf tags keys count lows highs
+    → RowsIndexed (RowIndex kind values validity tags keys count) w at n indices
+rows_by {kind} {values} {validity} {w} {lows} {highs} {indices} {tags} {keys} {at} {n} rows e spans =
+    subst (λ (y : ℕ). RowsIndexed (RowIndex kind values validity tags keys y) w at n indices) e (rows tags keys (subst (λ (y : ℕ). SpansOf tags keys y lows highs) (sym e) spans))
+
+-- of one step
+pub step_by : {s : Step} {table : List ℕ} {place : ColumnPlace} {w lows highs indices : List ℕ} {at n code m : ℕ} → code ≡ type_number place.data_type → code ≤ 4
+    → ((tags keys : List ℕ) → SpansOf tags keys m lows highs → RowsIndexed (RowIndex place.data_type (column_in table place).values (column_in table place).validity tags keys m) w at n indices)
+    → m ≡ 1 → SpansOf (comparison_tag s.comparison ∷ []) (s.key ∷ []) 1 lows highs → s.kind ≡ code → StepRows s table place w at n true indices
+step_by code_is small rows e spans kind_is = step_gives code_is small kind_is refl refl (rows_by rows e spans)
+
+-- of the steps of a CASE
+pub column_by : {rule table : List ℕ} {place : ColumnPlace} {w lows highs indices : List ℕ} {at column count n code m : ℕ} → code ≡ type_number place.data_type → code ≤ 4
+    → ((tags keys : List ℕ) → SpansOf tags keys m lows highs → RowsIndexed (RowIndex place.data_type (column_in table place).values (column_in table place).validity tags keys m) w 0 n indices)
+    → m ≡ count → SpansRead rule at count column code lows highs → ColumnGives rule at table column place count w n true indices
+column_by code_is small rows e read = column_gives code_is small read.steps (rows_by rows e read.spans)

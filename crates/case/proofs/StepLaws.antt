@@ -25,10 +25,11 @@ use Rattle.table.specs.declared.places.Table.{Table}
 use Rattle.table.specs.Column.{valid_in, value_at, entry_at}
 use Rattle.table.specs.Places.{column_in, no_place}
 use Rattle.case.specs.declared.steps.Step.{Step}
+use Rattle.case.specs.declared.steps.Comparison.{Comparison}
 use Rattle.case.specs.Frame.{row_at, Rows, Listed}
 use Rattle.case.specs.LookUpTables.{found}
 use Rattle.case.specs.Evaluation.{row_in, result_at, indexed}
-use Rattle.case.specs.Steps.{StepsGive, step_of, Sides, SidesGive, step_entry, StepWhen, StepGives, when_at, StepsAt, StepsRead, step_passes, step_index, EntryIndex, KeyAt, RowIndex, RowsIndexed, ColumnGives, WhenIndex, StepRows, WhenGives}
+use Rattle.case.specs.Steps.{StepsGive, comparison_tag, step_of, Sides, SidesGive, step_entry, StepWhen, StepGives, when_at, StepsAt, step_passes, step_index, EntryIndex, KeyAt, RowIndex, RowsIndexed, ColumnGives, WhenIndex, StepRows, WhenGives}
 use Rattle.case.proofs.LookUpLaws.{found_none, found_below}
 use Rattle.case.proofs.BranchLaws.{branch_at, branch_stands, behind_none, behind_two}
 use Rattle.case.proofs.CellLaws.{cell_found}
@@ -42,11 +43,11 @@ tag_inside (x ∷ l) zero b e h = omega arith
 tag_inside (x ∷ l) (suc i) b e h = let k = tag_inside l i b e h in omega arith
 
 -- a column beside a literal
-pub sides_some : (rule : List ℕ) (tag at literal end : ℕ) {c : ℕ} (v : Value) {k : Key} {s : Option Step} → byte rule at ≡ 16 → byte rule literal ≡ 17 → c ≡ byte rule (at + 3)
-    → LiteralGives rule literal end v → k ≡ key_of v → s ≡ step_of tag c k → IfSome s (SidesGive rule tag at literal end)
+pub sides_some : (rule : List ℕ) (comparison : Comparison) (at literal end : ℕ) {c : ℕ} (v : Value) {k : Key} {s : Option Step} → byte rule at ≡ 16 → byte rule literal ≡ 17 → c ≡ byte rule (at + 3)
+    → LiteralGives rule literal end v → k ≡ key_of v → s ≡ step_of comparison c k → IfSome s (SidesGive rule (comparison_tag comparison) at literal end)
 unfolding eval
-sides_some rule tag at literal end {c} v {k} {s} column_tag literal_tag index gives key_is s-is =
-    subst (λ (x : Option Step). IfSome x (SidesGive rule tag at literal end)) (sym s-is) (by k refl)
+sides_some rule comparison at literal end {c} v {k} {s} column_tag literal_tag index gives key_is s-is =
+    subst (λ (x : Option Step). IfSome x (SidesGive rule (comparison_tag comparison) at literal end)) (sym s-is) (by k refl)
   where
     go : {kind key behind depth : ℕ} → k ≡ Keys.Number kind key → (a b : Expr) → NodeAt rule at behind a depth → NodeAt rule literal end b depth → Tagged 16 a → Tagged 17 b → Sides c kind key a b
     go {depth = depth} number a b first second (of_column x) (of_literal t y) =
@@ -58,7 +59,7 @@ sides_some rule tag at literal end {c} v {k} {s} column_tag literal_tag index gi
           right = λ row. refl;
         }
 
-    by : (l : Key) → k ≡ l → IfSome (step_of tag c l) (SidesGive rule tag at literal end)
+    by : (l : Key) → k ≡ l → IfSome (step_of comparison c l) (SidesGive rule (comparison_tag comparison) at literal end)
     by Keys.Null e = tt
     by Keys.Failed e = tt
     by (Keys.Number kind key) e = record {
@@ -149,46 +150,41 @@ steps_none {rule} {at} t k small = record {
 module _ {rule : List ℕ} {at count column kind place i : ℕ} {tags keys : List ℕ} (s : StepsSoFar rule at count column kind place i tags keys) where
   -- one more
   pub steps_more : {then next : ℕ} {x : Step} → i < count → EndGives rule place then → StepGives rule place then x → x.column ≡ column → x.kind ≡ kind
-      → EndGives rule then next → StepsSoFar rule at count column kind next (i + 1) (set tags i x.tag) (set keys i x.key)
+      → EndGives rule then next → StepsSoFar rule at count column kind next (i + 1) (set tags i (comparison_tag x.comparison)) (set keys i x.key)
   steps_more {then} {next} {x} more to-then step column_is kind_is to-next = record {
     few = omega arith;
     small = s.small;
-    tags_long = length-set tags i x.tag ∙ s.tags_long;
+    tags_long = length-set tags i tag ∙ s.tags_long;
     keys_long = length-set keys i x.key ∙ s.keys_long;
     behind = behind_two (2 * i) (2 * (i + 1)) (omega arith) s.behind to-then to-next;
     each = λ bs rest end depth trees n k h. go bs rest end depth trees n k h (ℕ_discrete k i);
   }
     where
-      here : (bs : Branches) (rest : List Expr) (end depth : ℕ) → TreesAt rule at end (branch_trees bs ++ rest) depth → branch_count bs ≡ count → StepWhen x.tag column kind x.key (when_at bs i)
+      tag : ℕ
+      tag = comparison_tag x.comparison
+
+      here : (bs : Branches) (rest : List Expr) (end depth : ℕ) → TreesAt rule at end (branch_trees bs ++ rest) depth → branch_count bs ≡ count → StepWhen tag column kind x.key (when_at bs i)
       here bs rest end depth trees n =
           let b = branch_at i bs (omega arith) in
           let (node, others) = first_tree to-then (branch_stands rest s.behind b trees) in
-          subst (StepWhen x.tag column kind x.key) (sym b.when)
-          (subst (λ (y : ℕ). StepWhen x.tag y kind x.key b.when_is) column_is
-          (subst (λ (y : ℕ). StepWhen x.tag x.column y x.key b.when_is) kind_is (step.is b.when_is depth node)))
+          subst (StepWhen tag column kind x.key) (sym b.when)
+          (subst (λ (y : ℕ). StepWhen tag y kind x.key b.when_is) column_is
+          (subst (λ (y : ℕ). StepWhen tag x.column y x.key b.when_is) kind_is (step.is b.when_is depth node)))
 
       stays : {a b c d : ℕ} {e : Expr} → a ≡ b → c ≡ d → StepWhen a column kind c e → StepWhen b column kind d e
       stays {a} {b} {c} {d} {e} p q h = subst (λ (y : ℕ). StepWhen b column kind y e) q (subst (λ (y : ℕ). StepWhen y column kind c e) p h)
 
       go : (bs : Branches) (rest : List Expr) (end depth : ℕ) → TreesAt rule at end (branch_trees bs ++ rest) depth → branch_count bs ≡ count
-          → (k : ℕ) → k < i + 1 → Dec (k ≡ i) → StepWhen (get_or (set tags i x.tag) k 0) column kind (get_or (set keys i x.key) k 0) (when_at bs k)
+          → (k : ℕ) → k < i + 1 → Dec (k ≡ i) → StepWhen (get_or (set tags i tag) k 0) column kind (get_or (set keys i x.key) k 0) (when_at bs k)
       go bs rest end depth trees n k h (yes e) =
-          subst (λ (y : ℕ). StepWhen (get_or (set tags i x.tag) y 0) column kind (get_or (set keys i x.key) y 0) (when_at bs y)) (sym e)
-          (stays (sym (get_or-set_same tags i x.tag 0 (let l = s.tags_long in let m = s.small in omega arith)))
+          subst (λ (y : ℕ). StepWhen (get_or (set tags i tag) y 0) column kind (get_or (set keys i x.key) y 0) (when_at bs y)) (sym e)
+          (stays (sym (get_or-set_same tags i tag 0 (let l = s.tags_long in let m = s.small in omega arith)))
           (sym (get_or-set_same keys i x.key 0 (let l = s.keys_long in let m = s.small in omega arith))) (here bs rest end depth trees n))
       go bs rest end depth trees n k h (no d) =
-          stays (sym (get_or-set_other tags i k x.tag 0 d)) (sym (get_or-set_other keys i k x.key 0 d)) (s.each bs rest end depth trees n k (omega arith))
+          stays (sym (get_or-set_other tags i k tag 0 d)) (sym (get_or-set_other keys i k x.key 0 d)) (s.each bs rest end depth trees n k (omega arith))
 
-  -- one that is no such step
-  pub steps_refused : StepsRead rule at count column kind false tags keys
-  steps_refused = record { tags_long = s.tags_long; keys_long = s.keys_long; steps = λ e. absurd (false≢true e) }
-
-  pub steps_all : count ≤ i → StepsRead rule at count column kind true tags keys
-  steps_all h = record {
-    tags_long = s.tags_long;
-    keys_long = s.keys_long;
-    steps = λ e. record { each = λ bs rest end depth trees n k l. s.each bs rest end depth trees n k (let f = s.few in omega arith) };
-  }
+  pub steps_all : count ≤ i → StepsAt rule at count column kind tags keys
+  steps_all h = record { each = λ bs rest end depth trees n k l. s.each bs rest end depth trees n k (let f = s.few in omega arith) }
 
 -- ---- the index of a row
 
@@ -363,17 +359,17 @@ module _ {rule : List ℕ} {at : ℕ} {table : List ℕ} {column : ℕ} {place :
   pub column_refused : {values : List ℕ} → length values ≡ 512 → ColumnGives rule at table column place count w n false values
   column_refused e = record { long = e; each = λ h. absurd (false≢true h) }
 
-  pub column_gives : {code : ℕ} {read : Bool} {tags keys indices : List ℕ} → code ≡ type_number place.data_type → code ≤ 4
-      → StepsRead rule at count column code read tags keys → read ≡ true
+  pub column_gives : {code : ℕ} {tags keys indices : List ℕ} → code ≡ type_number place.data_type → code ≤ 4
+      → StepsAt rule at count column code tags keys
       → RowsIndexed (RowIndex place.data_type (column_in table place).values (column_in table place).validity tags keys count) w 0 n indices → ColumnGives rule at table column place count w n true indices
   unfolding entry_at
-  column_gives {code} {read} {tags} {keys} {indices} code_is small steps all rows = record {
+  column_gives {code} {tags} {keys} {indices} code_is small steps rows = record {
     long = rows.long;
     each = λ h q l.
         let right = rows.each q l in
         let index : EntryIndex tags keys count (type_number place.data_type) (entry_at (column_in table place) q) (get_or indices q 0) =
         right.is (omega arith) (column_in table place).offsets in
-        let read-steps = subst (λ (y : ℕ). StepsAt rule at count column y tags keys) code_is (steps.steps all) in
+        let read-steps = subst (λ (y : ℕ). StepsAt rule at count column y tags keys) code_is steps in
         record {
           some = index_one read-steps (entry_at (column_in table place) q) (get_or indices q 0) index;
           few = index_few read-steps (entry_at (column_in table place) q) (get_or indices q 0) index;
@@ -413,7 +409,7 @@ module _ {s : Step} {table : List ℕ} {place : ColumnPlace} {w : List ℕ} {at 
   pub step_refused : {values : List ℕ} → length values ≡ 512 → StepRows s table place w at n false values
   step_refused e = record { long = e; each = λ h. absurd (false≢true h) }
 
-  pub step_gives : {code : ℕ} {tags keys indices : List ℕ} → code ≡ type_number place.data_type → code ≤ 4 → s.kind ≡ code → get_or tags 0 0 ≡ s.tag → get_or keys 0 0 ≡ s.key
+  pub step_gives : {code : ℕ} {tags keys indices : List ℕ} → code ≡ type_number place.data_type → code ≤ 4 → s.kind ≡ code → get_or tags 0 0 ≡ comparison_tag s.comparison → get_or keys 0 0 ≡ s.key
       → RowsIndexed (RowIndex place.data_type (column_in table place).values (column_in table place).validity tags keys 1) w at n indices → StepRows s table place w at n true indices
   unfolding entry_at
   step_gives {code} {tags} {keys} {indices} code_is small kind_is tag_is key_is rows = record {

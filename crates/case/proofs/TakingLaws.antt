@@ -1,11 +1,10 @@
 -- The loop that picks the rows of an index for the next frame's list. Assumes nothing.
 use Rattle.std.proofs.Common.{◌≡◌, ℕ, ◌+◌, ◌*◌, ◌<◌, ◌≤◌, List, length, sym, refl, ◌∙◌, subst, subst₂, arith}
 use Rattle.layout.specs.Bytes.{byte}
-use Rattle.case.specs.Frame.{row_at, Rows, Listed}
-use Rattle.case.specs.Taking.{Picked}
+use Rattle.case.specs.Frame.{row_at, Rows}
 use Rattle.case.specs.Parting.{RowPut, Sifted}
 use Rattle.case.proofs.SlotLaws.{number_same}
-use Rattle.case.proofs.SiftLaws.{put_kept, sifted_none, sifted_miss, sifted_hit}
+use Rattle.case.proofs.SiftLaws.{put_kept, sifted_miss, sifted_hit}
 
 -- where the loop stands: i of the n rows are done, m of them picked
 pub record PickedSoFar (wanted : ℕ → Type 0) (w : List ℕ) (n i m : ℕ) (w' : List ℕ) : Type 0 where
@@ -14,29 +13,8 @@ pub record PickedSoFar (wanted : ℕ → Type 0) (w : List ℕ) (n i m : ℕ) (w
   pub low : (j : ℕ) → j < 6656 → byte w' j ≡ byte w j
   pub sifted : Sifted wanted (row_at w 0) i (row_at w' 6656) m
 
-pub picked_none : {wanted : ℕ → Type 0} {w : List ℕ} {n : ℕ} → PickedSoFar wanted w n 0 0 w
-picked_none = record { upto = omega arith; long = refl; low = λ j h. refl; sifted = sifted_none }
-
-pub picked_ends : {wanted : ℕ → Type 0} {w : List ℕ} {n i m : ℕ} {w' : List ℕ} → PickedSoFar wanted w n i m w' → n ≤ i → Picked wanted w n m w'
-picked_ends {wanted} {w} {n} {i} {m} {w'} s h =
-    let upto = s.upto in
-    let e : i ≡ n = omega arith in
-    let all = subst (λ (k : ℕ). Sifted wanted (row_at w 0) k (row_at w' 6656) m) e s.sifted in
-    record {
-      long = s.long;
-      few = all.few;
-      low = s.low;
-      picked = λ r l. subst (λ (x : ℕ). Listed w 0 n x × wanted x) l.2 (all.taken l.0 l.1);
-      all = all.all;
-      rising = all.rising;
-    }
-
 -- one turn, at the row that is read
 module _ {wanted : ℕ → Type 0} {w : List ℕ} {n i m : ℕ} {w' : List ℕ} (s : PickedSoFar wanted w n i m w') (ok : Rows w 0 n 512) (room : 7680 ≤ length w) (more : i < n) where
-  -- the row lies in the buffer
-  pub pick_in : 0 + 2 * i + 2 ≤ length w'
-  pick_in = omega (arith, ok.few, s.long)
-
   module _ {r : ℕ} (e : r ≡ row_at w' 0 i) where
     same_row : r ≡ row_at w 0 i
     same_row = let few = ok.few in e ∙ number_same 2 w' w (0 + 2 * i) (0 + 2 * i) (λ j b. s.low (0 + 2 * i + j) (omega arith))

@@ -1,15 +1,13 @@
 -- Texts compared by numbers of four bytes. Assumes nothing.
-use Rattle.std.proofs.Common.{◌≡◌, ℕ, zero, suc, ◌+◌, ◌-◌, ◌^◌, ◌<◌, ◌≤◌, Bool, true, false, cond, eqb, List, [], ◌∷◌, ◌++◌, length, get_or, take, drop, sym, refl, ap, ◌∙◌, subst, ap₂, arith, length-drop, take-append-drop, drop_of_length-le, length-take, length-take-le, get_or-drop, take_all, drop-cons, get_or-take, take-take, drop-drop, eq-eqb, ne_eqb}
+use Rattle.std.proofs.Common.{◌≡◌, ℕ, zero, suc, ◌+◌, ◌-◌, ◌^◌, ◌<◌, ◌≤◌, Bool, true, false, eqb, List, [], ◌∷◌, ◌++◌, length, get_or, take, drop, sym, refl, ap, ◌∙◌, subst, ap₂, arith, length-drop, take-append-drop, drop_of_length-le, length-take-le, drop-cons, drop-drop, eq-eqb, ne_eqb}
 use native.Mathlib.Decide.{ℕ_discrete}
 use Rattle.layout.specs.Bytes.{Bytes, number, number_at, number_bytes}
 use Rattle.layout.proofs.BytesLaws.{number_bytes_number, number_below, bytes_take, bytes_drop}
 use Rattle.scalar.specs.Entry.{Entry, null, boolean, int32, int64, float64, utf8}
 use Rattle.scalar.specs.Pair.{pair_of}
 use Rattle.scalar.specs.Text.{same_bytes}
-use Rattle.scalar.specs.Value.{place_text}
 use Rattle.scalar.proofs.EntryLaws.{agree_eq, agree_refl}
 use Rattle.scalar.proofs.TextLaws.{same_differ}
-use Rattle.case.specs.LookUpTables.{bytes_of}
 
 -- bytes are told by their number
 same_number : (l m : List ℕ) → Bytes l → Bytes m → length l ≡ length m → number l ≡ number m → l ≡ m
@@ -95,88 +93,18 @@ unfolding pair_of
 backs_all a b zero h e = sym (ap (same_bytes a) (sym e) ∙ agree_refl (utf8 a))
 backs_all a b (suc n) h e = absurd (omega arith)
 
--- ---- a text beside the bytes of a place
+-- ---- one byte
 
--- the bytes of a kind
-pub rule_bytes : (rule table : List ℕ) {k : ℕ} → k ≡ 5 → bytes_of k rule table ≡ rule
-rule_bytes rule table {k} e = ap (λ (b : Bool). cond b rule table) (eq-eqb k 5 e)
-
-pub table_bytes_lem : (rule table : List ℕ) {k : ℕ} → (k ≡ 5 → ⊥) → bytes_of k rule table ≡ table
-table_bytes_lem rule table {k} n = ap (λ (b : Bool). cond b rule table) (ne_eqb k 5 n)
-
--- what holds of the bytes of a kind
-pub in_rule : {A : Type 0} (f : List ℕ → A) (rule table : List ℕ) {k : ℕ} → k ≡ 5 → f rule ≡ f (bytes_of k rule table)
-in_rule f rule table e = ap f (sym (rule_bytes rule table e))
-
-pub in_table : {A : Type 0} (f : List ℕ → A) (rule table : List ℕ) {k : ℕ} → (k ≡ 5 → ⊥) → f table ≡ f (bytes_of k rule table)
-in_table f rule table n = ap f (sym (table_bytes_lem rule table n))
-
-pub rule_room : (rule table : List ℕ) {k n : ℕ} → k ≡ 5 → n ≤ length (bytes_of k rule table) → n ≤ length rule
-rule_room rule table {k} e h = let same : length rule ≡ length (bytes_of k rule table) = in_rule length rule table e in omega arith
-
-pub table_room : (rule table : List ℕ) {k n : ℕ} → (k ≡ 5 → ⊥) → n ≤ length (bytes_of k rule table) → n ≤ length table
-table_room rule table {k} d h = let same : length table ≡ length (bytes_of k rule table) = in_table length rule table d in omega arith
-
-pub kind_room : (rule table : List ℕ) (k : ℕ) → length (bytes_of k rule table) ≤ length rule + length table
-kind_room rule table k = go (eqb k 5)
-  where
-    go : (b : Bool) → length (cond b rule table) ≤ length rule + length table
-    go true = omega arith
-    go false = omega arith
-
-pub kind_bytes : (rule table : List ℕ) (k : ℕ) → Bytes rule → Bytes table → Bytes (bytes_of k rule table)
-kind_bytes rule table k p q = go (eqb k 5)
-  where
-    go : (b : Bool) → Bytes (cond b rule table)
-    go true = p
-    go false = q
-
--- bytes inside of the first n
-inside : (m k n : ℕ) (l : List ℕ) → k + m ≤ n → take m (drop k (take n l)) ≡ take m (drop k l)
-inside m zero n l h = take-take m n l (omega arith)
-inside m (suc k) zero l h = absurd (omega arith)
-inside m (suc k) (suc n) [] h = refl
-inside m (suc k) (suc n) (x ∷ l) h = inside m k n l (omega arith)
-
--- a place has no more bytes than are there
-pub place_cut : (l : List ℕ) (start size : ℕ) {n : ℕ} → length (place_text l start size) ≡ n → place_text l start size ≡ place_text l start n
-place_cut l start size {n} e =
-    sym (take_all n (place_text l start size) (omega arith)) ∙ take-take n size (drop start l) (omega (arith, length-take size (drop start l)))
-
-pub place_few : (l : List ℕ) (start size : ℕ) {n : ℕ} → length (place_text l start size) ≡ n → n ≤ length l - start
-place_few l start size e = omega (arith, length-take size (drop start l), length-drop start l)
-
--- the text a beside so many bytes of l from the start on
-module _ (a l : List ℕ) (start : ℕ) (few : length a ≤ length l - start) where
-  abbrev beside : List ℕ
-  beside = place_text l start (length a)
-
-  pub beside_long : length a ≡ length beside
-  beside_long = sym (length-take-le (length a) (drop start l) (omega (arith, length-drop start l)))
-
-  pub beside_bytes : Bytes l → Bytes beside
-  beside_bytes h = bytes_take (length a) (drop start l) (bytes_drop start l h)
-
-  -- four bytes, and one
-  pub beside_word : {y at : ℕ} (k : ℕ) → k + 4 ≤ length a → at ≡ start + k → y ≡ number_at 4 l at → y ≡ number_at 4 beside k
-  beside_word k h e p =
-      p
-      ∙ ap (number_at 4 l) e
-      ∙ sym (ap number (inside 4 k (length a) (drop start l) h) ∙ ap (λ (m : List ℕ). number (take 4 m)) (drop-drop k start l))
-
-  beside_byte : {y : ℕ} (k : ℕ) → k < length a → y ≡ get_or l (start + k) 0 → y ≡ get_or beside k 0
-  beside_byte k h p = p ∙ sym (get_or-take (length a) (drop start l) k 0 h ∙ get_or-drop start l k 0)
-
+module _ (a b : List ℕ) (n : length a ≡ length b) where
   -- a byte that differs, and one that doesn't
-  pub byte_unlike : {x y : ℕ} (k : ℕ) → k < length a → x ≡ get_or a k 0 → y ≡ get_or l (start + k) 0 → (x ≡ y → ⊥) → false ≡ same_bytes a beside
-  byte_unlike k h p q n =
-      sym (same_differ a beside k h (omega (arith, beside_long)) (λ e. n (p ∙ e ∙ sym (beside_byte k h q))))
+  pub byte_unlike : {x y : ℕ} (k : ℕ) → k < length a → x ≡ get_or a k 0 → y ≡ get_or b k 0 → (x ≡ y → ⊥) → false ≡ same_bytes a b
+  byte_unlike k h p q d = sym (same_differ a b k h (omega arith) (λ e. d (p ∙ e ∙ sym q)))
 
-  pub byte_more : {x y left : ℕ} (k : ℕ) → k < length a → k + 1 ≡ left → drop left a ≡ drop left beside → x ≡ get_or a k 0 → y ≡ get_or l (start + k) 0 → x ≡ y → drop k a ≡ drop k beside
+  pub byte_more : {x y left : ℕ} (k : ℕ) → k < length a → k + 1 ≡ left → drop left a ≡ drop left b → x ≡ get_or a k 0 → y ≡ get_or b k 0 → x ≡ y → drop k a ≡ drop k b
   byte_more {left = left} k h next same p q e =
       drop-cons a k 0 h
-      ∙ ap₂ ◌∷◌ (sym p ∙ e ∙ beside_byte k h q) (ap (λ (j : ℕ). drop j a) place ∙ same ∙ sym (ap (λ (j : ℕ). drop j beside) place))
-      ∙ sym (drop-cons beside k 0 (omega (arith, beside_long)))
+      ∙ ap₂ ◌∷◌ (sym p ∙ e ∙ q) (ap (λ (j : ℕ). drop j a) place ∙ same ∙ sym (ap (λ (j : ℕ). drop j b) place))
+      ∙ sym (drop-cons b k 0 (omega arith))
     where
       place : suc k ≡ left
       place = omega arith

@@ -6,6 +6,8 @@ use Rattle.std.proofs.Math.Option.{Option, some, none}
 use Rattle.layout.specs.Bytes.{byte}
 use Rattle.scalar.specs.Entry.{Outcome, entry, unfit, is_null, is_true_entry, on_entries}
 use Rattle.scalar.specs.Compare.{equal_entry}
+use Rattle.scalar.specs.declared.order.Order.{Order}
+use Rattle.scalar.specs.declared.order.Order.TheVariants.{Less}
 use Rattle.scalar.specs.declared.value.Value.{Value}
 use Rattle.scalar.specs.Value.{meaning}
 use Rattle.builder.specs.declared.ResultBuilder.{ResultBuilder}
@@ -15,7 +17,7 @@ use Rattle.case.specs.declared.settle.Leave.{Leave}
 use Rattle.case.specs.declared.settle.Leave.TheVariants.{NullBase, TrueWhen, EqualWhen, Rest}
 use Rattle.case.specs.declared.settle.Settled.{Settled}
 use Rattle.case.specs.Frame.{slot_at, next_slot, Rows, Listed}
-use Rattle.case.specs.Taking.{code_value, CodeRight}
+use Rattle.case.specs.Taking.{order_value, OrderRight}
 
 -- a row that failed leaves with one index, a row that passes with another; 0: it stays
 abbrev pub leaving : (Outcome → Bool) → ℕ → ℕ → Outcome → ℕ
@@ -43,20 +45,20 @@ class_at Rest rule table w index failed r = index
 abbrev pub class_by : List ℕ → ℕ → ℕ → ℕ
 class_by whens index r = cond (slice_index whens r == 1) index 0
 
--- the same, with the number that says whether its WHEN equals its base; that a value is null, true or failed is told without the bytes of any text
-abbrev pub class_coded : Leave → List ℕ → List ℕ → ℕ → ℕ → ℕ → ℕ
-class_coded NullBase codes w index failed r = leaving null_outcome index failed (meaning [] [] (slot_at w r))
-class_coded TrueWhen codes w index failed r = leaving true_outcome index failed (meaning [] [] (next_slot w r))
-class_coded EqualWhen codes w index failed r = leaving true_outcome index failed (meaning [] [] (code_value (slice_index codes r)))
-class_coded Rest codes w index failed r = index
+-- the same, with the order of its WHEN and its base; that a value is null, true or failed is told without the bytes of any text
+abbrev pub class_by_slots : Leave → List Order → List ℕ → ℕ → ℕ → ℕ → ℕ
+class_by_slots NullBase orders w index failed r = leaving null_outcome index failed (meaning [] [] (slot_at w r))
+class_by_slots TrueWhen orders w index failed r = leaving true_outcome index failed (meaning [] [] (next_slot w r))
+class_by_slots EqualWhen orders w index failed r = leaving true_outcome index failed (meaning [] [] (order_value false (slice_index_or orders r Less)))
+class_by_slots Rest orders w index failed r = index
 
--- the class hangs on the row's two slots and its number alone
-pub class_same : (how : Leave) (codes w m : List ℕ) (index failed r : ℕ) → slot_at m r ≡ slot_at w r → next_slot m r ≡ next_slot w r
-    → class_coded how codes m index failed r ≡ class_coded how codes w index failed r
-class_same NullBase codes w m index failed r a b = ap (λ (v : Value). leaving null_outcome index failed (meaning [] [] v)) a
-class_same TrueWhen codes w m index failed r a b = ap (λ (v : Value). leaving true_outcome index failed (meaning [] [] v)) b
-class_same EqualWhen codes w m index failed r a b = refl
-class_same Rest codes w m index failed r a b = refl
+-- the class hangs on the row's two slots and its order alone
+pub class_same : (how : Leave) (orders : List Order) (w m : List ℕ) (index failed r : ℕ) → slot_at m r ≡ slot_at w r → next_slot m r ≡ next_slot w r
+    → class_by_slots how orders m index failed r ≡ class_by_slots how orders w index failed r
+class_same NullBase orders w m index failed r a b = ap (λ (v : Value). leaving null_outcome index failed (meaning [] [] v)) a
+class_same TrueWhen orders w m index failed r a b = ap (λ (v : Value). leaving true_outcome index failed (meaning [] [] v)) b
+class_same EqualWhen orders w m index failed r a b = refl
+class_same Rest orders w m index failed r a b = refl
 
 -- whether a way of leaving asks for a true WHEN
 abbrev pub asks_true : Leave → Bool
@@ -72,10 +74,10 @@ asks_equal TrueWhen = false
 asks_equal EqualWhen = true
 asks_equal Rest = false
 
--- the number of each open row's equality with its base, where a way of leaving asks for it
-pub record CodesFor (how : Leave) (rule table w : List ℕ) (left : ℕ) (codes : List ℕ) : Type 0 where
-  pub long : length codes ≡ 512
-  pub right : asks_equal how ≡ true → (q : ℕ) → Listed w 5632 left q → CodeRight false rule table (slot_at w q) (next_slot w q) (slice_index codes q)
+-- the order of each open row's base and WHEN, where a way of leaving asks for it
+pub record OrdersFor (how : Leave) (rule table w : List ℕ) (left : ℕ) (orders : List Order) : Type 0 where
+  pub long : length orders ≡ 512
+  pub right : asks_equal how ≡ true → (q : ℕ) → Listed w 5632 left q → OrderRight rule table (slot_at w q) (next_slot w q) (slice_index_or orders q Less)
 
 -- what a builder holds for a row
 abbrev pub held_by : ResultBuilder → ℕ → Option ℕ

@@ -2,11 +2,11 @@
 -- That of the casts only Int64 to Int32, Float64 to Int32 and Float64 to Int64 can fail to fit is `CastFailsExactly` of scalar's `specs/Cast.antt`; that
 -- each of them can, `CanFailExactly`.
 -- Each speaks of lists of bytes, as a slice of bytes always is one.
-use Rattle.std.specs.Prelude.{◌≡◌, ℕ, zero, suc, ◌+◌, ◌<◌, ◌≤◌, Bool, true, false, cond, ◌||◌, ◌⊎◌, ◌↔◌, List, [], ◌++◌, length, take, drop}
+use Rattle.std.specs.Prelude.{◌≡◌, ℕ, zero, suc, ◌+◌, ◌<◌, ◌≤◌, Bool, true, false, cond, ◌||◌, ◌⊎◌, ◌↔◌, List, [], ◌++◌, length, take, drop, Result as RustResult, Ok, Err}
 use mathlib.Core.List.{Memᴰ}
 use Rattle.std.proofs.Math.Option.{some}
 use Rattle.layout.specs.Result.{Result, refused, ok}
-use Rattle.layout.specs.Refusals.{run_refusals, builder_refusals, among}
+use Rattle.layout.specs.Refusals.{run_refusals, builder_refusals, among, number_of}
 use Rattle.layout.specs.Bytes.{Bytes, number_bytes}
 use Rattle.layout.specs.Field.{field_bytes}
 use Rattle.scalar.specs.Entry.{Entry, is_null, Outcome, entry, unfit, outcome_of_type}
@@ -24,8 +24,8 @@ use Rattle.table.specs.Column.{TableColumn, null_count, entry_at}
 use Rattle.table.specs.TableBytes.{TableReadsBack, TableIsItsBytes}
 use Rattle.table.specs.Reading.{read_parts, Table, read_table, read_alone}
 use Rattle.std.proofs.Math.ListN.{get_elem?}
-use Rattle.writer.specs.declared.RunAnswer.{RunAnswer}
-use Rattle.writer.specs.declared.RunAnswer.TheVariants.{Answered, Refused}
+use Rattle.layout.specs.declared.refusal.Refusal.{Refusal}
+use Rattle.layout.specs.declared.refusal.Refusal.TheVariants.{Cast}
 use Rattle.writer.specs.Written.{zeros}
 use Rattle.builder.specs.Builder.{Builder, new_builder, add_branch_result}
 use Rattle.case.specs.Fits.{fits, entry_in, row_of}
@@ -62,13 +62,13 @@ pub record RefusalLeaves (run : Result (List ℕ)) (work output : List ℕ) (n :
   pub work_zero : 15 ≤ n → n ≤ 17 → work' ≡ zeros work
 
 -- what a call leaves, by what it says
-abbrev pub Leaves : Result (List ℕ) → List ℕ → List ℕ → RunAnswer → List ℕ → List ℕ → Type 0
-Leaves run work output (Answered n) work' output' = AnswerLeaves run work output n work' output'
-Leaves run work output (Refused n) work' output' = RefusalLeaves run work output n work' output'
+abbrev pub Leaves : Result (List ℕ) → List ℕ → List ℕ → RustResult ℕ Refusal → List ℕ → List ℕ → Type 0
+Leaves run work output (Ok n) work' output' = AnswerLeaves run work output n work' output'
+Leaves run work output (Err e) work' output' = RefusalLeaves run work output (number_of e) work' output'
 
 -- every call of `evaluate`, by what it promises, whatever rule, table and buffers it is lent (demand 1)
 abbrev pub CallEnds : Type 0
-CallEnds = (rule table work output : List ℕ) (r : RunAnswer) (work' output' : List ℕ) → Evaluated rule table work output r work' output'
+CallEnds = (rule table work output : List ℕ) (r : RustResult ℕ Refusal) (work' output' : List ℕ) → Evaluated rule table work output r work' output'
     → Leaves (call_run rule table work output) work output r work' output'
 
 -- ---- demands 2 and 3: entries
@@ -152,15 +152,15 @@ AnswerReadsBack = (rule table : List ℕ) (e : Expr) (t : Table) (work output : 
 abbrev pub CallsAgree : Type 0
 CallsAgree = (rule table table' : List ℕ) (e : Expr) (t t' : Table) (i i' : ℕ) (work output w o work' output' w' o' : List ℕ) (n n' : ℕ)
     → BothRead rule table e t → BothRead rule table' e t'
-    → Evaluated rule table work output (Answered n) w o → Evaluated rule table' work' output' (Answered n') w' o' → i < t.rows → i' < t'.rows
+    → Evaluated rule table work output (Ok n) w o → Evaluated rule table' work' output' (Ok n') w' o' → i < t.rows → i' < t'.rows
     → Agree (columns_read (path e (row_of t i))) t i t' i'
     → (v : Entry) × (eval e (row_of t i) ≡ entry v) × Holds e (take n o) t.rows i v × Holds e (take n' o') t'.rows i' v
 
 -- a call of `evaluate` on an accepted rule, a table that fits and a full work buffer says 15 exactly when some row's path holds a cast that
 -- doesn't fit (demand 3)
 abbrev pub CallFailsExactly : Type 0
-CallFailsExactly = (rule table : List ℕ) (e : Expr) (t : Table) (work output w o : List ℕ) (r : RunAnswer) → read_rule rule ≡ ok e → read_table table ≡ ok t
-    → fits e t ≡ true → work_least ≤ length work → Evaluated rule table work output r w o → (r ≡ Refused 15) ↔ SomePathFails e t
+CallFailsExactly = (rule table : List ℕ) (e : Expr) (t : Table) (work output w o : List ℕ) (r : RustResult ℕ Refusal) → read_rule rule ≡ ok e → read_table table ≡ ok t
+    → fits e t ≡ true → work_least ≤ length work → Evaluated rule table work output r w o → (r ≡ Err Cast) ↔ SomePathFails e t
 
 -- ---- the null count (02, Change 3)
 
@@ -191,7 +191,7 @@ AnswerCounts = (rule table : List ℕ) (e : Expr) (t : Table) (work output : ℕ
 -- the same of a call of `evaluate`, by what it promises
 abbrev pub CallCounts : Type 0
 CallCounts = (rule table : List ℕ) (e : Expr) (t : Table) (work output w o : List ℕ) (n : ℕ) → BothRead rule table e t
-    → Evaluated rule table work output (Answered n) w o → Counts (take n o) t.rows (null_rows e t t.rows)
+    → Evaluated rule table work output (Ok n) w o → Counts (take n o) t.rows (null_rows e t t.rows)
 
 -- ---- what can be worked out
 

@@ -57,12 +57,12 @@ pub record NumberOf (v : Value) (kind x : ℕ) : Type 0 where
   pub means : (rule table : List ℕ) → meaning rule table v ≡ entry value
   pub numbered : Numbered kind x value
 
--- the numbers of the keys and their hints, where every key is of the kind
-pub record NumbersRead (kinds keys : List ℕ) (size kind : ℕ) (read : Bool) (numbers hints : List ℕ) : Type 0 where
+-- the numbers of the keys, which are all of the kind, and their hints
+pub record NumbersRead (kinds keys : List ℕ) (size kind : ℕ) (numbers hints : List ℕ) : Type 0 where
   pub numbers_long : length numbers ≡ 32
   pub hints_long : length hints ≡ 256
-  pub each : read ≡ true → (k : ℕ) → k < size → NumberOf (value_at kinds keys k) kind (slice_index numbers k)
-  pub hinted : read ≡ true → Hinted (λ k. number_hint (slice_index numbers k)) size hints
+  pub each : (k : ℕ) → k < size → NumberOf (value_at kinds keys k) kind (slice_index numbers k)
+  pub hinted : Hinted (λ k. number_hint (slice_index numbers k)) size hints
 
 -- a number among those of the keys
 abbrev pub number_found : List ℕ → List ℕ → ℕ → ℕ → ℕ → ℕ
@@ -84,16 +84,11 @@ pub record NumberRow (validity column numbers indices : List ℕ) (size otherwis
 
 -- ---- a dense table of number keys: at a number's distance from the least, the index from 1
 
--- the ELSE index at the first distances
-pub record ElseFilled (otherwise many : ℕ) (answers : List ℕ) : Type 0 where
+-- each number's index, and none is beyond the table
+pub record DenseFilled (numbers indices : List ℕ) (size otherwise least : ℕ) (answers : List ℕ) : Type 0 where
   pub long : length answers ≡ 256
-  pub each : (d : ℕ) → d < many → slice_index answers d ≡ otherwise / 2 + 1
-
--- each number's index, and none is beyond the table, where it was filled
-pub record DenseFilled (numbers indices : List ℕ) (size otherwise least : ℕ) (filled : Bool) (answers : List ℕ) : Type 0 where
-  pub long : length answers ≡ 256
-  pub inside : filled ≡ true → (d : ℕ) → d < 256 → slice_index answers d ≡ number_found numbers indices size otherwise (least + d) / 2 + 1
-  pub outside : filled ≡ true → (x : ℕ) → (x < least) ⊎ (least + 255 < x) → number_found numbers indices size otherwise x ≡ otherwise
+  pub inside : (d : ℕ) → d < 256 → slice_index answers d ≡ number_found numbers indices size otherwise (least + d) / 2 + 1
+  pub outside : (x : ℕ) → (x < least) ⊎ (least + 255 < x) → number_found numbers indices size otherwise x ≡ otherwise
 
 -- the index of a row: of a null, and of a number beyond the table, ELSE's
 abbrev pub dense_row : List ℕ → List ℕ → ℕ → List ℕ → ℕ → ℕ → ℕ

@@ -16,10 +16,6 @@ use Rattle.case.specs.Frame.{slot_at}
 abbrev pub same_key : Outcome → Outcome → Bool
 same_key a b = true_outcome (on_entries equal_entry a b)
 
--- the bytes that a text's place is in, by the text's kind: 5 in the rule, 6 in the table
-abbrev pub bytes_of : ℕ → List ℕ → List ℕ → List ℕ
-bytes_of kind rule table = cond (kind == 5) rule table
-
 -- the search breaks out with the index it found, or the ELSE index (01, What changes shape): the first of the next n from k on that is the same
 unfoldable pub found : (ℕ → Bool) → (ℕ → ℕ) → ℕ → ℕ → ℕ → ℕ
 found same index k zero otherwise = otherwise

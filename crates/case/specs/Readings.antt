@@ -1,5 +1,5 @@
 -- A rule and a table that were read, and what their evaluation row by row promises (01, Where a call stops).
-use Rattle.std.specs.Prelude.{◌≡◌, ℕ, ◌<◌, ◌≤◌, Bool, true, List, length}
+use Rattle.std.specs.Prelude.{◌≡◌, ℕ, ◌<◌, ◌≤◌, Bool, true, List, length, Result as RustResult}
 use Rattle.layout.specs.Result.{ok}
 use Rattle.scalar.specs.declared.types.DataType.{DataType}
 use Rattle.scalar.specs.declared.value.Value.{Value}
@@ -14,7 +14,7 @@ use Rattle.rule.specs.Node.{NodeAt}
 use Rattle.table.specs.declared.places.Table.{Table}
 use Rattle.table.specs.Reading.{read_table}
 use Rattle.table.specs.Places.{table_in}
-use Rattle.writer.specs.declared.RunAnswer.{RunAnswer}
+use Rattle.layout.specs.declared.refusal.Refusal.{Refusal}
 use Rattle.writer.specs.Write.{WriteGives}
 use Rattle.case.specs.Evaluation.{row_in}
 
@@ -42,7 +42,7 @@ pub record AnswerAsks (rule table : List ℕ) (t : Table) (result : DataType) (w
   pub typed : (v : ℕ → Value) → RowsRight rule table t v → RowsOfType rule table v t.rows result
 
 -- and promises: the rows have these outcomes, and were written
-pub record AnswerGives (rule table : List ℕ) (t : Table) (result : DataType) (n : Bool) (w output : List ℕ) (r : RunAnswer) (w' output' : List ℕ) : Type 0 where
+pub record AnswerGives (rule table : List ℕ) (t : Table) (result : DataType) (n : Bool) (w output : List ℕ) (r : RustResult ℕ Refusal) (w' output' : List ℕ) : Type 0 where
   pub long : length w' ≡ length w
   pub value : ℕ → Value
   pub right : RowsRight rule table t value

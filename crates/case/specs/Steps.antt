@@ -18,6 +18,8 @@ use Rattle.table.specs.declared.places.Table.{Table}
 use Rattle.table.specs.Column.{valid_in, value_at, entry_at}
 use Rattle.table.specs.Places.{column_in}
 use Rattle.case.specs.declared.steps.Step.{Step}
+use Rattle.case.specs.declared.steps.Comparison.{Comparison}
+use Rattle.case.specs.declared.steps.Comparison.TheVariants as Comparisons
 use Rattle.case.specs.Frame.{Listed}
 use Rattle.case.specs.LookUpTables.{found}
 use Rattle.case.specs.Evaluation.{row_in, indexed}
@@ -36,12 +38,18 @@ pub record StepsGive (rule : List ℕ) (at : ℕ) (table : List ℕ) (t : Table)
 
 -- ---- one step
 
+-- the number of a comparison: equal and less by their nodes' tags, the literal less than the column by the tag of no node
+abbrev pub comparison_tag : Comparison → ℕ
+comparison_tag Comparisons.Equal = 23
+comparison_tag Comparisons.Less = 24
+comparison_tag Comparisons.More = 26
+
 -- a step by how its literal is compared; none where that is not by a number
-abbrev pub step_of : ℕ → ℕ → Key → Option Step
-step_of tag column Keys.Null = None
-step_of tag column Keys.Failed = None
-step_of tag column (Keys.Number kind key) = Some (record { tag = tag; column = column; kind = kind; key = key })
-step_of tag column Keys.Text = None
+abbrev pub step_of : Comparison → ℕ → Key → Option Step
+step_of comparison column Keys.Null = None
+step_of comparison column Keys.Failed = None
+step_of comparison column (Keys.Number kind key) = Some (record { comparison = comparison; column = column; kind = kind; key = key })
+step_of comparison column Keys.Text = None
 
 -- what a column has, beside an entry that goes by a number
 pub record Sides (column kind key : ℕ) (a b : Expr) : Type 0 where
@@ -52,7 +60,7 @@ pub record Sides (column kind key : ℕ) (a b : Expr) : Type 0 where
 
 -- the tag, and whatever nodes stand at two places are such sides
 pub record SidesGive (rule : List ℕ) (tag at literal end : ℕ) (s : Step) : Type 0 where
-  pub tag_is : s.tag ≡ tag
+  pub tag_is : comparison_tag s.comparison ≡ tag
   pub is : (a b : Expr) (behind depth : ℕ) → NodeAt rule at behind a depth → NodeAt rule literal end b depth → Sides s.column s.kind s.key a b
 
 -- what a step says of an entry beside its literal: less (24), the literal is less (26, the tag of no node), equal
@@ -67,7 +75,7 @@ pub record StepWhen (tag column kind key : ℕ) (e : Expr) : Type 0 where
 
 -- whatever node stands from a place to a place is such a one
 pub record StepGives (rule : List ℕ) (start end : ℕ) (s : Step) : Type 0 where
-  pub is : (e : Expr) (depth : ℕ) → NodeAt rule start end e depth → StepWhen s.tag s.column s.kind s.key e
+  pub is : (e : Expr) (depth : ℕ) → NodeAt rule start end e depth → StepWhen (comparison_tag s.comparison) s.column s.kind s.key e
 
 -- ---- the steps of a CASE
 
@@ -81,12 +89,6 @@ when_at (branch w t bs) (suc k) = when_at bs k
 pub record StepsAt (rule : List ℕ) (at count column kind : ℕ) (tags keys : List ℕ) : Type 0 where
   pub each : (bs : Branches) (rest : List Expr) (end depth : ℕ) → TreesAt rule at end (branch_trees bs ++ rest) depth → branch_count bs ≡ count
       → (k : ℕ) → k < count → StepWhen (slice_index tags k) column kind (slice_index keys k) (when_at bs k)
-
--- where they were read
-pub record StepsRead (rule : List ℕ) (at count column kind : ℕ) (read : Bool) (tags keys : List ℕ) : Type 0 where
-  pub tags_long : length tags ≡ 32
-  pub keys_long : length keys ≡ 32
-  pub steps : read ≡ true → StepsAt rule at count column kind tags keys
 
 -- ---- the index of a row
 
@@ -129,6 +131,13 @@ pub record SpansOf (tags keys : List ℕ) (count : ℕ) (lows highs : List ℕ) 
   pub highs_long : length highs ≡ 32
   pub low_is : (k : ℕ) → k < count → slice_index lows k ≡ step_low (slice_index tags k) (slice_index keys k)
   pub high_is : (k : ℕ) → k < count → slice_index highs k ≡ step_high (slice_index tags k) (slice_index keys k)
+
+-- the spans of the steps that the WHENs are of whatever branches stand at a place
+pub record SpansRead (rule : List ℕ) (at count column kind : ℕ) (lows highs : List ℕ) : Type 0 where
+  pub tags : List ℕ
+  pub keys : List ℕ
+  pub steps : StepsAt rule at count column kind tags keys
+  pub spans : SpansOf tags keys count lows highs
 
 -- a number lies between two
 abbrev pub in_span : ℕ → ℕ → ℕ → Bool
@@ -177,7 +186,7 @@ pub record WhenIndex (e : Expr) (row : Row) (c : ℕ) : Type 0 where
 
 -- by whatever WHEN is this step, at a row that has in the column what the table has there
 pub record StepRow (s : Step) (table : List ℕ) (place : ColumnPlace) (q c : ℕ) : Type 0 where
-  pub is : (e : Expr) (row : Row) → StepWhen s.tag s.column s.kind s.key e → row s.column ≡ entry (entry_at (column_in table place) q) → WhenIndex e row c
+  pub is : (e : Expr) (row : Row) → StepWhen (comparison_tag s.comparison) s.column s.kind s.key e → row s.column ≡ entry (entry_at (column_in table place) q) → WhenIndex e row c
 
 -- at each row of a list
 pub record StepRows (s : Step) (table : List ℕ) (place : ColumnPlace) (w : List ℕ) (at n : ℕ) (served : Bool) (indices : List ℕ) : Type 0 where

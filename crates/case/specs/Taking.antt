@@ -1,12 +1,13 @@
 -- Taking, in the work buffer: the rows of an index go to the next frame's list, and their slots there come back.
-use Rattle.std.specs.Prelude.{◌≡◌, ℕ, ◌<◌, ◌≤◌, Bool, true, false, cond, List, length, ◌==◌, slice_index}
+use Rattle.std.specs.Prelude.{◌≡◌, ℕ, ◌<◌, ◌≤◌, Bool, true, false, not, List, length, slice_index, slice_index_or}
 use Rattle.layout.specs.Bytes.{byte}
 use Rattle.scalar.specs.declared.order.Order.{Order}
 use Rattle.scalar.specs.declared.order.Order.TheVariants.{Less, Equal, Greater, SomeNull, SomeFailed, Unlike}
 use Rattle.scalar.specs.declared.value.Value.{Value}
 use Rattle.scalar.specs.declared.value.Value.TheVariants.{Null, Boolean, Failed}
 use Rattle.scalar.specs.Entry.{entry, Entry}
-use Rattle.scalar.specs.Value.{meaning, GivesBoth}
+use Rattle.scalar.specs.Order.{order_of}
+use Rattle.scalar.specs.Value.{meaning}
 use Rattle.scalar.specs.Compare.{equal_entry, less_entry}
 use Rattle.rule.specs.Row.{is_true_test, chosen}
 use Rattle.table.specs.declared.places.ColumnPlace.{ColumnPlace}
@@ -36,22 +37,23 @@ abbrev pub comparison : Bool → Entry → Entry → Entry
 comparison true = less_entry
 comparison false = equal_entry
 
--- what a comparison says of an order, as a number: 0 false, 1 true, 2 null, 3 failed
-abbrev pub order_code : Bool → Order → ℕ
-order_code less Less = cond less 1 0
-order_code less Equal = cond less 0 1
-order_code less Greater = 0
-order_code less SomeNull = 2
-order_code less SomeFailed = 3
-order_code less Unlike = 2
+-- the value of a comparison, less or equal, by the order of its sides
+abbrev pub order_value : Bool → Order → Value
+order_value less Less = Boolean less
+order_value less Equal = Boolean (not less)
+order_value less Greater = Boolean false
+order_value less SomeNull = Null
+order_value less SomeFailed = Failed
+order_value less Unlike = Null
 
--- the value that such a number stands for
-abbrev pub code_value : ℕ → Value
-code_value code = cond (code == 0) (Boolean false) (cond (code == 1) (Boolean true) (cond (code == 2) Null Failed))
+-- the order of two values
+abbrev pub OrderRight : List ℕ → List ℕ → Value → Value → Order → Type 0
+OrderRight rule table a b o = o ≡ order_of (meaning rule table a) (meaning rule table b)
 
--- the number of the comparison of two values
-abbrev pub CodeRight : Bool → List ℕ → List ℕ → Value → Value → ℕ → Type 0
-CodeRight less rule table a b code = GivesBoth (comparison less) rule table a b (code_value code)
+-- the order of each listed row
+pub record RowsOrdered (right : ℕ → Order → Type 0) (w : List ℕ) (at n : ℕ) (orders : List Order) : Type 0 where
+  pub long : length orders ≡ 512
+  pub each : (q : ℕ) → Listed w at n q → right q (slice_index_or orders q Less)
 
 -- the one value where the slot is true, else the other; where it failed, it stays so
 abbrev pub ScalarRight : Value → Value → List ℕ → ℕ → Value → Type 0

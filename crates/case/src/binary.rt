@@ -1,13 +1,12 @@
 // Equal and less on the slots of the listed rows.
-ghost use Rattle.std.specs.Prelude.{◌≡◌, ◌+◌, ◌*◌, ◌<◌, ◌≤◌, length, if◌then◌else◌, slice_index};
+ghost use Rattle.std.specs.Prelude.{◌≡◌, ◌+◌, ◌*◌, ◌<◌, ◌≤◌, length, if◌then◌else◌, slice_index_or};
 ghost use Rattle.scalar.specs.Order.{order_of, text_in, text_order};
 ghost use Rattle.scalar.specs.Value.{meaning, GivesBoth};
 ghost use Rattle.case.specs.Frame.{slot_at, next_slot, Rows, Fillable, Filled};
-ghost use Rattle.case.specs.Steps.{RowsIndexed};
-ghost use Rattle.case.specs.Taking.{comparison, order_code, code_value, CodeRight};
+ghost use Rattle.case.specs.Taking.{comparison, order_value, OrderRight, RowsOrdered};
 
-use crate::rows::row_at;
-use crate::slot::{get_slot, next_slot, put_slot};
+use crate::rows::{fill_rows, row_at};
+use crate::slot::{get_slot, next_slot};
 use scalar::order::{Order, is_text, key_of, key_order, text_in, text_order};
 use scalar::value::Value;
 
@@ -31,29 +30,16 @@ fn order_at(rule: &[u8], table: &[u8], a: Value, b: Value) -> Order
     key_order(key_of(a), key_of(b))
 }
 
-// What less or equal says, as a number: 0 false, 1 true, 2 null, 3 failed.
-fn truth_code(less: bool, o: Order) -> u8
-    ensures { result ≡ order_code less o }
+// The value of a comparison, less or equal, by the order of its sides.
+pub(crate) fn order_value(less: bool, o: Order) -> Value
+    ensures { result ≡ order_value less o }
 {
     match o {
-        Order::Less => if less { 1 } else { 0 },
-        Order::Equal => if less { 0 } else { 1 },
-        Order::Greater => 0,
-        Order::SomeNull => 2,
-        Order::SomeFailed => 3,
-        Order::Unlike => 2,
-    }
-}
-
-// The value that such a number stands for.
-pub(crate) fn code_value(code: u8) -> Value
-    ensures { result ≡ code_value code }
-{
-    match code {
-        0 => Value::Boolean(false),
-        1 => Value::Boolean(true),
-        2 => Value::Null,
-        _ => Value::Failed,
+        Order::Less => Value::Boolean(less),
+        Order::Equal => Value::Boolean(!less),
+        Order::Greater => Value::Boolean(false),
+        Order::SomeNull | Order::Unlike => Value::Null,
+        Order::SomeFailed => Value::Failed,
     }
 }
 
@@ -68,39 +54,35 @@ fn second_side(work: &[u8], fixed: bool, b: Value, row: usize) -> Value
     next_slot(work, row)
 }
 
-// Whether the slot of each row of the list at a place is less than its second side, or equal to it, as a number at the row.
+// The order of the slot of each row of the list at a place and its second side.
 pub(crate) fn compare_list(
     rule: &[u8],
     table: &[u8],
     work: &[u8],
     at: usize,
     n: usize,
-    less: bool,
     fixed: bool,
     b: Value,
-    codes: &mut [u8],
+    orders: &mut [Order],
 )
     requires rows { Rows work.now at n 512 × (at + 2 * n ≤ length work.now) }
-    requires in_bounds { (12288 ≤ length work.now) × (length codes.old ≡ 512) }
-    ensures { RowsIndexed (λ r c. CodeRight less rule.now table.now (slot_at work.now r) (if fixed then b else next_slot work.now r) c) work.now at n codes.new }
+    requires in_bounds { (12288 ≤ length work.now) × (length orders.old ≡ 512) }
+    ensures { RowsOrdered (λ r o. OrderRight rule.now table.now (slot_at work.now r) (if fixed then b else next_slot work.now r) o) work.now at n orders.new }
 {
     for i in 0..n {
         let r = row_at(work, at, i);
         let x = get_slot(work, r);
         let y = second_side(work, fixed, b, r);
-        codes[r] = truth_code(less, order_at(rule, table, x, y));
+        orders[r] = order_at(rule, table, x, y);
     }
 }
 
-// The value of each listed row's number, in the row's slot.
-fn put_codes(work: &mut [u8], n: usize, codes: &[u8])
-    requires { Fillable work.old n × (512 ≤ length codes.now) }
-    ensures { Filled (λ r v. v ≡ code_value (slice_index codes.now r)) work.old n work.new }
+// The value of each listed row's comparison, in the row's slot.
+fn put_orders(work: &mut [u8], n: usize, less: bool, orders: &[Order])
+    requires { Fillable work.old n × (512 ≤ length orders.now) }
+    ensures { Filled (λ r v. v ≡ order_value less (slice_index_or orders.now r Order.Less)) work.old n work.new }
 {
-    for i in 0..n {
-        let r = row_at(work, 0, i);
-        put_slot(work, r, code_value(codes[r]));
-    }
+    fill_rows(work, n, |row| order_value(less, orders[row]));
 }
 
 // Whether the slot of each listed row is less than the row's slot of the next frame, or equal to it, in the row's slot.
@@ -109,19 +91,9 @@ pub(crate) fn compare_rows(rule: &[u8], table: &[u8], work: &mut [u8], n: usize,
     requires in_bounds { 12288 ≤ length work.old }
     ensures { Filled (λ r v. GivesBoth (comparison less) rule.now table.now (slot_at work.old r) (next_slot work.old r) v) work.old n work.new }
 {
-    let mut codes = [0u8; 512];
-    compare_list(
-        rule,
-        table,
-        work,
-        0,
-        n,
-        less,
-        false,
-        Value::Null,
-        &mut codes,
-    );
-    put_codes(work, n, &codes);
+    let mut orders = [Order::Unlike; 512];
+    compare_list(rule, table, work, 0, n, false, Value::Null, &mut orders);
+    put_orders(work, n, less, &orders);
 }
 
 // Whether the slot of each listed row is less than one value, or equal to it, in the row's slot.
@@ -137,7 +109,7 @@ pub(crate) fn compare_value(
     requires in_bounds { 12288 ≤ length work.old }
     ensures { Filled (λ r v. GivesBoth (comparison less) rule.now table.now (slot_at work.old r) b v) work.old n work.new }
 {
-    let mut codes = [0u8; 512];
-    compare_list(rule, table, work, 0, n, less, true, b, &mut codes);
-    put_codes(work, n, &codes);
+    let mut orders = [Order::Unlike; 512];
+    compare_list(rule, table, work, 0, n, true, b, &mut orders);
+    put_orders(work, n, less, &orders);
 }

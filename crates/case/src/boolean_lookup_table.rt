@@ -1,9 +1,8 @@
 // Boolean keys.
 ghost use Rattle.std.specs.Prelude.{◌≡◌, if◌then◌else◌};
-ghost use Rattle.case.specs.LookUpTables.{Keys};
 ghost use Rattle.case.specs.LookUpBooleans.{BooleansOf};
 
-use crate::primitive_lookup_table::find_number;
+use crate::when_literal_index_map::WhenLiteralIndexMap;
 
 // The index of each Boolean.
 #[derive(Clone, Copy)]
@@ -12,28 +11,23 @@ pub(crate) struct BooleanIndexMap {
     pub(crate) false_index: usize,
 }
 
-// The index of the first key that equals each Boolean, or the ELSE index.
-pub(crate) fn boolean_index_map(
-    kinds: &[u8],
-    keys: &[u64],
-    indices: &[u16],
-    size: usize,
-    otherwise: usize,
-) -> BooleanIndexMap
-    requires { Keys kinds.now keys.now indices.now size otherwise }
-    ensures { BooleansOf kinds.now keys.now indices.now size otherwise result }
-{
-    let true_index = find_number(kinds, keys, indices, size, otherwise, 1, 1);
-    let false_index = find_number(kinds, keys, indices, size, otherwise, 1, 0);
-    BooleanIndexMap {
-        true_index,
-        false_index,
+impl BooleanIndexMap {
+    // The index of the first key that equals each Boolean, or the ELSE index.
+    pub(crate) fn new(whens: &WhenLiteralIndexMap) -> BooleanIndexMap
+        ensures { BooleansOf whens.now.kinds whens.now.keys whens.now.indices whens.now.size whens.now.else_index result }
+    {
+        let true_index = whens.find_number(1, 1);
+        let false_index = whens.find_number(1, 0);
+        BooleanIndexMap {
+            true_index,
+            false_index,
+        }
     }
-}
 
-// The index of a Boolean.
-pub(crate) fn map_boolean(map: BooleanIndexMap, b: bool) -> usize
-    ensures { result ≡ (if b then map.true_index else map.false_index) }
-{
-    if b { map.true_index } else { map.false_index }
+    // The index of a Boolean.
+    pub(crate) fn index(self, b: bool) -> usize
+        ensures { result ≡ (if b then self.true_index else self.false_index) }
+    {
+        if b { self.true_index } else { self.false_index }
+    }
 }

@@ -1,116 +1,90 @@
 // Text keys, by their bytes.
-ghost use Rattle.std.specs.Prelude.{◌≡◌, ℕ, ◌+◌, ◌-◌, ◌<◌, ◌≤◌, true, length, slice_index};
-ghost use Rattle.layout.specs.Bytes.{number_at};
+ghost use Rattle.std.specs.Prelude.{◌≡◌, ◌<◌, ◌≤◌, true, length, slice_index};
+ghost use Rattle.layout.specs.Bytes.{Bytes};
 ghost use Rattle.scalar.specs.Entry.{entry, utf8};
 ghost use Rattle.scalar.specs.Text.{same_bytes};
-ghost use Rattle.scalar.specs.Value.{meaning, place_text, value_of};
-ghost use Rattle.case.specs.LookUpTables.{Keys, EachOnce, bytes_of, same_key, key_index, value_at};
+ghost use Rattle.scalar.specs.Value.{meaning, value_of};
+ghost use Rattle.case.specs.LookUpTables.{EachOnce, same_key, key_index, value_at};
 ghost use Rattle.case.specs.LookUpColumns.{text_hint, outcome_hint, Hinted, rule_text, text_mark, KeySize, Marked, MarkIs, TextTable};
 
 use crate::slot::word;
+use crate::when_literal_index_map::WhenLiteralIndexMap;
 use scalar::text::place_text;
 
-// How many bytes of a text's place are there. Kind 5 is text in the rule, any other in the table.
-fn size_in(rule: &[u8], table: &[u8], kind: u8, start: usize, size: usize) -> usize
-    ensures { result ≡ length (place_text (bytes_of kind rule.now table.now) start size) }
-{
-    if kind == 5 {
-        return place_text(rule, start, size).len();
-    }
-    place_text(table, start, size).len()
-}
-
-// The number in the four bytes at a place, in the bytes of the kind.
-fn word_in(rule: &[u8], table: &[u8], kind: u8, at: usize) -> u64
-    requires { at + 4 ≤ length (bytes_of kind rule.now table.now) }
-    ensures { result ≡ number_at 4 (bytes_of kind rule.now table.now) at }
-{
-    if kind == 5 {
-        return word(rule, at);
-    }
-    word(table, at)
-}
-
-// The byte at a place, in the bytes of the kind.
-fn byte_in(rule: &[u8], table: &[u8], kind: u8, at: usize) -> u8
-    requires { at + 1 ≤ length (bytes_of kind rule.now table.now) }
-    ensures { result ≡ slice_index (bytes_of kind rule.now table.now) at }
-{
-    if kind == 5 {
-        return rule[at];
-    }
-    table[at]
-}
-
-// Whether a text is the bytes from a place on, one at a time from the back.
-fn same_short(rule: &[u8], table: &[u8], kind: u8, start: usize, text: &[u8]) -> bool
-    requires { length text.now ≤ length (bytes_of kind rule.now table.now) - start }
-    ensures { result ≡ same_bytes text.now (place_text (bytes_of kind rule.now table.now) start (length text.now)) }
+// Whether two texts of one size are the same bytes, one at a time from the back.
+fn same_short(there: &[u8], text: &[u8]) -> bool
+    requires { length text.now ≡ length there.now }
+    ensures { result ≡ same_bytes text.now there.now }
 {
     for left in (0..text.len()).rev() {
-        if text[left] != byte_in(rule, table, kind, start + left) {
+        if text[left] != there[left] {
             return false;
         }
     }
     true
 }
 
-// The same, four at a time where there are so many: names often begin alike.
-fn same_in(rule: &[u8], table: &[u8], kind: u8, start: usize, text: &[u8]) -> bool
-    requires { length text.now ≤ length (bytes_of kind rule.now table.now) - start }
-    ensures { result ≡ same_bytes text.now (place_text (bytes_of kind rule.now table.now) start (length text.now)) }
+// The same of four bytes or more, four at a time: names often begin alike.
+fn same_long(there: &[u8], text: &[u8]) -> bool
+    requires { (length text.now ≡ length there.now) × (4 ≤ length text.now) }
+    ensures { result ≡ same_bytes text.now there.now }
 {
-    if text.len() < 4 {
-        return same_short(rule, table, kind, start, text);
-    }
     let mut left = text.len();
+    // no plainer as a `for`: it would count fours, and the place from the back would be computed of each
     while 4 <= left {
         left -= 4;
-        if word(text, left) != word_in(rule, table, kind, start + left) {
+        if word(text, left) != word(there, left) {
             return false;
         }
     }
-    word(text, 0) == word_in(rule, table, kind, start)
+    word(text, 0) == word(there, 0)
 }
 
-// Whether a key, by its kind and payload, is a text of these bytes. The sizes tell most texts apart.
+// Whether two texts are the same bytes. The sizes tell most texts apart.
+fn same_text(there: &[u8], text: &[u8]) -> bool
+    ensures { result ≡ same_bytes text.now there.now }
+{
+    if there.len() != text.len() {
+        return false;
+    }
+    if text.len() < 4 {
+        return same_short(there, text);
+    }
+    same_long(there, text)
+}
+
+// The text of a key in the bytes it is in, by its payload.
+fn key_text(bytes: &[u8], payload: u64) -> &[u8]
+    ensures { result.now ≡ rule_text bytes.now payload }
+{
+    let start = (payload % 0x1_0000_0000) as usize;
+    let size = (payload / 0x1_0000_0000) as usize;
+    place_text(bytes, start, size)
+}
+
+// Whether a key, by its kind and payload, is a text of these bytes. Kind 5 is text in the rule, 6 in the table.
 fn is_text(rule: &[u8], table: &[u8], text: &[u8], kind: u8, payload: u64) -> bool
     ensures { result ≡ same_key (entry (utf8 text.now)) (meaning rule.now table.now (value_of kind payload)) }
 {
-    if kind < 5 {
-        return false;
+    match kind {
+        5 => same_text(key_text(rule, payload), text),
+        6 => same_text(key_text(table, payload), text),
+        _ => false,
     }
-    if 6 < kind {
-        return false;
-    }
-    let start = (payload % 0x1_0000_0000) as usize;
-    let size = (payload / 0x1_0000_0000) as usize;
-    if size_in(rule, table, kind, start, size) != text.len() {
-        return false;
-    }
-    same_in(rule, table, kind, start, text)
 }
 
-// The index of the first key that is a text of these bytes, or the ELSE index.
-pub(crate) fn find_text(
-    rule: &[u8],
-    table: &[u8],
-    kinds: &[u8],
-    keys: &[u64],
-    indices: &[u16],
-    size: usize,
-    otherwise: usize,
-    text: &[u8],
-) -> usize
-    requires { Keys kinds.now keys.now indices.now size otherwise }
-    ensures { result ≡ key_index rule.now table.now kinds.now keys.now indices.now size otherwise (entry (utf8 text.now)) }
-{
-    for k in 0..size {
-        if is_text(rule, table, text, kinds[k], keys[k]) {
-            return indices[k] as usize;
+impl WhenLiteralIndexMap {
+    // The index of the first key that is a text of these bytes, or the ELSE index.
+    pub(crate) fn find_text(&self, rule: &[u8], table: &[u8], text: &[u8]) -> usize
+        ensures { result ≡ key_index rule.now table.now self.now.kinds self.now.keys self.now.indices self.now.size self.now.else_index (entry (utf8 text.now)) }
+    {
+        for k in 0..self.size {
+            if is_text(rule, table, text, self.kinds[k], self.keys[k]) {
+                return self.indices[k] as usize;
+            }
         }
+        self.else_index
     }
-    otherwise
 }
 
 // A text's place among the hints.
@@ -128,32 +102,23 @@ fn text_hint(text: &[u8]) -> usize
 fn key_hint(rule: &[u8], table: &[u8], kind: u8, payload: u64) -> usize
     ensures { result ≡ outcome_hint (meaning rule.now table.now (value_of kind payload)) }
 {
-    let start = (payload % 0x1_0000_0000) as usize;
-    let size = (payload / 0x1_0000_0000) as usize;
     match kind {
-        5 => text_hint(place_text(rule, start, size)),
-        6 => text_hint(place_text(table, start, size)),
+        5 => text_hint(key_text(rule, payload)),
+        6 => text_hint(key_text(table, payload)),
         _ => 0,
     }
 }
 
 // At each key's hint one more than the place of a key.
-pub(crate) fn read_hints(
-    rule: &[u8],
-    table: &[u8],
-    kinds: &[u8],
-    keys: &[u64],
-    size: usize,
-    hints: &mut [u8],
-)
-    requires kinds_len { (length kinds.now ≡ 32) × (length keys.now ≡ 32) × (size ≤ 32) }
-    requires hints_len { (length hints.old ≡ 256) × ((h : ℕ) → slice_index hints.old h ≡ 0) }
-    ensures { Hinted (λ k. outcome_hint (meaning rule.now table.now (value_at kinds.now keys.now k))) size hints.new }
+fn read_hints(rule: &[u8], table: &[u8], whens: &WhenLiteralIndexMap) -> [u8; 256]
+    ensures { Hinted (λ k. outcome_hint (meaning rule.now table.now (value_at whens.now.kinds whens.now.keys k))) whens.now.size result }
 {
-    for k in 0..size {
-        let h = key_hint(rule, table, kinds[k], keys[k]);
+    let mut hints = [0u8; 256];
+    for k in 0..whens.size {
+        let h = key_hint(rule, table, whens.kinds[k], whens.keys[k]);
         hints[h] = (k + 1) as u8;
     }
+    hints
 }
 
 // The mark of a text of four bytes or more.
@@ -169,9 +134,7 @@ fn text_mark(text: &[u8]) -> u64
 fn key_mark(rule: &[u8], payload: u64) -> u64
     ensures { 4 ≤ length (rule_text rule.now payload) → result ≡ text_mark (rule_text rule.now payload) }
 {
-    let start = (payload % 0x1_0000_0000) as usize;
-    let size = (payload / 0x1_0000_0000) as usize;
-    let text = place_text(rule, start, size);
+    let text = key_text(rule, payload);
     if text.len() < 4 {
         return 0;
     }
@@ -185,9 +148,7 @@ fn key_size(rule: &[u8], kind: u8, payload: u64) -> usize
     if kind != 5 {
         return 0;
     }
-    let start = (payload % 0x1_0000_0000) as usize;
-    let size = (payload / 0x1_0000_0000) as usize;
-    let there = place_text(rule, start, size).len();
+    let there = key_text(rule, payload).len();
     if there < 4 {
         return 0;
     }
@@ -198,92 +159,99 @@ fn key_size(rule: &[u8], kind: u8, payload: u64) -> usize
 }
 
 // The size and the mark of each key of four to eight bytes in the rule; of any other key the size 0.
-pub(crate) fn read_marks(
-    rule: &[u8],
-    kinds: &[u8],
-    keys: &[u64],
-    size: usize,
-    sizes: &mut [u8],
-    marks: &mut [u64],
-)
-    requires kinds_len { (length kinds.now ≡ 32) × (length keys.now ≡ 32) × (size ≤ 32) }
-    requires sizes_len { (length sizes.old ≡ 32) × (length marks.old ≡ 32) × ((k : ℕ) → slice_index sizes.old k ≡ 0) }
-    ensures { Marked rule.now kinds.now keys.now sizes.new marks.new }
-{
-    for k in 0..size {
-        sizes[k] = key_size(rule, kinds[k], keys[k]) as u8;
-        marks[k] = key_mark(rule, keys[k]);
+#[derive(Drop)]
+pub(crate) struct TextMarks {
+    pub(crate) sizes: [u8; 32],
+    pub(crate) marks: [u64; 32],
+}
+
+impl TextMarks {
+    // The sizes and the marks of the keys.
+    fn read(rule: &[u8], whens: &WhenLiteralIndexMap) -> TextMarks
+        ensures { Marked rule.now whens.now.kinds whens.now.keys result.sizes result.marks }
+    {
+        let mut sizes = [0u8; 32];
+        let mut marks = [0u64; 32];
+        for k in 0..whens.size {
+            sizes[k] = key_size(rule, whens.kinds[k], whens.keys[k]) as u8;
+            marks[k] = key_mark(rule, whens.keys[k]);
+        }
+        TextMarks { sizes, marks }
+    }
+
+    // Whether a text of four bytes or more has the size and the mark of a key.
+    fn is_marked(&self, k: usize, text: &[u8]) -> bool
+        requires { k < 32 }
+        ensures { result ≡ true → MarkIs (slice_index self.now.sizes k) (slice_index self.now.marks k) text.now }
+    {
+        if text.len() < 4 {
+            return false;
+        }
+        if (self.sizes[k] as usize) != text.len() {
+            return false;
+        }
+        self.marks[k] == text_mark(text)
     }
 }
 
-// Whether a text of four bytes or more has the size and the mark of a key.
-fn is_marked(sizes: &[u8], marks: &[u64], k: usize, text: &[u8]) -> bool
-    requires { (length sizes.now ≡ 32) × (length marks.now ≡ 32) × (k < 32) }
-    ensures { result ≡ true → MarkIs (slice_index sizes.now k) (slice_index marks.now k) text.now }
-{
-    if text.len() < 4 {
-        return false;
-    }
-    if (sizes[k] as usize) != text.len() {
-        return false;
-    }
-    marks[k] == text_mark(text)
+// The keys of a table that is searched for texts, their hints and their marks.
+#[derive(Drop)]
+pub(crate) struct BytesLikeIndexMap<'a> {
+    pub(crate) rule: &'a [u8],
+    pub(crate) table: &'a [u8],
+    pub(crate) whens: &'a WhenLiteralIndexMap,
+    pub(crate) hints: [u8; 256],
+    pub(crate) marks: TextMarks,
+    ghost bytes: { Bytes rule.now },
+    ghost texts: { TextTable rule.now table.now whens.now.kinds whens.now.keys whens.now.indices hints whens.now.size whens.now.else_index },
+    ghost marked: { Marked rule.now whens.now.kinds whens.now.keys marks.sizes marks.marks },
 }
 
-// The index of the first key that is a text of these bytes, or the ELSE index, by one of the keys first.
-fn likely_index(
-    rule: &[u8],
-    table: &[u8],
-    kinds: &[u8],
-    keys: &[u64],
-    indices: &[u16],
-    size: usize,
-    otherwise: usize,
-    k: usize,
-    text: &[u8],
-) -> usize
-    requires { Keys kinds.now keys.now indices.now size otherwise × EachOnce rule.now table.now kinds.now keys.now size × (k < size) }
-    ensures { result ≡ key_index rule.now table.now kinds.now keys.now indices.now size otherwise (entry (utf8 text.now)) }
-{
-    if is_text(rule, table, text, kinds[k], keys[k]) {
-        return indices[k] as usize;
+impl<'a> BytesLikeIndexMap<'a> {
+    // The hints and the marks of the keys.
+    pub(crate) fn new(rule: &'a [u8], table: &'a [u8], whens: &'a WhenLiteralIndexMap) -> Self
+        requires { EachOnce rule.now table.now whens.now.kinds whens.now.keys whens.now.size }
+        ensures { (result.rule.now ≡ rule.now) × (result.table.now ≡ table.now) × (result.whens.now ≡ whens.now) }
+    {
+        let hints = read_hints(rule, table, whens);
+        let marks = TextMarks::read(rule, whens);
+        BytesLikeIndexMap {
+            rule,
+            table,
+            whens,
+            hints,
+            marks,
+        }
     }
-    find_text(rule, table, kinds, keys, indices, size, otherwise, text)
-}
 
-// The index of the first key that is a text of these bytes, or the ELSE index, by the hint first.
-pub(crate) fn text_index(
-    rule: &[u8],
-    table: &[u8],
-    kinds: &[u8],
-    keys: &[u64],
-    indices: &[u16],
-    hints: &[u8],
-    sizes: &[u8],
-    marks: &[u64],
-    size: usize,
-    otherwise: usize,
-    text: &[u8],
-) -> usize
-    requires { TextTable rule.now table.now kinds.now keys.now indices.now hints.now size otherwise × Marked rule.now kinds.now keys.now sizes.now marks.now }
-    ensures { result ≡ key_index rule.now table.now kinds.now keys.now indices.now size otherwise (entry (utf8 text.now)) }
-{
-    let h = hints[text_hint(text)] as usize;
-    if h == 0 {
-        return otherwise;
+    // The index of the first key that is a text of these bytes, or the ELSE index, by one of the keys first.
+    fn likely_index(&self, k: usize, text: &[u8]) -> usize
+        requires { k < self.now.whens.now.size }
+        ensures { result ≡ key_index self.now.rule.now self.now.table.now self.now.whens.now.kinds self.now.whens.now.keys self.now.whens.now.indices self.now.whens.now.size self.now.whens.now.else_index (entry (utf8 text.now)) }
+    {
+        if is_text(
+            self.rule,
+            self.table,
+            text,
+            self.whens.kinds[k],
+            self.whens.keys[k],
+        ) {
+            return self.whens.indices[k] as usize;
+        }
+        self.whens.find_text(self.rule, self.table, text)
     }
-    if is_marked(sizes, marks, h - 1, text) {
-        return indices[h - 1] as usize;
+
+    // The index of the first key that is a text of these bytes, or the ELSE index, by the hint first.
+    pub(crate) fn index(&self, text: &[u8]) -> usize
+        ensures { result ≡ key_index self.now.rule.now self.now.table.now self.now.whens.now.kinds self.now.whens.now.keys self.now.whens.now.indices self.now.whens.now.size self.now.whens.now.else_index (entry (utf8 text.now)) }
+    {
+        let h = self.hints[text_hint(text)] as usize;
+        if h == 0 {
+            return self.whens.else_index;
+        }
+        if self.marks.is_marked(h - 1, text) {
+            return self.whens.indices[h - 1] as usize;
+        }
+        self.likely_index(h - 1, text)
     }
-    likely_index(
-        rule,
-        table,
-        kinds,
-        keys,
-        indices,
-        size,
-        otherwise,
-        h - 1,
-        text,
-    )
 }

@@ -6,14 +6,15 @@ ghost use Rattle.case.specs.Evaluation.{Framed, Done, ExprRight, UnaryRight, Bin
 ghost use Rattle.case.specs.Results.{ThenRight, ElseRight};
 
 use crate::binary::{compare_rows, compare_value};
-use crate::cells::{cells_or_null, fill_cells};
+use crate::case_values::CASE;
+use crate::cells::{COLUMN, cells_or_null, fill_cells};
 use crate::column_lookup::lookup_values;
-use crate::literal::{fill_literal, scalar_rows};
+use crate::literal::{LITERAL, fill_literal, scalar_rows};
 use crate::literal_lookup_table::look_up;
 use crate::merge::else_values;
 use crate::results::start_results;
 use crate::rows::{Op, apply, copy_list, operator_at};
-use crate::settle::{Leave, Settled, asks_true, open_builder, settle, settle_by};
+use crate::settle::{Leave, Settled, open_builder, settle, settle_by};
 use crate::steps::{step_values, step_when};
 use crate::taking::{copy_slots, pick};
 use builder::ResultBuilder;
@@ -46,24 +47,13 @@ pub(crate) fn expr(
     if rule.len() <= start {
         return;
     }
-    let tag = rule[start];
-    if tag == 16 {
-        fill_cells(table, t, byte_at(rule, start + 3), work, n);
-        return;
+    match rule[start] {
+        COLUMN => fill_cells(table, t, byte_at(rule, start + 3), work, n),
+        LITERAL => fill_literal(rule, start, end, work, n),
+        CASE => case(rule, start, end, table, t, work, n, depth - 1),
+        0..=22 => unary(rule, start, end, table, t, work, n, depth - 1),
+        _ => binary(rule, start, end, table, t, work, n, depth - 1),
     }
-    if tag == 17 {
-        fill_literal(rule, start, end, work, n);
-        return;
-    }
-    if tag == 25 {
-        case(rule, start, end, table, t, work, n, depth - 1);
-        return;
-    }
-    if tag < 23 {
-        unary(rule, start, end, table, t, work, n, depth - 1);
-        return;
-    }
-    binary(rule, start, end, table, t, work, n, depth - 1);
 }
 
 // NOT, negative, IS NOT NULL and the casts.
@@ -127,7 +117,7 @@ fn against(
     if depth == 0 {
         return;
     }
-    if byte_at(rule, start) == 17 {
+    if byte_at(rule, start) == LITERAL {
         compare_value(rule, table, work, n, less, literal_value(rule, start, end));
         return;
     }
@@ -492,7 +482,7 @@ fn turn(
 {
     let mut whens = [0u16; 512];
     if step_when(
-        asks_true(how),
+        how.asks_true(),
         rule,
         start,
         end,
@@ -559,7 +549,7 @@ fn then(
     requires depth_nonzero { (0 < depth) × (512 ≤ length values.now) }
     ensures { Takes values.now k (ThenRight rule.now start end table.now t depth) work.old n work.new }
 {
-    if byte_at(rule, start) == 17 {
+    if byte_at(rule, start) == LITERAL {
         return;
     }
     let m = pick(work, n, values, k);
@@ -589,7 +579,7 @@ fn take_else(
     if at == end {
         return;
     }
-    if byte_at(rule, at) == 17 {
+    if byte_at(rule, at) == LITERAL {
         return;
     }
     let m = pick(work, n, values, k);

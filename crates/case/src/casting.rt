@@ -5,8 +5,8 @@ ghost use Rattle.scalar.specs.Casts.{truncated_as, failed, cast_value};
 ghost use Rattle.case.specs.Frame.{slot_at, Fillable, FillableFrom, Filled, FilledFrom, operation_of};
 ghost use Rattle.case.specs.Casting.{cast_to, integer_type, RowTruncated};
 
-use crate::rows::row_at;
-use crate::slot::{get_slot, long, put_slot};
+use crate::rows::{map_rows, row_at};
+use crate::slot::{long, put_slot};
 use scalar::cast::{from_boolean, from_float, from_int32, from_int64, kept_text};
 use scalar::truncate::{truncated_int32, truncated_int64};
 use scalar::types::DataType;
@@ -118,11 +118,7 @@ fn cast_list(work: &mut [u8], at: usize, n: usize, to: DataType, tried: bool)
     requires { FillableFrom at work.old n }
     ensures { FilledFrom at (λ r x. Gives (operation_of (cast_to tried to)) (slot_at work.old r) x) work.old n work.new }
 {
-    for i in 0..n {
-        let r = row_at(work, at, i);
-        let v = get_slot(work, r);
-        put_slot(work, r, cast_one(to, tried, v));
-    }
+    map_rows(work, at, n, |v, _| cast_one(to, tried, v));
 }
 
 // The value in the slot of each listed row cast, or try-cast.

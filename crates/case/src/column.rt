@@ -12,13 +12,12 @@ ghost use Rattle.case.specs.Frame.{Fillable, Filled};
 ghost use Rattle.case.specs.Taking.{EntryRight, ColumnRight};
 ghost use Rattle.case.specs.ColumnSlots.{PayloadRight, NumberRight, text_entry, TextRight};
 
-use crate::rows::row_at;
-use crate::slot::{get_slot, put_parts, put_slot};
+use crate::rows::{fill_rows, map_rows, row_at};
+use crate::slot::put_parts;
 use crate::truth::{Truth, truth_of};
 use layout::bits::bit_at;
 use layout::part::part_of;
-use rule::types::type_number;
-use scalar::types::{DataType, mark_number};
+use scalar::types::DataType;
 use scalar::value::Value;
 use table::entry::{entry_in, row_u32, row_u64, text_between, valid_at};
 use table::places::ColumnPlace;
@@ -30,22 +29,22 @@ pub(crate) fn fill_column(table: &[u8], place: ColumnPlace, work: &mut [u8], n: 
     ensures { Filled (EntryRight table.now place) work.old n work.new }
 {
     let kind = place.data_type;
-    let validity = part_of(table, place.validity_start, place.validity_end);
+    let validity = part_of(table, place.validity.start, place.validity.end);
     match kind {
         DataType::Utf8 => {
-            let offsets = part_of(table, place.offsets_start, place.offsets_end);
+            let offsets = part_of(table, place.offsets.start, place.offsets.end);
             fill_texts(
                 table,
                 validity,
                 offsets,
-                place.values_start,
-                place.values_end,
+                place.values.start,
+                place.values.end,
                 work,
                 n,
             );
         }
         _ => {
-            let values = part_of(table, place.values_start, place.values_end);
+            let values = part_of(table, place.values.start, place.values.end);
             fill_numbers(validity, values, kind, work, n);
         }
     }
@@ -56,7 +55,7 @@ fn kind_at(validity: &[u8], kind: DataType, row: usize) -> u8
     ensures { result ≡ (if valid_in validity.now row then type_number kind else 0) }
 {
     if valid_at(validity, row) {
-        type_number(kind)
+        kind.number()
     } else {
         0
     }
@@ -67,7 +66,7 @@ fn payload_at(values: &[u8], kind: DataType, row: usize) -> u64
     ensures { PayloadRight kind values.now row result }
 {
     match kind {
-        DataType::Boolean => mark_number(bit_at(values, row)) as u64,
+        DataType::Boolean => u64::from(bit_at(values, row)),
         DataType::Int32 => row_u32(values, row) as u64,
         DataType::Int64 => row_u64(values, row),
         DataType::Float64 => row_u64(values, row),
@@ -122,11 +121,11 @@ fn fill_texts(
     requires table_len_bound { length table.now < 2 ^ 32 }
     ensures { Filled (TextRight table.now validity.now offsets.now (part table.now start end)) work.old n work.new }
 {
-    for i in 0..n {
-        let r = row_at(work, 0, i);
-        let v = text_in(table, validity, offsets, start, end, r);
-        put_slot(work, r, v);
-    }
+    fill_rows(
+        work,
+        n,
+        |row| text_in(table, validity, offsets, start, end, row),
+    );
 }
 
 // A column's entry at a row where the test is true, null elsewhere; where it failed, it stays so.
@@ -147,9 +146,10 @@ pub(crate) fn column_or_null(table: &[u8], place: ColumnPlace, work: &mut [u8], 
     requires table_len_bound { length table.now < 2 ^ 32 }
     ensures { Filled (ColumnRight table.now place work.old) work.old n work.new }
 {
-    for i in 0..n {
-        let r = row_at(work, 0, i);
-        let test = get_slot(work, r);
-        put_slot(work, r, entry_or_null(table, place, r, test));
-    }
+    map_rows(
+        work,
+        0,
+        n,
+        |test, row| entry_or_null(table, place, row, test),
+    );
 }

@@ -5,21 +5,20 @@ ghost use Rattle.scalar.specs.Types.{type_number};
 ghost use Rattle.case.specs.Frame.{Rows};
 ghost use Rattle.case.specs.Steps.{RowsIndexed};
 ghost use Rattle.case.specs.LookUp.{KeyedGive};
-ghost use Rattle.case.specs.LookUpTables.{Keys, EachOnce};
-ghost use Rattle.case.specs.LookUpColumns.{NumberTable, NumberRow, dense_row, Marked, TextTable, TextRow, ColumnKeyed, BaseGives};
+ghost use Rattle.case.specs.LookUpTables.{EachOnce};
+ghost use Rattle.case.specs.LookUpColumns.{NumberRow, dense_row, TextRow, ColumnKeyed, BaseGives};
 
-use crate::bytes_like_lookup_table::{read_hints, read_marks, text_index};
+use crate::bytes_like_lookup_table::BytesLikeIndexMap;
 use crate::keys::column_keys;
-use crate::literal_lookup_table::{BRANCHES_MOST, read_table};
-use crate::primitive_lookup_table::{
-    fill_dense, fill_else, least_number, number_index, read_numbers,
-};
+use crate::literal_lookup_table::{BRANCHES_MOST, LiteralLookupTable};
+use crate::primitive_lookup_table::{DenseIndexMap, PrimitiveIndexMap};
 use crate::rows::row_at;
 use crate::slot::word;
+use crate::when_literal_index_map::WhenLiteralIndexMap;
 use layout::number::byte_at;
 use layout::part::part_of;
-use rule::types::type_number;
 use rule::walk::field_end;
+use scalar::types::DataType;
 use table::entry::{row_u32, valid_at};
 use table::places::{ColumnPlace, Table};
 
@@ -27,23 +26,14 @@ use table::places::{ColumnPlace, Table};
 const COLUMNS_MOST: usize = 16;
 
 // The index of a row, from 1, by the number of its value: of a null the ELSE index.
-fn number_row(
-    validity: &[u8],
-    column: &[u64],
-    numbers: &[u64],
-    indices: &[u16],
-    hints: &[u8],
-    size: usize,
-    otherwise: usize,
-    row: usize,
-) -> u16
-    requires { NumberTable numbers.now indices.now hints.now size otherwise × (length column.now ≡ 512) × (row < 512) }
-    ensures { NumberRow validity.now column.now numbers.now indices.now size otherwise row result }
+fn number_row(validity: &[u8], column: &[u64], map: &PrimitiveIndexMap, row: usize) -> u16
+    requires { (length column.now ≡ 512) × (row < 512) }
+    ensures { NumberRow validity.now column.now map.now.numbers map.now.indices map.now.size map.now.else_index row result }
 {
     if !valid_at(validity, row) {
-        return (otherwise / 2 + 1) as u16;
+        return (map.else_index / 2 + 1) as u16;
     }
-    let j = number_index(numbers, indices, hints, size, otherwise, column[row]);
+    let j = map.index(column[row]);
     (j / 2 + 1) as u16
 }
 
@@ -51,71 +41,56 @@ fn number_row(
 fn number_rows(
     validity: &[u8],
     column: &[u64],
-    numbers: &[u64],
-    indices: &[u16],
-    hints: &[u8],
-    size: usize,
-    otherwise: usize,
+    map: &PrimitiveIndexMap,
     work: &[u8],
     n: usize,
     values: &mut [u16],
 )
-    requires number_table { NumberTable numbers.now indices.now hints.now size otherwise × (length column.now ≡ 512) }
+    requires column_len { length column.now ≡ 512 }
     requires rows { Rows work.now 0 n 512 × (2 * n ≤ length work.now) × (length values.old ≡ 512) }
-    ensures { RowsIndexed (NumberRow validity.now column.now numbers.now indices.now size otherwise) work.now 0 n values.new }
+    ensures { RowsIndexed (NumberRow validity.now column.now map.now.numbers map.now.indices map.now.size map.now.else_index) work.now 0 n values.new }
 {
     for i in 0..n {
         let r = row_at(work, 0, i);
-        values[r] = number_row(
-            validity, column, numbers, indices, hints, size, otherwise, r,
-        );
+        values[r] = number_row(validity, column, map, r);
     }
 }
 
 // The index of a row, from 1, by a dense table: at a number's distance from the least. Of a null, and of a number beyond the table, the ELSE index.
-fn dense_row(
-    validity: &[u8],
-    column: &[u64],
-    least: u64,
-    answers: &[u16],
-    otherwise: usize,
-    row: usize,
-) -> u16
-    requires { (length answers.now ≡ 256) × (length column.now ≡ 512) × (row < 512) × (otherwise ≤ 64) }
-    ensures { result ≡ dense_row validity.now column.now least answers.now otherwise row }
+fn dense_row(validity: &[u8], column: &[u64], map: &DenseIndexMap, row: usize) -> u16
+    requires { (length column.now ≡ 512) × (row < 512) }
+    ensures { result ≡ dense_row validity.now column.now map.now.least map.now.answers map.now.else_index row }
 {
     if !valid_at(validity, row) {
-        return (otherwise / 2 + 1) as u16;
+        return (map.else_index / 2 + 1) as u16;
     }
     let x = column[row];
-    if x < least {
-        return (otherwise / 2 + 1) as u16;
+    if x < map.least {
+        return (map.else_index / 2 + 1) as u16;
     }
-    let d = x - least;
+    let d = x - map.least;
     if 255 < d {
-        return (otherwise / 2 + 1) as u16;
+        return (map.else_index / 2 + 1) as u16;
     }
-    answers[d as usize]
+    map.answers[d as usize]
 }
 
 // The index of each listed row by a dense table.
 fn dense_rows(
     validity: &[u8],
     column: &[u64],
-    least: u64,
-    answers: &[u16],
-    otherwise: usize,
+    map: &DenseIndexMap,
     work: &[u8],
     n: usize,
     values: &mut [u16],
 )
-    requires answers_len { (length answers.now ≡ 256) × (length column.now ≡ 512) × (otherwise ≤ 64) }
+    requires column_len { length column.now ≡ 512 }
     requires rows { Rows work.now 0 n 512 × (2 * n ≤ length work.now) × (length values.old ≡ 512) }
-    ensures { RowsIndexed (λ r c. c ≡ dense_row validity.now column.now least answers.now otherwise r) work.now 0 n values.new }
+    ensures { RowsIndexed (λ r c. c ≡ dense_row validity.now column.now map.now.least map.now.answers map.now.else_index r) work.now 0 n values.new }
 {
     for i in 0..n {
         let r = row_at(work, 0, i);
-        values[r] = dense_row(validity, column, least, answers, otherwise, r);
+        values[r] = dense_row(validity, column, map, r);
     }
 }
 
@@ -123,31 +98,19 @@ fn dense_rows(
 fn keyed_rows(
     validity: &[u8],
     column: &[u64],
-    numbers: &[u64],
-    indices: &[u16],
-    hints: &[u8],
-    size: usize,
-    otherwise: usize,
+    map: &PrimitiveIndexMap,
     work: &[u8],
     n: usize,
     values: &mut [u16],
 )
-    requires number_table { NumberTable numbers.now indices.now hints.now size otherwise × (length column.now ≡ 512) }
+    requires column_len { length column.now ≡ 512 }
     requires rows { Rows work.now 0 n 512 × (2 * n ≤ length work.now) × (length values.old ≡ 512) }
-    ensures { RowsIndexed (NumberRow validity.now column.now numbers.now indices.now size otherwise) work.now 0 n values.new }
+    ensures { RowsIndexed (NumberRow validity.now column.now map.now.numbers map.now.indices map.now.size map.now.else_index) work.now 0 n values.new }
 {
-    let least = least_number(numbers, size);
-    let mut answers = [0u16; 256];
-    fill_else(otherwise, &mut answers);
-    if fill_dense(numbers, indices, size, otherwise, least, &mut answers) {
-        dense_rows(
-            validity, column, least, &answers, otherwise, work, n, values,
-        );
-        return;
+    match map.dense() {
+        Some(dense) => dense_rows(validity, column, &dense, work, n, values),
+        None => number_rows(validity, column, map, work, n, values),
     }
-    number_rows(
-        validity, column, numbers, indices, hints, size, otherwise, work, n, values,
-    );
 }
 
 // The text of a row.
@@ -168,63 +131,38 @@ fn row_text<'a>(offsets: &[u8], texts: &'a [u8], row: usize) -> &'a [u8]
 
 // The index of a row of text, from 1: of a null the ELSE index.
 fn text_row(
-    rule: &[u8],
-    table: &[u8],
     validity: &[u8],
     offsets: &[u8],
     texts: &[u8],
-    kinds: &[u8],
-    keys: &[u64],
-    indices: &[u16],
-    hints: &[u8],
-    sizes: &[u8],
-    marks: &[u64],
-    size: usize,
-    otherwise: usize,
+    map: &BytesLikeIndexMap,
     row: usize,
 ) -> u16
-    requires { TextTable rule.now table.now kinds.now keys.now indices.now hints.now size otherwise × (row < 512) × Marked rule.now kinds.now keys.now sizes.now marks.now }
-    ensures { TextRow rule.now table.now validity.now offsets.now texts.now kinds.now keys.now indices.now size otherwise row result }
+    requires { row < 512 }
+    ensures { TextRow map.now.rule.now map.now.table.now validity.now offsets.now texts.now map.now.whens.now.kinds map.now.whens.now.keys map.now.whens.now.indices map.now.whens.now.size map.now.whens.now.else_index row result }
 {
     if !valid_at(validity, row) {
-        return (otherwise / 2 + 1) as u16;
+        return (map.whens.else_index / 2 + 1) as u16;
     }
-    let text = row_text(offsets, texts, row);
-    let found = text_index(
-        rule, table, kinds, keys, indices, hints, sizes, marks, size, otherwise, text,
-    );
+    let found = map.index(row_text(offsets, texts, row));
     (found / 2 + 1) as u16
 }
 
 // The index of each listed row of text.
 fn text_rows(
-    rule: &[u8],
-    table: &[u8],
     validity: &[u8],
     offsets: &[u8],
     texts: &[u8],
-    kinds: &[u8],
-    keys: &[u64],
-    indices: &[u16],
-    hints: &[u8],
-    sizes: &[u8],
-    marks: &[u64],
-    size: usize,
-    otherwise: usize,
+    map: &BytesLikeIndexMap,
     work: &[u8],
     n: usize,
     values: &mut [u16],
 )
-    requires text_table { TextTable rule.now table.now kinds.now keys.now indices.now hints.now size otherwise × Marked rule.now kinds.now keys.now sizes.now marks.now }
-    requires rows { Rows work.now 0 n 512 × (2 * n ≤ length work.now) × (length values.old ≡ 512) }
-    ensures { RowsIndexed (TextRow rule.now table.now validity.now offsets.now texts.now kinds.now keys.now indices.now size otherwise) work.now 0 n values.new }
+    requires { Rows work.now 0 n 512 × (2 * n ≤ length work.now) × (length values.old ≡ 512) }
+    ensures { RowsIndexed (TextRow map.now.rule.now map.now.table.now validity.now offsets.now texts.now map.now.whens.now.kinds map.now.whens.now.keys map.now.whens.now.indices map.now.whens.now.size map.now.whens.now.else_index) work.now 0 n values.new }
 {
     for i in 0..n {
         let r = row_at(work, 0, i);
-        values[r] = text_row(
-            rule, table, validity, offsets, texts, kinds, keys, indices, hints, sizes, marks, size,
-            otherwise, r,
-        );
+        values[r] = text_row(validity, offsets, texts, map, r);
     }
 }
 
@@ -233,33 +171,24 @@ fn number_column(
     table: &[u8],
     place: ColumnPlace,
     rows: usize,
-    kinds: &[u8],
-    keys: &[u64],
-    indices: &[u16],
-    size: usize,
-    otherwise: usize,
+    whens: &WhenLiteralIndexMap,
     work: &[u8],
     n: usize,
     values: &mut [u16],
 ) -> bool
-    requires keys { Keys kinds.now keys.now indices.now size otherwise × ((rule : List ℕ) × EachOnce rule table.now kinds.now keys.now size) × (otherwise ≤ 64) }
+    requires each_once { (rule : List ℕ) × EachOnce rule table.now whens.now.kinds whens.now.keys whens.now.size }
     requires rows { Rows work.now 0 n rows × (rows ≤ 512) × (2 * n ≤ length work.now) × (length values.old ≡ 512) × (type_number place.data_type ≤ 4) }
-    ensures { (rule : List ℕ) → ColumnKeyed table.now place kinds.now keys.now indices.now size otherwise work.now n rule result values.new }
+    ensures { (rule : List ℕ) → ColumnKeyed table.now place whens.now.kinds whens.now.keys whens.now.indices whens.now.size whens.now.else_index work.now n rule result values.new }
 {
     let kind = place.data_type;
-    let mut numbers = [0u64; 32];
-    let mut hints = [0u8; 256];
-    let code = type_number(kind);
-    if !read_numbers(kinds, keys, size, code, &mut numbers, &mut hints) {
+    let Some(map) = PrimitiveIndexMap::try_new(whens, kind.number()) else {
         return false;
-    }
-    let entries = part_of(table, place.values_start, place.values_end);
+    };
+    let entries = part_of(table, place.values.start, place.values.end);
     let mut column = [0u64; 512];
     column_keys(kind, entries, rows, &mut column);
-    let validity = part_of(table, place.validity_start, place.validity_end);
-    keyed_rows(
-        validity, &column, &numbers, indices, &hints, size, otherwise, work, n, values,
-    );
+    let validity = part_of(table, place.validity.start, place.validity.end);
+    keyed_rows(validity, &column, &map, work, n, values);
     true
 }
 
@@ -268,31 +197,20 @@ fn text_column(
     rule: &[u8],
     table: &[u8],
     place: ColumnPlace,
-    kinds: &[u8],
-    keys: &[u64],
-    indices: &[u16],
-    size: usize,
-    otherwise: usize,
+    whens: &WhenLiteralIndexMap,
     work: &[u8],
     n: usize,
     values: &mut [u16],
 )
-    requires keys { Keys kinds.now keys.now indices.now size otherwise × EachOnce rule.now table.now kinds.now keys.now size × (otherwise ≤ 64) }
+    requires each_once { EachOnce rule.now table.now whens.now.kinds whens.now.keys whens.now.size }
     requires rows { Rows work.now 0 n 512 × (2 * n ≤ length work.now) × (length values.old ≡ 512) × (type_number place.data_type ≡ 5) }
-    ensures { ColumnKeyed table.now place kinds.now keys.now indices.now size otherwise work.now n rule.now true values.new }
+    ensures { ColumnKeyed table.now place whens.now.kinds whens.now.keys whens.now.indices whens.now.size whens.now.else_index work.now n rule.now true values.new }
 {
-    let mut hints = [0u8; 256];
-    read_hints(rule, table, kinds, keys, size, &mut hints);
-    let mut sizes = [0u8; 32];
-    let mut marks = [0u64; 32];
-    read_marks(rule, kinds, keys, size, &mut sizes, &mut marks);
-    let validity = part_of(table, place.validity_start, place.validity_end);
-    let offsets = part_of(table, place.offsets_start, place.offsets_end);
-    let texts = part_of(table, place.values_start, place.values_end);
-    text_rows(
-        rule, table, validity, offsets, texts, kinds, keys, indices, &hints, &sizes, &marks, size,
-        otherwise, work, n, values,
-    );
+    let map = BytesLikeIndexMap::new(rule, table, whens);
+    let validity = part_of(table, place.validity.start, place.validity.end);
+    let offsets = part_of(table, place.offsets.start, place.offsets.end);
+    let texts = part_of(table, place.values.start, place.values.end);
+    text_rows(validity, offsets, texts, &map, work, n, values);
 }
 
 // The index of each listed row by the branches at a place, behind a base that is the column at a place of the table.
@@ -312,35 +230,14 @@ fn base_values(
     requires values_len { (length values.old ≡ 512) × (count ≤ 32) }
     ensures { BaseGives rule.now at end table.now place count work.now n result values.new }
 {
-    let whens = count as usize;
-    let otherwise = 2 * whens;
-    let mut literal_kinds = [0u8; 66];
-    let mut payloads = [0u64; 66];
-    let mut kinds = [0u8; 32];
-    let mut keys = [0u64; 32];
-    let mut indices = [0u16; 32];
-    let size = read_table(
-        rule,
-        at,
-        end,
-        table,
-        whens,
-        &mut literal_kinds,
-        &mut payloads,
-        &mut kinds,
-        &mut keys,
-        &mut indices,
-    );
-    let kind = place.data_type;
-    if type_number(kind) == 5 {
-        text_column(
-            rule, table, place, &kinds, &keys, &indices, size, otherwise, work, n, values,
-        );
-        return true;
+    let lookup = LiteralLookupTable::read(rule, at, end, table, count as usize);
+    match place.data_type {
+        DataType::Utf8 => {
+            text_column(rule, table, place, &lookup.whens, work, n, values);
+            true
+        },
+        _ => number_column(table, place, rows, &lookup.whens, work, n, values),
     }
-    number_column(
-        table, place, rows, &kinds, &keys, &indices, size, otherwise, work, n, values,
-    )
 }
 
 // The index of each listed row by the branches behind a base, where the base is a column and a table serves: from 1, ELSE's behind them.

@@ -1,6 +1,7 @@
 // Evaluation of a rule over a table, in a lent work buffer, into a lent output.
 ghost use Rattle.std.specs.Prelude.{◌≡◌, ◌≢◌};
-ghost use Rattle.writer.specs.declared.WriteAnswer.TheVariants.{Run, NoColumn};
+ghost use Rattle.writer.specs.declared.WriteError.TheVariants.{NoColumn};
+ghost use Rattle.writer.specs.Write.{said};
 ghost use Rattle.case.specs.Promise.{Evaluated};
 ghost use Rattle.case.specs.Readings.{ReadAsks, AnswerAsks, AnswerGives};
 
@@ -8,32 +9,31 @@ use crate::case::expr;
 use crate::fits::fits_table;
 use crate::root::class_rows;
 use crate::rows::all_rows;
+use layout::refusal::Refusal;
 use rule::read::{RuleReading, read_rule};
 use scalar::types::DataType;
 use table::places::Table;
 use table::read::read;
+use writer::WriteError;
 use writer::classes::write_classes;
 use writer::clear::clear;
 use writer::write::write_answer;
-use writer::{RunAnswer, WriteAnswer};
 
 // Least length of a full work buffer.
 const WORK_LEAST: usize = 65536;
 
-// Evaluates a rule over a table: a refusal, or the answer's length, with the answer at the front of the output.
-pub fn evaluate(rule: &[u8], table: &[u8], work: &mut [u8], output: &mut [u8]) -> RunAnswer
+// Evaluates a rule over a table: the answer's length, with the answer at the front of the output.
+pub fn evaluate(
+    rule: &[u8],
+    table: &[u8],
+    work: &mut [u8],
+    output: &mut [u8],
+) -> Result<usize, Refusal>
     ensures { Evaluated rule.now table.now work.old output.old result work.new output.new }
 {
-    let r = read_rule(rule);
-    if r.refused != 0 {
-        return RunAnswer::Refused(r.refused);
-    }
-    let t = read(table);
-    if t.refused != 0 {
-        return RunAnswer::Refused(t.refused);
-    }
-    let places = t.table;
-    evaluate_read(rule, r, table, places, work, output)
+    let r = read_rule(rule)?;
+    let t = read(table)?;
+    evaluate_read(rule, r, table, t, work, output)
 }
 
 // The same of a rule and a table that were read.
@@ -44,17 +44,17 @@ pub(crate) fn evaluate_read(
     t: Table,
     work: &mut [u8],
     output: &mut [u8],
-) -> RunAnswer
+) -> Result<usize, Refusal>
     requires { ReadAsks rule.now r table.now t }
     ensures { Evaluated rule.now table.now work.old output.old result work.new output.new }
 {
     let seen = r.seen;
     let fits = fits_table(seen, t);
     if !fits {
-        return RunAnswer::Refused(13);
+        return Err(Refusal::Fit);
     }
     if work.len() < WORK_LEAST {
-        return RunAnswer::Refused(14);
+        return Err(Refusal::WorkSize);
     }
     let result = r.result;
     let answer = answer_rows(rule, table, t, result, r.nullable, work, output);
@@ -71,7 +71,7 @@ fn answer_rows(
     nullable: bool,
     work: &mut [u8],
     output: &mut [u8],
-) -> RunAnswer
+) -> Result<usize, Refusal>
     requires { AnswerAsks rule.now table.now t res work.old }
     ensures { AnswerGives rule.now table.now t res nullable work.old output.old result work.new output.new }
 {
@@ -97,12 +97,13 @@ fn answer_rows(
 }
 
 // What a run with rows that are a column says.
-fn run_of(a: WriteAnswer) -> RunAnswer
-    requires { a ≢ NoColumn }
-    ensures { a ≡ Run result }
+fn run_of(a: Result<usize, WriteError>) -> Result<usize, Refusal>
+    requires { a ≢ Err NoColumn }
+    ensures { a ≡ said result }
 {
     match a {
-        WriteAnswer::Run(r) => r,
-        WriteAnswer::NoColumn => RunAnswer::Refused(15),
+        Ok(size) => Ok(size),
+        Err(WriteError::Refused(refusal)) => Err(refusal),
+        Err(WriteError::NoColumn) => unreachable!(),
     }
 }

@@ -7,7 +7,6 @@ ghost use Rattle.table.specs.Places.{column_in, table_in};
 ghost use Rattle.case.specs.Fitting.{mark_fits, FitsGives};
 
 use rule::seen::Seen;
-use rule::types::type_number;
 use table::places::{ColumnPlace, Table};
 
 // Whether a column of a table fits the mark of a rule's column: the three lowest bits of a mark are the type's number.
@@ -15,7 +14,7 @@ fn column_fits(mark: u8, place: ColumnPlace) -> bool
     ensures { (bytes : List ℕ) → result ≡ mark_fits mark (some (column_in bytes place)) }
 {
     let kind = place.data_type;
-    if mark & 7 != type_number(kind) {
+    if mark & 7 != kind.number() {
         return false;
     }
     if 8 <= mark {

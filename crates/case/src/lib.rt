@@ -26,3 +26,4 @@ pub(crate) mod slot;
 pub(crate) mod steps;
 pub(crate) mod taking;
 pub(crate) mod truth;
+pub(crate) mod when_literal_index_map;

@@ -5,6 +5,7 @@ ghost use Rattle.case.specs.Evaluation.{Framed};
 ghost use Rattle.case.specs.Classes.{all_of_kind, Arrays, BlockCopied, BlockRead, NestedResults, Grown, Numbered, CaseClassed, ThenClassed, ThensAsk, ThensClassed};
 
 use crate::case_values::{CASE, branches_at, case_values};
+use crate::literal::LITERAL;
 use crate::results::read_results;
 use crate::rows::row_at;
 use crate::taking::pick;
@@ -13,9 +14,6 @@ use rule::type_of::type_of;
 use rule::walk::{children_at, field_end};
 use scalar::types::DataType;
 use table::places::Table;
-
-// A literal's tag.
-const LITERAL: u8 = 17;
 
 // Room for classes.
 const CLASSES_MOST: usize = 258;

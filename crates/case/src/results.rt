@@ -5,6 +5,7 @@ ghost use Rattle.std.specs.Prelude.{◌≡◌, ◌≤◌, length};
 ghost use Rattle.case.specs.Frame.{Fillable, Filled};
 ghost use Rattle.case.specs.Results.{StartRight, EmptyArrays, ThensRead, ResultsRead, PutBy};
 
+use crate::literal::LITERAL;
 use crate::rows::row_at;
 use crate::slot::put_parts;
 use layout::number::byte_at;
@@ -16,9 +17,6 @@ use scalar::value::{kind, payload};
 
 // The kind of a failure.
 const FAILED: u8 = 7;
-
-// A literal's tag.
-const LITERAL: u8 = 17;
 
 // The literals among so many THENs at a place: where they end.
 fn read_thens(rule: &[u8], at: usize, count: usize, kinds: &mut [u8], payloads: &mut [u64]) -> usize

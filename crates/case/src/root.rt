@@ -9,7 +9,6 @@ use crate::nested::{may_class, nested_thens};
 use crate::results::read_results;
 use layout::number::byte_at;
 use rule::type_of::type_of;
-use rule::types::type_number;
 use rule::walk::children_at;
 use scalar::types::DataType;
 use table::places::Table;
@@ -39,7 +38,7 @@ pub(crate) fn class_rows(
     if !is_number(res) {
         return false;
     }
-    let code = type_number(res);
+    let code = res.number();
     let place = root_results(rule, code, kinds, payloads);
     if place == 0 {
         return false;

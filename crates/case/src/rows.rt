@@ -1,8 +1,8 @@
 // The lists of rows of the work buffer, and what is done to the slots of the listed rows.
-ghost use Rattle.std.specs.Prelude.{◌≡◌, ◌+◌, ◌*◌, ◌<◌, ◌≤◌, true, length};
+ghost use Rattle.std.specs.Prelude.{◌≡◌, ℕ, ◌+◌, ◌*◌, ◌<◌, ◌≤◌, true, length};
 ghost use Rattle.scalar.specs.Value.{Storable, Gives};
 ghost use Rattle.case.specs.Evaluation.{OperatorGives};
-ghost use Rattle.case.specs.Frame.{row_at, slot_at, Fillable, Filled, operation_of, Copied, AllRows};
+ghost use Rattle.case.specs.Frame.{row_at, slot_at, Fillable, FillableFrom, Filled, FilledFrom, operation_of, Copied, AllRows};
 ghost use Rattle.case.specs.Casting.{castless};
 ghost use Rattle.case.specs.Parting.{RowPut};
 ghost use Rattle.case.specs.Taking.{ScalarRight};
@@ -78,7 +78,35 @@ pub(crate) fn copy_list(work: &mut [u8], n: usize, from: usize, to: usize)
     requires { (from + 2 * n ≤ to) × (to + 2 * n ≤ length work.old) }
     ensures { Copied work.old n from to work.new }
 {
-    work.copy_within(from..from + 2 * n, to);
+    let (front, back) = work.split_at_mut(to);
+    back[..2 * n].copy_from_slice(&front[from..from + 2 * n]);
+}
+
+// A value in the slot of each listed row, by the row.
+pub(crate) fn fill_rows<F: Fn(usize) -> Value>(work: &mut [u8], n: usize, value: F)
+    requires fillable { Fillable work.old n }
+    requires gives { (r : ℕ) → r < 512 → F.pre value r }
+    requires stores { (r : ℕ) (x : Value) → r < 512 → F.post value r x → Storable x }
+    ensures { Filled (λ r x. F.post value r x) work.old n work.new }
+{
+    for i in 0..n {
+        let r = row_at(work, 0, i);
+        put_slot(work, r, value(r));
+    }
+}
+
+// A value in the slot of each row of the list at a place, by the one that is there and the row.
+pub(crate) fn map_rows<F: Fn(Value, usize) -> Value>(work: &mut [u8], at: usize, n: usize, value: F)
+    requires fillable { FillableFrom at work.old n }
+    requires gives { (v : Value) (r : ℕ) → Storable v → r < 512 → F.pre value v r }
+    requires stores { (v : Value) (r : ℕ) (x : Value) → Storable v → r < 512 → F.post value v r x → Storable x }
+    ensures { FilledFrom at (λ r x. F.post value (slot_at work.old r) r x) work.old n work.new }
+{
+    for i in 0..n {
+        let r = row_at(work, at, i);
+        let v = get_slot(work, r);
+        put_slot(work, r, value(v, r));
+    }
 }
 
 // One value in the slot of each listed row.
@@ -86,10 +114,7 @@ pub(crate) fn fill_value(work: &mut [u8], n: usize, v: Value)
     requires { Fillable work.old n × Storable v }
     ensures { Filled (λ r x. x ≡ v) work.old n work.new }
 {
-    for i in 0..n {
-        let r = row_at(work, 0, i);
-        put_slot(work, r, v);
-    }
+    fill_rows(work, n, |_| v);
 }
 
 // An operation on one value that is no cast.
@@ -110,11 +135,7 @@ fn apply_castless(work: &mut [u8], n: usize, op: Op)
     requires { Fillable work.old n × (castless op ≡ true) }
     ensures { Filled (λ r x. Gives (operation_of op) (slot_at work.old r) x) work.old n work.new }
 {
-    for i in 0..n {
-        let r = row_at(work, 0, i);
-        let v = get_slot(work, r);
-        put_slot(work, r, apply_one(op, v));
-    }
+    map_rows(work, 0, n, |v, _| apply_one(op, v));
 }
 
 // An operation on the value in the slot of each listed row.
@@ -135,9 +156,5 @@ pub(crate) fn choose_scalar(work: &mut [u8], n: usize, then: Value, els: Value)
     requires storable { Storable then × Storable els }
     ensures { Filled (ScalarRight then els work.old) work.old n work.new }
 {
-    for i in 0..n {
-        let r = row_at(work, 0, i);
-        let test = get_slot(work, r);
-        put_slot(work, r, choose(test, then, els));
-    }
+    map_rows(work, 0, n, |test, _| choose(test, then, els));
 }

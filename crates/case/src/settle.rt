@@ -4,14 +4,15 @@ ghost use Rattle.std.proofs.Math.Option.{none};
 ghost use Rattle.scalar.specs.Value.{meaning};
 ghost use Rattle.builder.specs.Builder.{or_else};
 ghost use Rattle.case.specs.Frame.{slot_at, next_slot, Rows};
-ghost use Rattle.case.specs.Choosing.{leaving, null_outcome, true_outcome, class_at, class_coded, class_same, class_by, asks_true, asks_equal, CodesFor, held_by, Open, Settles};
+ghost use Rattle.case.specs.Choosing.{leaving, null_outcome, true_outcome, class_at, class_by_slots, class_same, class_by, asks_true, asks_equal, OrdersFor, held_by, Open, Settles};
 ghost use Rattle.case.specs.Parting.{Parted, PartAsks, PartGives};
 
-use crate::binary::{code_value, compare_list};
+use crate::binary::{compare_list, order_value};
 use crate::rows::{put_row, row_at};
 use crate::slot::{get_slot, next_slot};
 use crate::truth::{Truth, truth_of};
 use builder::ResultBuilder;
+use scalar::order::Order;
 use scalar::value::Value;
 
 // When a row leaves: its base is null, its WHEN is true, its WHEN equals its base, or always.
@@ -21,6 +22,22 @@ pub(crate) enum Leave {
     TrueWhen,
     EqualWhen,
     Rest,
+}
+
+impl Leave {
+    // Whether a row leaves where its WHEN is true.
+    pub(crate) fn asks_true(self) -> bool
+        ensures { result ≡ asks_true self }
+    {
+        matches!(self, Leave::TrueWhen)
+    }
+
+    // Whether a row leaves where its WHEN equals its base.
+    fn asks_equal(self) -> bool
+        ensures { result ≡ asks_equal self }
+    {
+        matches!(self, Leave::EqualWhen)
+    }
 }
 
 // How many rows are left in the open list, and the builder.
@@ -35,7 +52,7 @@ pub(crate) fn open_builder(rows: usize) -> ResultBuilder
     requires { rows ≤ 512 }
     ensures { ((w : List ℕ) (left : ℕ) → Rows w 5632 left rows → Open result w left rows) × ((q : ℕ) → held_by result q ≡ none) }
 {
-    ResultBuilder::new(rows).builder
+    ResultBuilder::new(rows).unwrap()
 }
 
 // The index with which each row is held, 0 where it is not.
@@ -82,30 +99,36 @@ trait Leaving {
     ghost by_slots: { (s : Self) (w m : List ℕ) (r : ℕ) → slot_at m r ≡ slot_at w r → next_slot m r ≡ next_slot w r → class s m r ≡ class s w r };
 }
 
-// A row leaves by its base, by its WHEN, or by the number that says whether the two are equal.
+// A row leaves by its base, by its WHEN, or by the order of the two.
 #[derive(Clone, Copy)]
 struct BySlots<'a> {
     how: Leave,
-    codes: &'a [u8],
+    orders: &'a [Order],
     index: u16,
     failed: u16,
 }
 
 impl<'a> Leaving for BySlots<'a> {
-    ghost can = { λ s. 512 ≤ length s.codes.now };
+    ghost can = { λ s. 512 ≤ length s.orders.now };
 
-    ghost class = { λ s w r. class_coded s.how s.codes.now w s.index s.failed r };
+    ghost class = { λ s w r. class_by_slots s.how s.orders.now w s.index s.failed r };
 
     fn class_of(&self, work: &[u8], row: usize) -> u16 {
         match self.how {
             Leave::NullBase => null_class(get_slot(work, row), self.index, self.failed),
             Leave::TrueWhen => true_class(next_slot(work, row), self.index, self.failed),
-            Leave::EqualWhen => true_class(code_value(self.codes[row]), self.index, self.failed),
+            Leave::EqualWhen => {
+                true_class(
+                    order_value(false, self.orders[row]),
+                    self.index,
+                    self.failed,
+                )
+            },
             Leave::Rest => self.index,
         }
     }
 
-    ghost by_slots = { λ s w m r a b. class_same s.how s.codes.now w m s.index s.failed r a b };
+    ghost by_slots = { λ s w m r a b. class_same s.how s.orders.now w m s.index s.failed r a b };
 }
 
 // A row leaves where its WHEN has index 1.
@@ -155,31 +178,21 @@ fn split<L: Leaving>(
     m
 }
 
-// Whether a row leaves where its WHEN equals its base.
-fn asks_equal(how: Leave) -> bool
-    ensures { result ≡ asks_equal how }
-{
-    matches!(how, Leave::EqualWhen)
-}
-
-// The number of each open row's equality with its base, where the way of leaving asks for it.
-fn fill_codes(rule: &[u8], table: &[u8], work: &[u8], left: usize, how: Leave, codes: &mut [u8])
+// The order of each open row's base and WHEN, where the way of leaving asks for it.
+fn fill_orders(
+    rule: &[u8],
+    table: &[u8],
+    work: &[u8],
+    left: usize,
+    how: Leave,
+    orders: &mut [Order],
+)
     requires rows { Rows work.now 5632 left 512 }
-    requires in_bounds { (12288 ≤ length work.now) × (length codes.old ≡ 512) }
-    ensures { CodesFor how rule.now table.now work.now left codes.new }
+    requires in_bounds { (12288 ≤ length work.now) × (length orders.old ≡ 512) }
+    ensures { OrdersFor how rule.now table.now work.now left orders.new }
 {
-    if asks_equal(how) {
-        compare_list(
-            rule,
-            table,
-            work,
-            5632,
-            left,
-            false,
-            false,
-            Value::Null,
-            codes,
-        );
+    if how.asks_equal() {
+        compare_list(rule, table, work, 5632, left, false, Value::Null, orders);
     }
 }
 
@@ -188,10 +201,11 @@ fn add_part(b: ResultBuilder, rows: &[u16], values: &[u16]) -> ResultBuilder
     requires { PartAsks b rows.now values.now }
     ensures { PartGives b rows.now values.now result }
 {
-    if rows.len() == 0 {
-        return b;
+    let mut builder = b;
+    if !rows.is_empty() {
+        builder.add_branch_result(rows, values).unwrap();
     }
-    b.add_branch_result(rows, values).builder
+    builder
 }
 
 // The rows of the open list that leave are held with their indices, the others stay in it.
@@ -227,22 +241,15 @@ pub(crate) fn settle(
     requires index_nonzero { (0 < index) × (0 < failed) }
     ensures { Settles (class_at how rule.now table.now work.old index failed) work.old left b.rows b result work.new }
 {
-    let mut codes = [0u8; 512];
-    fill_codes(rule, table, work, left, how, &mut codes);
+    let mut orders = [Order::Unlike; 512];
+    fill_orders(rule, table, work, left, how, &mut orders);
     let leaving = BySlots {
         how,
-        codes: &codes,
+        orders: &orders,
         index,
         failed,
     };
     settle_rows(work, left, &leaving, b)
-}
-
-// Whether a row leaves where its WHEN is true.
-pub(crate) fn asks_true(how: Leave) -> bool
-    ensures { result ≡ asks_true how }
-{
-    matches!(how, Leave::TrueWhen)
 }
 
 // The same, where rows leave whose WHEN has index 1.

@@ -1,9 +1,9 @@
 // WHENs that each compare the numbers of one column with a literal. A row's branch is found from the one number by which its entry is compared:
 // the first WHEN that the number passes.
-ghost use Rattle.std.specs.Prelude.{◌≡◌, ◌+◌, ◌*◌, ◌<◌, ◌≤◌, length, if◌then◌else◌, IfSome};
+ghost use Rattle.std.specs.Prelude.{◌≡◌, ℕ, ◌+◌, ◌*◌, ◌<◌, ◌≤◌, List, [], ◌∷◌, length, if◌then◌else◌, IfSome};
 ghost use Rattle.table.specs.Places.{column_in};
 ghost use Rattle.case.specs.Frame.{Rows};
-ghost use Rattle.case.specs.Steps.{StepsGive, step_of, SidesGive, StepGives, StepsRead, step_low, step_high, SpansOf, one_span, in_span, span_index, row_span, RowIndex, RowsIndexed, ColumnGives, StepRows, WhenGives};
+ghost use Rattle.case.specs.Steps.{StepsGive, comparison_tag, step_of, SidesGive, StepGives, SpansRead, step_low, step_high, SpansOf, one_span, in_span, span_index, row_span, RowIndex, RowsIndexed, ColumnGives, StepRows, WhenGives};
 
 use crate::keys::column_keys;
 use crate::literal_lookup_table::BRANCHES_MOST;
@@ -11,32 +11,59 @@ use crate::rows::row_at;
 use layout::number::byte_at;
 use layout::part::part_of;
 use rule::literal::literal_value;
-use rule::types::type_number;
 use rule::walk::{children_at, field_end};
 use scalar::order::{Key, key_of};
 use table::entry::valid_at;
 use table::places::{ColumnPlace, Table};
 
-// The greatest number of 64 bits.
-const NUMBER_MOST: u64 = 0xffff_ffff_ffff_ffff;
+// How a column is compared with a literal.
+#[derive(Clone, Copy, PartialEq, Eq)]
+pub(crate) enum Comparison {
+    Equal,
+    Less,
+    More,
+}
 
-// A column compared with a literal: equal (23), less (24), or the literal less than the column (26, the tag of no node); the column, and the kind
-// and the key of the literal.
+// A column compared with a literal: the column, and the kind and the key of the literal.
 #[derive(Clone, Copy)]
 pub(crate) struct Step {
-    pub(crate) tag: u8,
+    pub(crate) comparison: Comparison,
     pub(crate) column: u8,
     pub(crate) kind: u8,
     pub(crate) key: u64,
 }
 
-// A step by its tag, its column and how its literal is compared.
-fn step_of(tag: u8, column: u8, key: Key) -> Option<Step>
-    ensures { result ≡ step_of tag column key }
+impl Step {
+    // The least number that passes; 1 where none does.
+    fn low(self) -> u64
+        ensures { result ≡ step_low (comparison_tag self.comparison) self.key }
+    {
+        match self.comparison {
+            Comparison::Equal => self.key,
+            Comparison::Less => if self.key == 0 { 1 } else { 0 },
+            Comparison::More => if self.key < u64::MAX { self.key + 1 } else { 1 },
+        }
+    }
+
+    // The greatest number that passes; 0 where none does.
+    fn high(self) -> u64
+        ensures { result ≡ step_high (comparison_tag self.comparison) self.key }
+    {
+        match self.comparison {
+            Comparison::Equal => self.key,
+            Comparison::Less => if self.key == 0 { 0 } else { self.key - 1 },
+            Comparison::More => if self.key < u64::MAX { u64::MAX } else { 0 },
+        }
+    }
+}
+
+// A step by its comparison, its column and how its literal is compared.
+fn step_of(comparison: Comparison, column: u8, key: Key) -> Option<Step>
+    ensures { result ≡ step_of comparison column key }
 {
     match key {
         Key::Number(kind, key) => Some(Step {
-            tag,
+            comparison,
             column,
             kind,
             key,
@@ -45,9 +72,15 @@ fn step_of(tag: u8, column: u8, key: Key) -> Option<Step>
     }
 }
 
-// The step of a tag, where a column stands at one place and a literal from another to its end.
-fn step_between(rule: &[u8], tag: u8, at: usize, literal: usize, end: usize) -> Option<Step>
-    ensures { IfSome result (SidesGive rule.now tag at literal end) }
+// The step of a comparison, where a column stands at one place and a literal from another to its end.
+fn step_between(
+    rule: &[u8],
+    comparison: Comparison,
+    at: usize,
+    literal: usize,
+    end: usize,
+) -> Option<Step>
+    ensures { IfSome result (SidesGive rule.now (comparison_tag comparison) at literal end) }
 {
     if byte_at(rule, at) != 16 {
         return None;
@@ -56,100 +89,29 @@ fn step_between(rule: &[u8], tag: u8, at: usize, literal: usize, end: usize) -> 
         return None;
     }
     step_of(
-        tag,
+        comparison,
         byte_at(rule, at + 3),
         key_of(literal_value(rule, literal, end)),
     )
 }
 
-// The node at a place, where it is a step.
+// The node at a place, where it is a step: a literal that is less than a column is a column that is more.
 fn step_at(rule: &[u8], start: usize, end: usize) -> Option<Step>
     ensures { IfSome result (StepGives rule.now start end) }
 {
-    let tag = byte_at(rule, start);
-    if tag != 23 {
-        if tag != 24 {
-            return None;
-        }
-    }
+    let comparison = match byte_at(rule, start) {
+        23 => Comparison::Equal,
+        24 => Comparison::Less,
+        _ => return None,
+    };
     let at = children_at(rule, start);
     let middle = field_end(rule, at);
     if byte_at(rule, at) != 17 {
-        return step_between(rule, tag, at, middle, end);
+        return step_between(rule, comparison, at, middle, end);
     }
-    if tag != 24 {
-        return None;
-    }
-    step_between(rule, 26, middle, at, middle)
-}
-
-// The tags and the keys of so many branches' WHENs, where each is a step on the column, of its kind.
-fn read_steps(
-    rule: &[u8],
-    at: usize,
-    count: usize,
-    column: u8,
-    kind: u8,
-    tags: &mut [u8],
-    keys: &mut [u64],
-) -> bool
-    requires { (length tags.old ≡ 32) × (length keys.old ≡ 32) × (count ≤ 32) }
-    ensures { StepsRead rule.now at count column kind result tags.new keys.new }
-{
-    let mut place = at;
-    for k in 0..count {
-        let then = field_end(rule, place);
-        let Some(s) = step_at(rule, place, then) else {
-            return false;
-        };
-        if s.column != column {
-            return false;
-        }
-        if s.kind != kind {
-            return false;
-        }
-        tags[k] = s.tag;
-        keys[k] = s.key;
-        place = field_end(rule, then);
-    }
-    true
-}
-
-// The least number that passes a step; 1 where none does.
-fn low_of(tag: u8, key: u64) -> u64
-    ensures { result ≡ step_low tag key }
-{
-    if tag == 24 {
-        return if key == 0 { 1 } else { 0 };
-    }
-    if tag == 26 {
-        return if key < NUMBER_MOST { key + 1 } else { 1 };
-    }
-    key
-}
-
-// The greatest number that passes a step; 0 where none does.
-fn high_of(tag: u8, key: u64) -> u64
-    ensures { result ≡ step_high tag key }
-{
-    if tag == 24 {
-        return if key == 0 { 0 } else { key - 1 };
-    }
-    if tag == 26 {
-        return if key < NUMBER_MOST { NUMBER_MOST } else { 0 };
-    }
-    key
-}
-
-// The least and the greatest number that pass each of so many steps.
-fn fill_spans(tags: &[u8], keys: &[u64], count: usize, lows: &mut [u64], highs: &mut [u64])
-    requires tags_len { (length tags.now ≡ 32) × (length keys.now ≡ 32) × (count ≤ 32) }
-    requires lows_len { (length lows.old ≡ 32) × (length highs.old ≡ 32) }
-    ensures { SpansOf tags.now keys.now count lows.new highs.new }
-{
-    for k in 0..count {
-        lows[k] = low_of(tags[k], keys[k]);
-        highs[k] = high_of(tags[k], keys[k]);
+    match comparison {
+        Comparison::Less => step_between(rule, Comparison::More, middle, at, middle),
+        _ => None,
     }
 }
 
@@ -158,61 +120,6 @@ fn in_span(low: u64, high: u64, x: u64) -> bool
     ensures { result ≡ in_span low high x }
 {
     if x < low { false } else { x <= high }
-}
-
-// The index of the first span that a number lies in, from 1, or the ELSE index.
-fn span_index(lows: &[u64], highs: &[u64], count: usize, x: u64) -> u16
-    requires { (length lows.now ≡ 32) × (length highs.now ≡ 32) × (count ≤ 32) }
-    ensures { result ≡ span_index lows.now highs.now count x }
-{
-    for span in 0..count {
-        if in_span(lows[span], highs[span], x) {
-            return (span + 1) as u16;
-        }
-    }
-    (count + 1) as u16
-}
-
-// The index of a row by its number: of a null the ELSE index.
-fn row_index(
-    numbers: &[u64],
-    validity: &[u8],
-    lows: &[u64],
-    highs: &[u64],
-    count: usize,
-    row: usize,
-) -> u16
-    requires lows_len { (length lows.now ≡ 32) × (length highs.now ≡ 32) × (count ≤ 32) }
-    requires row_in_bounds { row < length numbers.now }
-    ensures { result ≡ row_span numbers.now validity.now lows.now highs.now count row }
-{
-    if !valid_at(validity, row) {
-        return (count + 1) as u16;
-    }
-    span_index(lows, highs, count, numbers[row])
-}
-
-// The index of each row of the list at a place.
-fn index_rows(
-    numbers: &[u64],
-    validity: &[u8],
-    lows: &[u64],
-    highs: &[u64],
-    count: usize,
-    work: &[u8],
-    at: usize,
-    n: usize,
-    indices: &mut [u16],
-)
-    requires lows_len { (length lows.now ≡ 32) × (length highs.now ≡ 32) × (count ≤ 32) }
-    requires rows { Rows work.now at n 512 × (at + 2 * n ≤ length work.now) }
-    requires indices_len { (length indices.old ≡ 512) × (length numbers.now ≡ 512) }
-    ensures { RowsIndexed (λ r c. c ≡ row_span numbers.now validity.now lows.now highs.now count r) work.now at n indices.new }
-{
-    for i in 0..n {
-        let r = row_at(work, at, i);
-        indices[r] = row_index(numbers, validity, lows, highs, count, r);
-    }
 }
 
 // The index by one span: 1 of a number in it, else 2.
@@ -260,58 +167,147 @@ fn index_one(
     }
 }
 
-// The index of each row of the list at a place, by so many spans.
-fn index_spans(
-    numbers: &[u64],
-    validity: &[u8],
-    lows: &[u64],
-    highs: &[u64],
-    count: usize,
-    work: &[u8],
-    at: usize,
-    n: usize,
-    indices: &mut [u16],
-)
-    requires lows_len { (length lows.now ≡ 32) × (length highs.now ≡ 32) × (count ≤ 32) }
-    requires rows { Rows work.now at n 512 × (at + 2 * n ≤ length work.now) }
-    requires indices_len { (length indices.old ≡ 512) × (length numbers.now ≡ 512) }
-    ensures { RowsIndexed (λ r c. c ≡ row_span numbers.now validity.now lows.now highs.now count r) work.now at n indices.new }
-{
-    if count == 1 {
-        index_one(numbers, validity, lows[0], highs[0], work, at, n, indices);
-        return;
-    }
-    index_rows(numbers, validity, lows, highs, count, work, at, n, indices);
+// The least and the greatest number that pass each of so many steps.
+#[derive(Drop)]
+pub(crate) struct Spans {
+    pub(crate) lows: [u64; 32],
+    pub(crate) highs: [u64; 32],
+    pub(crate) count: usize,
+    ghost few: { count ≤ 32 },
 }
 
-// The index of each row of the list at a place, by so many steps on the column at a place of the table, whose type is the steps'.
+impl Spans {
+    // The spans of so many branches' WHENs, where each is a step on the column, of its kind.
+    fn read(rule: &[u8], at: usize, count: usize, column: u8, kind: u8) -> Option<Spans>
+        requires { count ≤ 32 }
+        ensures { IfSome result (λ s. SpansRead rule.now at count column kind s.lows s.highs × (s.count ≡ count)) }
+    {
+        let mut lows = [0u64; 32];
+        let mut highs = [0u64; 32];
+        let mut place = at;
+        for k in 0..count {
+            let then = field_end(rule, place);
+            let Some(s) = step_at(rule, place, then) else {
+                return None;
+            };
+            if s.column != column {
+                return None;
+            }
+            if s.kind != kind {
+                return None;
+            }
+            lows[k] = s.low();
+            highs[k] = s.high();
+            place = field_end(rule, then);
+        }
+        Some(Spans { lows, highs, count })
+    }
+
+    // The span of one step.
+    fn one(s: Step) -> Spans
+        ensures { (result.count ≡ 1) × SpansOf (comparison_tag s.comparison ∷ []) (s.key ∷ []) 1 result.lows result.highs }
+    {
+        Spans {
+            lows: [s.low(); 32],
+            highs: [s.high(); 32],
+            count: 1,
+        }
+    }
+
+    // The index of the first span that a number lies in, from 1, or the ELSE index.
+    fn index(&self, x: u64) -> u16
+        ensures { result ≡ span_index self.now.lows self.now.highs self.now.count x }
+    {
+        for span in 0..self.count {
+            if in_span(self.lows[span], self.highs[span], x) {
+                return (span + 1) as u16;
+            }
+        }
+        (self.count + 1) as u16
+    }
+
+    // The index of a row by its number: of a null the ELSE index.
+    fn row_index(&self, numbers: &[u64], validity: &[u8], row: usize) -> u16
+        requires { row < length numbers.now }
+        ensures { result ≡ row_span numbers.now validity.now self.now.lows self.now.highs self.now.count row }
+    {
+        if !valid_at(validity, row) {
+            return (self.count + 1) as u16;
+        }
+        self.index(numbers[row])
+    }
+
+    // The index of each row of the list at a place.
+    fn index_rows(
+        &self,
+        numbers: &[u64],
+        validity: &[u8],
+        work: &[u8],
+        at: usize,
+        n: usize,
+        indices: &mut [u16],
+    )
+        requires rows { Rows work.now at n 512 × (at + 2 * n ≤ length work.now) }
+        requires indices_len { (length indices.old ≡ 512) × (length numbers.now ≡ 512) }
+        ensures { RowsIndexed (λ r c. c ≡ row_span numbers.now validity.now self.now.lows self.now.highs self.now.count r) work.now at n indices.new }
+    {
+        for i in 0..n {
+            let r = row_at(work, at, i);
+            indices[r] = self.row_index(numbers, validity, r);
+        }
+    }
+
+    // The same, by the one span alone where there is one.
+    fn index_spans(
+        &self,
+        numbers: &[u64],
+        validity: &[u8],
+        work: &[u8],
+        at: usize,
+        n: usize,
+        indices: &mut [u16],
+    )
+        requires rows { Rows work.now at n 512 × (at + 2 * n ≤ length work.now) }
+        requires indices_len { (length indices.old ≡ 512) × (length numbers.now ≡ 512) }
+        ensures { RowsIndexed (λ r c. c ≡ row_span numbers.now validity.now self.now.lows self.now.highs self.now.count r) work.now at n indices.new }
+    {
+        if self.count == 1 {
+            index_one(
+                numbers,
+                validity,
+                self.lows[0],
+                self.highs[0],
+                work,
+                at,
+                n,
+                indices,
+            );
+            return;
+        }
+        self.index_rows(numbers, validity, work, at, n, indices);
+    }
+}
+
+// The index of each row of the list at a place, by the spans of steps on the column at a place of the table, whose type is the steps'.
 fn index_column(
     table: &[u8],
     place: ColumnPlace,
-    tags: &[u8],
-    keys: &[u64],
-    count: usize,
+    spans: &Spans,
     work: &[u8],
     at: usize,
     n: usize,
     indices: &mut [u16],
 )
-    requires tags_len { (length tags.now ≡ 32) × (length keys.now ≡ 32) × (count ≤ 32) }
     requires rows { Rows work.now at n 512 × (at + 2 * n ≤ length work.now) }
     requires indices_len { length indices.old ≡ 512 }
-    ensures { RowsIndexed (RowIndex place.data_type (column_in table.now place).values (column_in table.now place).validity tags.now keys.now count) work.now at n indices.new }
+    ensures long { length indices.new ≡ 512 }
+    ensures indexed { (tags keys : List ℕ) → SpansOf tags keys spans.now.count spans.now.lows spans.now.highs → RowsIndexed (RowIndex place.data_type (column_in table.now place).values (column_in table.now place).validity tags keys spans.now.count) work.now at n indices.new }
 {
-    let values = part_of(table, place.values_start, place.values_end);
-    let validity = part_of(table, place.validity_start, place.validity_end);
+    let values = part_of(table, place.values.start, place.values.end);
+    let validity = part_of(table, place.validity.start, place.validity.end);
     let mut numbers = [0u64; 512];
-    let kind = place.data_type;
-    column_keys(kind, values, 512, &mut numbers);
-    let mut lows = [0u64; 32];
-    let mut highs = [0u64; 32];
-    fill_spans(tags, keys, count, &mut lows, &mut highs);
-    index_spans(
-        &numbers, validity, &lows, &highs, count, work, at, n, indices,
-    );
+    column_keys(place.data_type, values, 512, &mut numbers);
+    spans.index_spans(&numbers, validity, work, at, n, indices);
 }
 
 // The index of each listed row by steps on a column at a place, where every WHEN is one.
@@ -334,17 +330,14 @@ fn column_steps(
         return false;
     }
     let kind = place.data_type;
-    let code = type_number(kind);
+    let code = kind.number();
     if 4 < code {
         return false;
     }
-    let whens = count as usize;
-    let mut tags = [0u8; 32];
-    let mut keys = [0u64; 32];
-    if !read_steps(rule, at, whens, column, code, &mut tags, &mut keys) {
+    let Some(spans) = Spans::read(rule, at, count as usize, column, code) else {
         return false;
-    }
-    index_column(table, place, &tags, &keys, whens, work, 0, n, indices);
+    };
+    index_column(table, place, &spans, work, 0, n, indices);
     true
 }
 
@@ -393,18 +386,14 @@ fn column_step(
     ensures { StepRows s table.now place work.now at n result indices.new }
 {
     let kind = place.data_type;
-    let code = type_number(kind);
+    let code = kind.number();
     if 4 < code {
         return false;
     }
     if s.kind != code {
         return false;
     }
-    let mut tags = [0u8; 32];
-    let mut keys = [0u64; 32];
-    tags[0] = s.tag;
-    keys[0] = s.key;
-    index_column(table, place, &tags, &keys, 1, work, at, n, indices);
+    index_column(table, place, &Spans::one(s), work, at, n, indices);
     true
 }
 

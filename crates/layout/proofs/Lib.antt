@@ -9,3 +9,4 @@ pub mod NumberLaws
 pub mod PartLaws
 pub mod PlaceLaws
 pub mod RefusalLaws
+pub mod AnswerLaws

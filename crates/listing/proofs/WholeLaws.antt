@@ -1,5 +1,5 @@
 -- A listing's lines, one behind the other: how long they are, and their writing. Assumes nothing.
-use Rattle.std.specs.Prelude.{Option}
+use Rattle.std.specs.Prelude.{Option, Result as RustResult, Ok, Err}
 use mathlib.Core.Path.{◌≡◌, refl, sym, ap, subst, ◌∙◌}
 use mathlib.Core.List.{List, [], ◌∷◌, ◌++◌, append-nil, append_assoc}
 use Prim.Native.Nat.{ℕ, zero, suc, ◌+◌, ◌<◌, ◌≤◌}
@@ -11,7 +11,9 @@ use Rattle.layout.specs.Bytes.{Bytes}
 use Rattle.layout.specs.Result.{ok}
 use Rattle.scalar.specs.declared.value.Value.{Value}
 use Rattle.scalar.specs.Entry.{Entry}
-use Rattle.table.specs.declared.places.PlaceAnswer.{PlaceAnswer}
+use Rattle.table.specs.declared.places.ColumnPlace.{ColumnPlace}
+use Rattle.layout.specs.declared.refusal.Refusal.{Refusal}
+use Rattle.layout.specs.Refusals.{number_of}
 use Rattle.table.specs.Column.{TableColumn, entry_at}
 use Rattle.table.specs.Parts.{ValueGives}
 use Rattle.table.specs.Places.{column_in, place_in, AloneRead}
@@ -138,28 +140,23 @@ module _ {out : List ℕ} {at : ℕ} {c : TableColumn} {rows row p : ℕ} {m : L
 
 -- ---- the listing
 
-module _ {l : List ℕ} {rows : ℕ} {r : PlaceAnswer} (a : AloneRead l rows r) where
-  -- a column that is refused
-  pub listing_refused : (r.refused ≡ 0 → ⊥) → refused_line r.refused ≡ listing rows (read_alone rows l)
+-- a column that is refused
+pub listing_refused : {l : List ℕ} {rows : ℕ} {r : RustResult ColumnPlace Refusal} {e : Refusal} → AloneRead l rows r → r ≡ Err e → refused_line (number_of e) ≡ listing rows (read_alone rows l)
+unfolding listing
+listing_refused {l} {rows} a is = ap (listing rows) (sym (ap (place_in l) is) ∙ a.says)
+
+-- a column that is read
+module _ {l : List ℕ} {rows : ℕ} {r : RustResult ColumnPlace Refusal} {p : ColumnPlace} (a : AloneRead l rows r) (is : r ≡ Ok p) where
+  reads : read_alone rows l ≡ ok (column_in l p)
+  reads = sym a.says ∙ ap (place_in l) is
+
+  pub listing_ok : column_lines (column_in l p) rows ≡ listing rows (read_alone rows l)
   unfolding listing
-  listing_refused h = go r.refused refl
-    where
-      go : (n : ℕ) → r.refused ≡ n → refused_line r.refused ≡ listing rows (read_alone rows l)
-      go zero e = absurd (h e)
-      go (suc n) e = ap refused_line e ∙ ap (listing rows) (sym (ap (λ (k : ℕ). place_in l k r.place) e) ∙ a.says)
+  listing_ok = ap (listing rows) (sym reads)
 
-  -- a column that is read
-  module _ (z : r.refused ≡ 0) where
-    reads : read_alone rows l ≡ ok (column_in l r.place)
-    reads = sym a.says ∙ ap (λ (k : ℕ). place_in l k r.place) z
-
-    pub listing_ok : column_lines (column_in l r.place) rows ≡ listing rows (read_alone rows l)
-    unfolding listing
-    listing_ok = ap (listing rows) (sym reads)
-
-    -- its lines can be counted
-    pub lines_short : Bytes l → length (column_lines (column_in l r.place) rows) ≤ listing_most
-    lines_short bytes = lines_most l rows (column_in l r.place) bytes reads
+  -- its lines can be counted
+  pub lines_short : Bytes l → length (column_lines (column_in l p) rows) ≤ listing_most
+  lines_short bytes = lines_most l rows (column_in l p) bytes reads
 
 -- bytes put by another name
 pub put_as : {out : List ℕ} {at : ℕ} {xs ys : List ℕ} {r : Option ℕ} {m : List ℕ} → xs ≡ ys → Put out at xs r m → Put out at ys r m

@@ -1,6 +1,6 @@
 // The lines of a listing.
 ghost use Rattle.std.specs.Prelude.{◌≡◌, [], ◌∷◌, ◌++◌, ◌+◌, ◌≤◌, length};
-ghost use Rattle.scalar.specs.Types.{type_number, mark_number};
+ghost use Rattle.layout.specs.Refusals.{number_of};
 ghost use Rattle.listing.specs.Listing.{decimal, type_words, head_line, refused_line};
 ghost use Rattle.listing.specs.Putting.{Wrote, Put, shown_bytes};
 
@@ -8,17 +8,19 @@ use crate::digits::{decimal_places, digit, write_decimal};
 use crate::entry::write_shown;
 use crate::put::{room, write_byte, write_bytes};
 use crate::shown::Shown;
+use layout::refusal::Refusal;
 use scalar::types::DataType;
 
-// The line of a refusal with a number, at a place.
-pub(crate) fn put_refused(n: u8, at: usize, out: &mut [u8]) -> Option<usize>
-    ensures { Put out.old at (refused_line n) result out.new }
+// The line of a refusal, at a place.
+pub(crate) fn put_refused(refusal: Refusal, at: usize, out: &mut [u8]) -> Option<usize>
+    ensures { Put out.old at (refused_line (number_of refusal)) result out.new }
 {
-    let k = decimal_places(n as u64);
+    let n = u64::from(refusal.number());
+    let k = decimal_places(n);
     if !room(out.len(), at, k + 9) {
         return None;
     }
-    Some(write_refused(n as u64, at, out))
+    Some(write_refused(n, at, out))
 }
 
 // A row's line with what is shown of its entry, where it fits.
@@ -30,26 +32,6 @@ pub(crate) fn write_row(bytes: &[u8], s: Shown, row: usize, at: usize, out: &mut
     let q = write_byte(b' ', p, out);
     let e = write_shown(bytes, s, q, out);
     write_byte(b'\n', e, out)
-}
-
-// The number of a type.
-fn type_number(t: DataType) -> u64
-    ensures { (result ≡ type_number t) × (result ≤ 5) }
-{
-    match t {
-        DataType::Boolean => 1,
-        DataType::Int32 => 2,
-        DataType::Int64 => 3,
-        DataType::Float64 => 4,
-        DataType::Utf8 => 5,
-    }
-}
-
-// The number of a mark.
-fn mark_number(b: bool) -> u64
-    ensures { (result ≡ mark_number b) × (result ≤ 1) }
-{
-    if b { 1 } else { 0 }
 }
 
 // What follows the row count of the head line, where it fits.
@@ -77,7 +59,12 @@ pub(crate) fn write_head(
 {
     let p = write_bytes(b"rows ", at, out);
     let q = write_decimal(rows as u64, p, out);
-    write_types(type_number(data_type), mark_number(nullable), q, out)
+    write_types(
+        u64::from(data_type.number()),
+        u64::from(nullable),
+        q,
+        out,
+    )
 }
 
 // The line of a refusal, where it fits.

@@ -17,7 +17,6 @@ use table::alone::read_alone;
 use table::entry::entry_in;
 use table::places::ColumnPlace;
 use table::read::read;
-use writer::RunAnswer;
 
 // The longest listing of an answer: 512 rows, and 65,535 bytes of text.
 pub const LISTING_MOST: usize = 144409;
@@ -26,11 +25,10 @@ pub const LISTING_MOST: usize = 144409;
 pub fn put_column(bytes: &[u8], rows: usize, at: usize, out: &mut [u8]) -> Option<usize>
     ensures { Put out.old at (listing rows (read_alone rows bytes.now)) result out.new }
 {
-    let answer = read_alone(bytes, rows);
-    if answer.refused != 0 {
-        return put_refused(answer.refused, at, out);
-    }
-    let place = answer.place;
+    let place = match read_alone(bytes, rows) {
+        Ok(place) => place,
+        Err(refusal) => return put_refused(refusal, at, out),
+    };
     let size = lines_size(bytes, place, rows);
     if !room(out.len(), at, size) {
         return None;
@@ -49,11 +47,11 @@ pub fn put_listing(
     ensures { Listed rule.now table.now work.old output.old out.old result work.new output.new out.new }
 {
     match evaluate(rule, table, work, output) {
-        RunAnswer::Answered(size) => {
-            let t = read(table).table;
-            put_column(part_of(output, 0, size), t.rows, 0, out)
-        },
-        RunAnswer::Refused(n) => put_refused(n, 0, out),
+        Ok(size) => {
+            let places = read(table).unwrap();
+            put_column(part_of(output, 0, size), places.rows, 0, out)
+        }
+        Err(refusal) => put_refused(refusal, 0, out),
     }
 }
 

@@ -75,12 +75,37 @@ told target place is e n = ap (λ (x : List ℕ). same_bytes x target) (sym n.is
 
 module _ {rule target : List ℕ} {start end depth : ℕ} where
   -- a column can't be read
-  pub within_column : byte rule start ≡ 16 → WithinGives rule start end target depth Failed
+  pub within_column : byte rule start < 17 → WithinGives rule start end target depth Failed
   unfolding eval
-  within_column is = record { means = λ e n. go e (node_of_tag n is) }
+  within_column low = record { means = λ e n. go (node_of_tag n refl) low }
     where
-      go : (e : Expr) → Tagged 16 e → Means rule Failed (eval (within e target) unread)
-      go e (of_column c) = λ table. refl
+      go : {k : ℕ} {e : Expr} → Tagged k e → k < 17 → Means rule Failed (eval (within e target) unread)
+      go (of_column c) l = λ table. refl
+      go (of_literal u w) l = absurd (omega arith)
+      go (of_negation f) l = absurd (omega arith)
+      go (of_negative f) l = absurd (omega arith)
+      go (of_is_not_null f) l = absurd (omega arith)
+      go (of_cast u f) l = absurd (omega arith)
+      go (of_try_cast u f) l = absurd (omega arith)
+      go (of_equal x y) l = absurd (omega arith)
+      go (of_less x y) l = absurd (omega arith)
+      go (of_case x bs els) l = absurd (omega arith)
+
+  -- and no node has a tag that is higher than those
+  pub within_none : {r : Value} → 25 < byte rule start → WithinGives rule start end target depth r
+  within_none {r} high = record { means = λ e n. absurd (go (node_of_tag n refl) high) }
+    where
+      go : {k : ℕ} {e : Expr} → Tagged k e → 25 < k → ⊥
+      go (of_column c) h = omega arith
+      go (of_literal u w) h = omega arith
+      go (of_negation f) h = omega arith
+      go (of_negative f) h = omega arith
+      go (of_is_not_null f) h = omega arith
+      go (of_cast u f) h = omega arith
+      go (of_try_cast u f) h = omega arith
+      go (of_equal x y) h = omega arith
+      go (of_less x y) h = omega arith
+      go (of_case x bs els) h = omega arith
 
   pub within_literal : {r : Value} → byte rule start ≡ 17 → LiteralGives rule start end r → WithinGives rule start end target depth r
   unfolding eval

@@ -1,6 +1,6 @@
 -- Columns, literals and the types of nodes, beside their definitions. Assumes nothing.
 use mathlib.Core.Path.{◌≡◌, refl, ap, ap₂, sym, subst, ◌∙◌}
-use mathlib.Core.Bool.{Bool, true, false, cond, not, ◌&&◌, false≢true, true≢false}
+use mathlib.Core.Bool.{Bool, true, false, not, ◌&&◌, false≢true, true≢false}
 use mathlib.Core.List.{List, [], ◌∷◌}
 use Prim.Native.Nat.{ℕ, zero, suc, ◌+◌, ◌*◌, ◌<◌, ◌≤◌}
 use native.Mathlib.Omega.{arith}
@@ -12,17 +12,17 @@ use Rattle.layout.specs.Result.{Result, refused, ok, ◌>>=◌, require}
 use Rattle.layout.specs.Bytes.{byte, number}
 use Rattle.scalar.specs.declared.types.DataType.{DataType}
 use Rattle.scalar.specs.declared.types.DataType.TheVariants.{Boolean, Utf8}
-use Rattle.scalar.specs.Types.{type_number, type_numbered, mark_number, mark_numbered, same_type, is_number}
+use Rattle.scalar.specs.Types.{type_number, type_numbered, mark_number, mark_numbered}
 use Rattle.scalar.specs.Entry.{Entry, null, boolean, utf8, is_null}
 use Rattle.std.specs.Prelude.{Result as RustResult, Ok, Err}
 use Rattle.layout.specs.declared.refusal.Refusal.{Refusal}
 use Rattle.layout.specs.declared.refusal.Refusal.TheVariants.{RuleContent, RuleTypes}
 use Rattle.rule.specs.declared.node.FieldFound.{FieldFound}
-use Rattle.rule.specs.Tree.{Column, Expr, column, literal, negation, is_not_null}
-use Rattle.rule.specs.Typing.{type_of, node_typed}
+use Rattle.rule.specs.Tree.{Column, Expr, column, literal}
+use Rattle.rule.specs.Typing.{type_of}
 use Rattle.rule.specs.Reading.{Read, unlike_earlier, read_column, number_of, literal_value, marked_value, read_literal}
 use Rattle.rule.specs.Seen.{mark_of, Marked}
-use Rattle.rule.specs.Steps.{ReadGives, meet_column, value_of, ValueGives, unary_of}
+use Rattle.rule.specs.Steps.{ReadGives, meet_column, value_of, ValueGives}
 use Rattle.rule.proofs.SeenLaws.{unlike_marks, seen_met}
 use Rattle.rule.proofs.StepLaws.{gives_refusal, gives_read, on_ok, on_refused, empty_drop, some_drop}
 
@@ -220,29 +220,3 @@ module _ (cols : List Column) (outer : List ℕ) (end : ℕ) {after : List ℕ} 
         (on_ok (value_of t b l) (λ x. ok (record { tree = literal t x; seen = cols; rest = drop end outer })) x gives
         (gives_read (record { tree = literal t x; seen = cols; rest = drop end outer }) _ refl refl
         (record { type_is = refl; null_is = is; behind = record { rest_is = refl; seen_are = s } }))))
-
--- a node of one child, by its tag
-module _ (tag : ℕ) (e : Expr) {child : DataType} (is : child ≡ type_of e) where
-  pub unary_not : {r : Bool} → tag ≡ 18 → r ≡ same_type child Boolean → r ≡ node_typed (unary_of tag e)
-  unfolding node_typed
-  unary_not h p = rw h (p ∙ ap (λ (t : DataType). same_type t Boolean) is)
-
-  pub unary_negative : {r : Bool} → tag ≡ 19 → r ≡ is_number child → r ≡ node_typed (unary_of tag e)
-  unfolding node_typed
-  unary_negative h p = rw h (p ∙ ap is_number is)
-
-  pub unary_any : (tag ≡ 18 → ⊥) → (tag ≡ 19 → ⊥) → true ≡ node_typed (unary_of tag e)
-  unfolding node_typed
-  unary_any p q = rw (ne_eqb _ _ p, ne_eqb _ _ q) refl
-
-  pub negative_type : tag ≡ 19 → child ≡ type_of (unary_of tag e)
-  unfolding type_of
-  negative_type h = rw h is
-
-pub boolean_type : (tag : ℕ) (e : Expr) → (tag ≡ 19 → ⊥) → Boolean ≡ type_of (unary_of tag e)
-unfolding type_of
-boolean_type tag e h = rw (ne_eqb _ _ h) (go (eqb tag 18))
-  where
-    go : (b : Bool) → Boolean ≡ type_of (cond b (negation e) (is_not_null e))
-    go true = refl
-    go false = refl

@@ -1,20 +1,21 @@
 -- The value of a literal out of its bytes. Assumes nothing.
+use Rattle.std.specs.Prelude.{unwrap_or}
 use mathlib.Core.Path.{◌≡◌, refl, ap, sym, subst, ◌∙◌}
 use mathlib.Core.Bool.{Bool, true, false, cond, ◌||◌}
 use mathlib.Core.List.{List}
-use Prim.Native.Nat.{ℕ, zero, suc, ◌+◌, ◌-◌, ◌^◌, ◌<◌, ◌≤◌}
+use Prim.Native.Nat.{ℕ, zero, suc, ◌+◌, ◌-◌, ◌^◌, ◌<◌}
 use native.Mathlib.Omega.{arith}
 use lib.Dec.{eqb, leb, ltb}
 use lib.ListN.{length, take, drop}
 use lib.Seq.{take_at}
-use borrow.Author.Tests.{ltb-true, le-leb, lt-leb, le-ltb, lt-ltb, eq-eqb, ne_eqb}
+use borrow.Author.Tests.{ltb-true, lt-leb, le-ltb}
 use Rattle.layout.specs.Bytes.{byte, number, number_at, number_bytes}
 use Rattle.layout.proofs.BytesLaws.{length_number_bytes, number_number_bytes}
 use Rattle.scalar.specs.declared.types.DataType.{DataType}
 use Rattle.scalar.specs.declared.types.DataType.TheVariants as Of
 use Rattle.scalar.specs.declared.value.Value.{Value}
 use Rattle.scalar.specs.declared.value.Value.TheVariants.{Null, RuleText}
-use Rattle.scalar.specs.Types.{type_number, type_numbered, mark_number}
+use Rattle.scalar.specs.Types.{type_number, type_numbered, mark_number, type_answer}
 use Rattle.scalar.specs.Entry.{Entry, null, boolean, int32, int64, float64, utf8, is_null, entry, of_type}
 use Rattle.scalar.specs.Value.{meaning, Storable, float_value}
 use Rattle.scalar.proofs.FloatLaws.{float_stores, float_means}
@@ -88,56 +89,20 @@ type_from_lem Of.Int64 = refl
 type_from_lem Of.Float64 = refl
 type_from_lem Of.Utf8 = refl
 
-pub type_numbered_lem : {n : ℕ} (t : DataType) → n ≡ type_number t → t ≡ type_from n
-type_numbered_lem t is = sym (ap type_from is ∙ type_from_lem t)
-
--- and of one that no other type has, Utf8
-abbrev NoOther : ℕ → Type 0
-NoOther n = (((Unit {0} × (n ≡ 1 → ⊥)) × (n ≡ 2 → ⊥)) × (n ≡ 3 → ⊥)) × (n ≡ 4 → ⊥)
-
-pub type_last : (n : ℕ) → NoOther n → Of.Utf8 ≡ type_from n
+-- a number that no type has gives Utf8
+pub type_or_text : (n : ℕ) → unwrap_or (type_answer (type_numbered 0 n)) Of.Utf8 ≡ type_from n
 unfolding type_from type_numbered
-type_last zero p = refl
-type_last (suc zero) p = absurd (p.0.0.0.1 refl)
-type_last (suc (suc zero)) p = absurd (p.0.0.1 refl)
-type_last (suc (suc (suc zero))) p = absurd (p.0.1 refl)
-type_last (suc (suc (suc (suc zero)))) p = absurd (p.1 refl)
-type_last (suc (suc (suc (suc (suc zero))))) p = refl
-type_last (suc (suc (suc (suc (suc (suc n)))))) p = refl
+type_or_text zero = refl
+type_or_text (suc zero) = refl
+type_or_text (suc (suc zero)) = refl
+type_or_text (suc (suc (suc zero))) = refl
+type_or_text (suc (suc (suc (suc zero)))) = refl
+type_or_text (suc (suc (suc (suc (suc zero))))) = refl
+type_or_text (suc (suc (suc (suc (suc (suc n)))))) = refl
 
 -- a number gives the type that has it
 pub numbered_gives : {n : ℕ} {r : DataType} → r ≡ type_from n → NumberedGives n r
 numbered_gives is t same = is ∙ ap type_from same ∙ type_from_lem t
-
--- the value of a literal, where its mark says null or behind the rule's end
-pub literal_behind : (rule : List ℕ) {start : ℕ} (end : ℕ) → length rule ≤ start → Null ≡ literal_at rule start end
-unfolding literal_at
-literal_behind rule {start} end none = rw (le-leb (length rule) start none)
-
-pub literal_null : (rule : List ℕ) (start end : ℕ) {mark : ℕ} → start < length rule → mark ≡ byte rule (start + 4) → mark ≡ 1 → Null ≡ literal_at rule start end
-unfolding literal_at
-literal_null rule start end room is one = rw (lt-leb (length rule) start room, eq-eqb (byte rule (start + 4)) 1 (sym is ∙ one))
-
--- and by its type where it doesn't
-module _ (rule : List ℕ) (start end : ℕ) {mark number : ℕ} (room : start < length rule) (marked : mark ≡ byte rule (start + 4)) (some : mark ≡ 1 → ⊥)
-    (typed : number ≡ byte rule (start + 3)) where
-  literal_by : (t : DataType) {r : Value} → type_from number ≡ t → r ≡ value_from rule (start + 5) end t → r ≡ literal_at rule start end
-  unfolding literal_at
-  literal_by t is told =
-      told ∙ sym (ap (λ (b : Bool). cond b Null (value_from rule (start + 5) end (type_from (byte rule (start + 3))))) marks ∙ ap (value_from rule (start + 5) end) (ap type_from (sym typed) ∙ is))
-    where
-      marks : (leb (length rule) start || eqb (byte rule (start + 4)) 1) ≡ false
-      marks = rw (lt-leb (length rule) start room, ne_eqb (byte rule (start + 4)) 1 (λ p. some (marked ∙ p)))
-
-  pub literal_told : (t : DataType) {r : Value} → number ≡ type_number t → r ≡ value_from rule (start + 5) end t → r ≡ literal_at rule start end
-  literal_told t is told = literal_by t (ap type_from is ∙ type_from_lem t) told
-
-  -- a text, and one whose end stands before it
-  pub literal_text : NoOther number → start + 5 ≤ end → RuleText (start + 5) (end - (start + 5)) ≡ literal_at rule start end
-  literal_text rest ordered = literal_by Of.Utf8 (sym (type_last number rest)) (rw (le-ltb end (start + 5) ordered))
-
-  pub literal_cut : NoOther number → end < start + 5 → Null ≡ literal_at rule start end
-  literal_cut rest cut = literal_by Of.Utf8 (sym (type_last number rest)) (rw (lt-ltb end (start + 5) cut))
 
 -- what a value out of its bytes means, and that it can be stored
 value_means : {rule : List ℕ} {at end : ℕ} {t : DataType} {v : Entry} → Valued t v → HeldAt rule at end (value_bytes v)

@@ -23,7 +23,7 @@ use Rattle.rule.specs.Walked.{type_at}
 use Rattle.rule.specs.ConstantWalks.{PassGives, ConstantGives}
 use Rattle.rule.specs.AnswerWalks.{any_nullable, StrippedGives, ReachableGives, NullableGives, AnyGives, CaseNullableGives, BranchesNullableGives, BranchNullableGives}
 use Rattle.rule.proofs.NodeLaws.{Tagged, of_column, of_literal, of_negation, of_negative, of_is_not_null, of_cast, of_try_cast, of_equal, of_less, of_case, node_byte, node_children, node_deep, node_deeper, trees_one, trees_none, trees_some, trees_deeper}
-use Rattle.rule.proofs.WalkLaws.{nothing_behind, node_of_tag, first_tree, first_two, base_flag}
+use Rattle.rule.proofs.WalkLaws.{nothing_behind, node_of_tag, one_of_two, first_tree, first_two, base_flag}
 use Rattle.rule.proofs.LiteralLaws.{mark_told}
 use Rattle.rule.proofs.TypeOfLaws.{type_gives}
 
@@ -61,26 +61,30 @@ module _ {rule : List ℕ} {start at : ℕ} (inv : StrippedLeft rule start at) w
         (g, node_deeper depth (omega arith) (trees_one trees), more ∙ same);
   }
 
+  pub stripped_plain : 18 ≤ byte rule at → byte rule at < 20 → StrippedLeft rule start (at + 3)
+  stripped_plain low high =
+      one_of_two (byte rule at) 18 low high (λ e. stripped_next 18 0 not_strips e (omega arith)) (λ e. stripped_next 19 0 negative_strips e (omega arith))
+
   -- nothing is left to strip
-  pub stripped_end : ((Unit {0} × (byte rule at ≡ 18 → ⊥)) × (byte rule at ≡ 19 → ⊥)) × (byte rule at ≡ 21 → ⊥) → StrippedGives rule start at
+  pub stripped_end : (byte rule at ≡ 18 → ⊥) → (byte rule at ≡ 19 → ⊥) → (byte rule at ≡ 21 → ⊥) → StrippedGives rule start at
   unfolding stripped
-  stripped_end rest = record {
+  stripped_end no_not no_negative no_cast = record {
     stand = λ end e depth n.
         let (f, k, same) = inv.stand end e depth n in
-        subst (λ (x : Expr). NodeAt rule at end x depth) (go (node_of_tag k refl) rest ∙ same) k;
+        subst (λ (x : Expr). NodeAt rule at end x depth) (go (node_of_tag k refl) no_not no_negative no_cast ∙ same) k;
   }
     where
-      go : {tag : ℕ} {f : Expr} → Tagged tag f → ((Unit {0} × (tag ≡ 18 → ⊥)) × (tag ≡ 19 → ⊥)) × (tag ≡ 21 → ⊥) → f ≡ stripped f
-      go (of_column c) p = refl
-      go (of_literal t v) p = refl
-      go (of_negation f) p = absurd (p.0.0.1 refl)
-      go (of_negative f) p = absurd (p.0.1 refl)
-      go (of_is_not_null f) p = refl
-      go (of_cast t f) p = absurd (p.1 refl)
-      go (of_try_cast t f) p = refl
-      go (of_equal a b) p = refl
-      go (of_less a b) p = refl
-      go (of_case b bs f) p = refl
+      go : {tag : ℕ} {f : Expr} → Tagged tag f → (tag ≡ 18 → ⊥) → (tag ≡ 19 → ⊥) → (tag ≡ 21 → ⊥) → f ≡ stripped f
+      go (of_column d) a b c = refl
+      go (of_literal t v) a b c = refl
+      go (of_negation f) a b c = absurd (a refl)
+      go (of_negative f) a b c = absurd (b refl)
+      go (of_is_not_null f) a b c = refl
+      go (of_cast t f) a b c = absurd (c refl)
+      go (of_try_cast t f) a b c = refl
+      go (of_equal x y) a b c = refl
+      go (of_less x y) a b c = refl
+      go (of_case x bs f) a b c = refl
 
   pub stripped_behind : length rule ≤ at → StrippedGives rule start at
   stripped_behind none = record { stand = λ end e depth n. let (f, k, same) = inv.stand end e depth n in absurd (let l = nothing_behind k in omega arith) }

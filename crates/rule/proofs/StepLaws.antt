@@ -1,14 +1,13 @@
 -- Steps of the reading beside their definitions. Assumes nothing.
-use Rattle.std.specs.Prelude.{Option, Some, None, ok_or, IsErrAnd, Result as RustResult, Ok, Err}
-use Rattle.std.proofs.lemmas.Result.{err_from_is_err_and}
+use Rattle.std.specs.Prelude.{Option, None, ok_or, IsErrAnd, Result as RustResult, Ok, Err}
 use mathlib.Core.Path.{◌≡◌, refl, ap, sym, subst, ◌∙◌}
 use mathlib.Core.Bool.{Bool, true, false, cond}
 use mathlib.Core.List.{List, [], ◌∷◌}
 use Prim.Native.Nat.{ℕ, zero, suc, ◌<◌, ◌≤◌}
 use native.Mathlib.Omega.{arith}
-use lib.Dec.{ltb}
+use lib.Dec.{eqb, ltb}
 use lib.ListN.{length, drop}
-use borrow.Author.Tests.{ltb-true, ltb-false}
+use borrow.Author.Tests.{eqb-true, eqb-false, ltb-true, ltb-false}
 use Rattle.layout.specs.declared.refusal.Refusal.{Refusal}
 use Rattle.layout.specs.declared.refusal.Refusal.TheVariants.{RuleContent, RuleTypes}
 use Rattle.layout.specs.Refusals.{refusal_numbered}
@@ -20,7 +19,6 @@ use Rattle.rule.specs.Tree.{Expr, is_null_literal}
 use Rattle.rule.specs.Typing.{type_of, node_typed}
 use Rattle.rule.specs.Constant.{is_empty}
 use Rattle.rule.specs.Reading.{Read, close_node}
-use Rattle.rule.specs.Seen.{Marked}
 use Rattle.rule.specs.Steps.{closed, Gives, Behind, ReadGives}
 
 ok_not_err : {A : Type 0} {e : Refusal} {x : A} → Ok x ≡ Err e → ⊥
@@ -73,13 +71,16 @@ pub gives_map : {A B C : Type 0} {first : C → A → Type 0} {good : C → B �
 gives_map (refused n) h g f = gives_refusal n refl (g.refuses n refl)
 gives_map (ok x) h g f = let (y, is, i) = g.reads x refl in gives_read (h x) y refl is (f y x i)
 
--- what the exit of a `?` returns
-pub passed_on : {B : Type 0} {e : Refusal} (r : RustResult B Refusal) → IsErrAnd r (λ d. d ≡ e) → r ≡ Err e
-passed_on r h = let p = err_from_is_err_and r h in p.1 ∙ ap Err p.2
-
--- and where a value was none
+-- where a value was none
 pub none_of : {A : Type 0} (e : Refusal) {d : Refusal} (o : Option A) → o ≡ None → Err d ≡ ok_or o e → d ≡ e
 none_of {A} e {d} o z is = let same : ◌≡◌ {A = RustResult A Refusal} (Err d) (Err e) = is ∙ ap (λ (p : Option A). ok_or p e) z in cc
+
+-- a length that is 0, and one that is not, by the test
+pub none_there : (n : ℕ) {empty : Bool} → empty ≡ eqb n 0 → empty ≡ true → n ≡ 0
+none_there n told is = eqb-true n 0 (sym told ∙ is)
+
+pub some_there : (n : ℕ) {empty : Bool} → empty ≡ eqb n 0 → empty ≡ false → n ≡ 0 → ⊥
+some_there n told is = eqb-false n 0 (sym told ∙ is)
 
 -- bytes left over
 pub empty_drop : (n : ℕ) (l : List ℕ) → length l ≤ n → is_empty (drop n l) ≡ true

@@ -2,14 +2,13 @@
 use mathlib.Core.Path.{◌≡◌, refl, ap, ap₂, sym, ◌∙◌}
 use mathlib.Core.Bool.{Bool, true, false, cond, not, ◌&&◌, ◌||◌, and_assoc}
 use mathlib.Core.List.{List, [], ◌∷◌, ◌++◌}
-use Prim.Native.Nat.{ℕ, zero, suc, ◌+◌, ◌-◌, ◌*◌, ◌%◌, ◌<◌, ◌≤◌}
+use Prim.Native.Nat.{ℕ, zero, suc, ◌+◌, ◌-◌, ◌%◌, ◌<◌, ◌≤◌}
 use native.Mathlib.Omega.{arith}
 use lib.Dec.{eqb, ltb}
 use lib.ListN.{length}
-use borrow.Author.Tests.{eq-eqb, ne_eqb, le-ltb, lt-ltb}
+use borrow.Author.Tests.{eq-eqb, ne_eqb}
 use Rattle.layout.specs.Bytes.{byte}
-use Rattle.scalar.specs.declared.types.DataType.{DataType}
-use Rattle.scalar.specs.Types.{type_number, same_type}
+use Rattle.scalar.specs.Types.{same_type}
 use Rattle.scalar.specs.Entry.{is_null}
 use Rattle.rule.specs.declared.strategy.Strategy.{Strategy}
 use Rattle.rule.specs.declared.strategy.Strategy.TheVariants.{NoExpression, WithExpression, InfallibleExprOrNull, ScalarOrScalar, ExpressionOrExpression, WithExprScalarLookupTable}
@@ -60,15 +59,6 @@ literal_at_lem n = sym (literal_tag (node_of_tag n refl))
 column_at : {rule : List ℕ} {at end depth : ℕ} {e : Expr} → NodeAt rule at end e depth → eqb (byte rule at) 16 ≡ is_column e
 column_at n = sym (column_tag (node_of_tag n refl))
 
--- a null literal, by its tag and mark
-pub null_other : (rule : List ℕ) (at : ℕ) {tag : ℕ} → tag ≡ byte rule at → (tag ≡ 17 → ⊥) → false ≡ null_there rule at
-unfolding null_there
-null_other rule at read is = rw (ne_eqb (byte rule at) 17 (λ p. is (read ∙ p)))
-
-pub null_mark : (rule : List ℕ) (at : ℕ) {tag mark : ℕ} → tag ≡ byte rule at → tag ≡ 17 → mark ≡ byte rule (at + 4) → eqb mark 1 ≡ null_there rule at
-unfolding null_there
-null_mark rule at read is marked = rw (eq-eqb (byte rule at) 17 (sym read ∙ is)) (ap (λ (x : ℕ). eqb x 1) marked)
-
 -- whatever node stands at the place
 null_at : {rule : List ℕ} {at end depth : ℕ} (e : Expr) → NodeAt rule at end e depth → null_there rule at ≡ is_null_literal e
 unfolding null_there
@@ -87,11 +77,11 @@ null_at {rule} {at} {end} {depth} e n = ap (λ (tag : ℕ). eqb tag 17 && eqb (b
     go (case_when b bs els) m = refl
 
 -- an ELSE that is there
-pub there_none : (rule : List ℕ) {at end : ℕ} → at ≡ end → false ≡ else_there rule at end
+there_none : (rule : List ℕ) {at end : ℕ} → at ≡ end → false ≡ else_there rule at end
 unfolding else_there
 there_none rule {at} {end} same = rw (eq-eqb at end same)
 
-pub there_some : (rule : List ℕ) {at end : ℕ} {null : Bool} → (at ≡ end → ⊥) → null ≡ null_there rule at → not null ≡ else_there rule at end
+there_some : (rule : List ℕ) {at end : ℕ} {null : Bool} → (at ≡ end → ⊥) → null ≡ null_there rule at → not null ≡ else_there rule at end
 unfolding else_there
 there_some rule {at} {end} differ is = rw (ne_eqb at end differ) (ap not is)
 
@@ -158,22 +148,6 @@ whens_at {rule = rule} {at = at} {end = end} {depth = depth} (branch w u bs) res
     let behind = (behind_gives refl).stand end (w ∷ u ∷ []) (branch_trees bs ++ rest) depth refl t in
     ap₂ (λ (a b : Bool). not a || b) (null_at w first) (whens_at {at = behind_fields rule at (length {A = Expr} (w ∷ u ∷ []))} bs rest behind)
 
--- whether an ELSE serves beside a THEN
-module _ (rule : List ℕ) (at end then : ℕ) {there : Bool} (is : there ≡ else_there rule at end) where
-  pub serves_none : there ≡ false → true ≡ else_serves_at rule at end then
-  unfolding else_serves_at
-  serves_none none = rw (sym is ∙ none)
-
-  pub serves_other : {tag : ℕ} → there ≡ true → tag ≡ byte rule at → (tag ≡ 17 → ⊥) → false ≡ else_serves_at rule at end then
-  unfolding else_serves_at
-  serves_other some read other = rw (sym is ∙ some, ne_eqb (byte rule at) 17 (λ p. other (read ∙ p)))
-
-  pub serves_literal : {tag x y : ℕ} {a b : DataType} → there ≡ true → tag ≡ byte rule at → tag ≡ 17 → a ≡ type_at rule at → x ≡ type_number a → b ≡ type_at rule then → y ≡ type_number b
-      → eqb x y ≡ else_serves_at rule at end then
-  unfolding else_serves_at
-  serves_literal some read one typed x-is typed_then y-is =
-      rw (sym is ∙ some, eq-eqb (byte rule at) 17 (sym read ∙ one)) (ap₂ eqb (x-is ∙ ap type_number typed) (y-is ∙ ap type_number typed_then))
-
 serves_at : {rule : List ℕ} {at end depth then m d : ℕ} (els : Optional) {t : Expr} → TreesAt rule at end (optional_trees els) depth → NodeAt rule then m t d
     → else_serves_at rule at end then ≡ else_serves (type_of t) (drop_null els)
 unfolding else_serves_at
@@ -187,28 +161,6 @@ serves_at {rule} {at} {end} {depth} {then} {m} {d} (present e) {t} trees n =
     go : (null : Bool) → (not (is_present (cond null absent (present e))) || (literal_there rule at && same_type (type_at rule at) (type_at rule then))) ≡ else_serves (type_of t) (cond null absent (present e))
     go true = refl
     go false = same
-
--- one branch, by the places of its THEN and behind it
-module _ (rule : List ℕ) (at end : ℕ) {then els tag : ℕ} {there : Bool} (e : then ≡ field_end rule at) (f : els ≡ field_end rule then) (theres : there ≡ else_there rule els end)
-    (read : tag ≡ byte rule then) where
-  single_told : {r : Strategy} → r ≡ single_by rule then els end → r ≡ single_at rule at end
-  unfolding single_at
-  single_told told = told ∙ ap₂ (λ (x y : ℕ). single_by rule x y end) e (f ∙ ap (field_end rule) e)
-
-  pub single_first : there ≡ true → (tag ≡ 17 → ⊥) → ExpressionOrExpression ≡ single_at rule at end
-  single_first is other = single_told (rw (sym theres ∙ is, ne_eqb (byte rule then) 17 (λ p. other (read ∙ p))))
-
-  pub single_second : {tag₂ : ℕ} → there ≡ true → tag ≡ 17 → tag₂ ≡ byte rule els → (tag₂ ≡ 17 → ⊥) → ExpressionOrExpression ≡ single_at rule at end
-  single_second is one read₂ other = single_told (rw (sym theres ∙ is, eq-eqb (byte rule then) 17 (sym read ∙ one), ne_eqb (byte rule els) 17 (λ p. other (read₂ ∙ p))))
-
-  pub single_scalar : {tag₂ : ℕ} → there ≡ true → tag ≡ 17 → tag₂ ≡ byte rule els → tag₂ ≡ 17 → ScalarOrScalar ≡ single_at rule at end
-  single_scalar is one read₂ two = single_told (rw (sym theres ∙ is, eq-eqb (byte rule then) 17 (sym read ∙ one), eq-eqb (byte rule els) 17 (sym read₂ ∙ two)))
-
-  pub single_column : there ≡ false → tag ≡ 16 → InfallibleExprOrNull ≡ single_at rule at end
-  single_column is one = single_told (rw (sym theres ∙ is, eq-eqb (byte rule then) 16 (sym read ∙ one)))
-
-  pub single_other : there ≡ false → (tag ≡ 16 → ⊥) → ExpressionOrExpression ≡ single_at rule at end
-  single_other is other = single_told (rw (sym theres ∙ is, ne_eqb (byte rule then) 16 (λ p. other (read ∙ p))))
 
 single_else : {rule : List ℕ} {then els end depth : ℕ} {t : Expr} (o : Optional) → NodeAt rule then els t depth → TreesAt rule els end (optional_trees o) depth
     → single_by rule then els end ≡ single_branch t (drop_null o)
@@ -238,34 +190,6 @@ unfolding all_literals
 literals_trees no_more = refl
 literals_trees (branch w t bs) = rw (literals_trees bs) (sym (and_assoc (is_literal w) (is_literal t) (all_literals bs)))
 
--- a lookup table
-module _ (rule : List ℕ) (at end : ℕ) {count : ℕ} where
-  pub table_few : count < 2 → false ≡ table_serves_at rule at end count
-  unfolding table_serves_at
-  table_few few = let k : count ≤ 1 = omega arith in rw (le-ltb 1 count k)
-
-  module _ {fields : ℕ} {literals : Bool} (size : fields ≡ 2 * count) (all : literals ≡ literals_there rule at fields) (many : 2 ≤ count) where
-    more : ltb 1 count ≡ true
-    more = lt-ltb 1 count (omega arith)
-
-    same : literals_there rule at (2 * count) ≡ literals
-    same = ap (literals_there rule at) (sym size) ∙ sym all
-
-    pub table_other : literals ≡ false → false ≡ table_serves_at rule at end count
-    unfolding table_serves_at
-    table_other is = rw (more, same ∙ is)
-
-    module _ {whens : Bool} (some : whens ≡ when_there rule at count) (alike : literals ≡ true) where
-      pub table_nulls : whens ≡ false → false ≡ table_serves_at rule at end count
-      unfolding table_serves_at
-      table_nulls is = rw (more, same ∙ alike, sym some ∙ is)
-
-      pub table_gives : {els then : ℕ} {r : Bool} → whens ≡ true → then ≡ field_end rule at → els ≡ behind_fields rule at fields → r ≡ else_serves_at rule els end then
-          → r ≡ table_serves_at rule at end count
-      unfolding table_serves_at
-      table_gives is ends behind serves =
-          rw (more, same ∙ alike, sym some ∙ is) (serves ∙ ap₂ (λ (x y : ℕ). else_serves_at rule x end y) (behind ∙ ap (behind_fields rule at) size) ends)
-
 and_four : (a : Bool) {b b' c c' d d' : Bool} → b ≡ b' → c ≡ c' → d ≡ d' → (a && b && c && d) ≡ (a && b' && c' && d')
 and_four a p q r = cc
 
@@ -283,7 +207,7 @@ table_at {rule} {at} {end} {depth} (branch w u bs) els t =
     (serves_at els ((behind_gives refl).stand end (branch_trees (branch w u bs)) (optional_trees els) depth size t) second)
 
 -- the strategy at a place: none where it is no CASE
-pub strategy_other : (rule : List ℕ) (start end : ℕ) {tag : ℕ} → tag ≡ byte rule start → (tag ≡ 25 → ⊥) → NoExpression ≡ strategy_at rule start end
+strategy_other : (rule : List ℕ) (start end : ℕ) {tag : ℕ} → tag ≡ byte rule start → (tag ≡ 25 → ⊥) → NoExpression ≡ strategy_at rule start end
 unfolding strategy_at
 strategy_other rule start end read is = rw (ne_eqb (byte rule start) 25 (λ p. is (read ∙ p)))
 
@@ -298,18 +222,6 @@ module _ (rule : List ℕ) (start end : ℕ) {tag flags count at : ℕ} (read : 
       (eq-eqb (byte rule start) 25 (sym read ∙ is))
       ∙ ap (λ (b : Bool). branches_at b rule (behind_fields rule (start + 5) (base_count rule start)) end (byte rule (start + 4))) (ap (λ (n : ℕ). eqb (n % 2) 1) (sym flag) ∙ told)
       ∙ ap₂ (λ (x n : ℕ). branches_at base rule x end n) (ap (λ (n : ℕ). behind_fields rule (start + 5) (n % 2)) (sym flag) ∙ sym behind) (sym counted))
-
-  pub strategy_table : {serves : Bool} → flags % 2 ≡ 1 → serves ≡ table_serves_at rule at end count → serves ≡ true → WithExprScalarLookupTable ≡ strategy_at rule start end
-  strategy_table one told some = strategy_by true (eq-eqb (flags % 2) 1 one) (rw (sym told ∙ some))
-
-  pub strategy_base : {serves : Bool} → flags % 2 ≡ 1 → serves ≡ table_serves_at rule at end count → serves ≡ false → WithExpression ≡ strategy_at rule start end
-  strategy_base one told none = strategy_by true (eq-eqb (flags % 2) 1 one) (rw (sym told ∙ none))
-
-  pub strategy_single : {r : Strategy} → (flags % 2 ≡ 1 → ⊥) → count ≡ 1 → r ≡ single_at rule at end → r ≡ strategy_at rule start end
-  strategy_single no-base one told = strategy_by false (ne_eqb (flags % 2) 1 no-base) (rw (eq-eqb count 1 one) told)
-
-  pub strategy_several : (flags % 2 ≡ 1 → ⊥) → (count ≡ 1 → ⊥) → NoExpression ≡ strategy_at rule start end
-  strategy_several no-base more = strategy_by false (ne_eqb (flags % 2) 1 no-base) (rw (ne_eqb count 1 more))
 
 -- at a CASE
 case_strategy : {rule : List ℕ} {at end depth : ℕ} (b : Optional) (bs : Branches) (els : Optional) → TreesAt rule at end (branch_trees bs ++ optional_trees els) depth

@@ -6,7 +6,7 @@ use Prim.Native.Nat.{ℕ, zero, suc, ◌+◌, ◌-◌, ◌%◌, ◌<◌, ◌≤�
 use native.Mathlib.Omega.{arith}
 use lib.Dec.{eqb, leb}
 use lib.ListN.{length, length-append, get_or-eq_default}
-use borrow.Author.Tests.{leb-true, leb-false, le-leb, lt-leb, ne_eqb}
+use borrow.Author.Tests.{leb-true, leb-false, lt-leb, ne_eqb}
 use Rattle.layout.specs.Bytes.{byte}
 use Rattle.scalar.specs.declared.types.DataType.{DataType}
 use Rattle.scalar.specs.declared.types.DataType.TheVariants.{Boolean}
@@ -19,13 +19,8 @@ use Rattle.rule.proofs.NodeLaws.{node_byte, node_tag_lem, node_children, trees_s
 use Rattle.rule.proofs.WalkLaws.{nothing_behind, behind_gives, base_flag}
 use Rattle.rule.proofs.LiteralLaws.{type_from_lem}
 
--- where the first THEN stands, behind the rule's end
-pub then_behind : (rule : List ℕ) {at : ℕ} → length rule ≤ at → at ≡ first_then rule at
-unfolding first_then
-then_behind rule {at} none = rw (le-leb (length rule) at none)
-
--- and by the flags
-pub then_told : (rule : List ℕ) (at : ℕ) {flags r : ℕ} → at < length rule → flags ≡ byte rule (at + 3) → r ≡ behind_fields rule (at + 5) (flags % 2 + 1) → r ≡ first_then rule at
+-- where the first THEN stands, by the flags
+then_told : (rule : List ℕ) (at : ℕ) {flags r : ℕ} → at < length rule → flags ≡ byte rule (at + 3) → r ≡ behind_fields rule (at + 5) (flags % 2 + 1) → r ≡ first_then rule at
 unfolding first_then
 then_told rule at room is told =
     told
@@ -106,13 +101,14 @@ pub type_another : (rule : List ℕ) (at tag : ℕ) {t : DataType} {next r : ℕ
     → type_at rule r ≡ t
 type_another rule at tag same is source told = ap (type_at rule) told ∙ sym (ap (type_by (type_at rule)) source) ∙ sym (type_tagged rule at is) ∙ same
 
-abbrev NoType : ℕ → Type 0
-NoType tag = (((((Unit {0} × (tag ≡ 16 → ⊥)) × (tag ≡ 17 → ⊥)) × (tag ≡ 19 → ⊥)) × (tag ≡ 21 → ⊥)) × (tag ≡ 22 → ⊥)) × (tag ≡ 25 → ⊥)
-
-pub type_boolean : (rule : List ℕ) (at : ℕ) {t : DataType} {tag : ℕ} → type_at rule at ≡ t → byte rule at ≡ tag → NoType tag → Boolean ≡ t
-type_boolean rule at {tag = tag} same is ((((((u, a), b), c), d), e), f) =
-    let none : source_by tag rule at ≡ itself Boolean = rw (ne_eqb tag 16 a, ne_eqb tag 17 b, ne_eqb tag 19 c, ne_eqb tag 21 d, ne_eqb tag 22 e, ne_eqb tag 25 f) in
-    sym (type_tagged rule at is ∙ ap (type_by (type_at rule)) none) ∙ same
+pub type_boolean : (rule : List ℕ) (at : ℕ) {t : DataType} → type_at rule at ≡ t → (byte rule at ≡ 16 → ⊥) → (byte rule at ≡ 17 → ⊥) → (byte rule at ≡ 19 → ⊥)
+    → (byte rule at ≡ 21 → ⊥) → (byte rule at ≡ 22 → ⊥) → (byte rule at ≡ 25 → ⊥) → Boolean ≡ t
+type_boolean rule at {t} same = go (byte rule at) refl
+  where
+    go : (tag : ℕ) → byte rule at ≡ tag → (tag ≡ 16 → ⊥) → (tag ≡ 17 → ⊥) → (tag ≡ 19 → ⊥) → (tag ≡ 21 → ⊥) → (tag ≡ 22 → ⊥) → (tag ≡ 25 → ⊥) → Boolean ≡ t
+    go tag is a b c d e f =
+        let none : source_by tag rule at ≡ itself Boolean = rw (ne_eqb tag 16 a, ne_eqb tag 17 b, ne_eqb tag 19 c, ne_eqb tag 21 d, ne_eqb tag 22 e, ne_eqb tag 25 f) in
+        sym (type_tagged rule at is ∙ ap (type_by (type_at rule)) none) ∙ same
 
 -- and behind the rule's end
 pub type_behind : (rule : List ℕ) {at : ℕ} {t : DataType} → type_at rule at ≡ t → length rule ≤ at → Boolean ≡ t

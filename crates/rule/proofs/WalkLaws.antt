@@ -4,9 +4,9 @@ use mathlib.Core.Bool.{Bool, true, false, cond}
 use mathlib.Core.List.{List, [], ◌∷◌, ◌++◌}
 use Prim.Native.Nat.{ℕ, zero, suc, ◌+◌, ◌*◌, ◌%◌, ◌<◌, ◌≤◌}
 use native.Mathlib.Omega.{arith}
-use lib.Dec.{leb}
+use lib.Dec.{eqb, leb}
 use lib.ListN.{length, drop, get_or-eq_default}
-use borrow.Author.Tests.{leb-true, leb-false, le-leb, lt-leb, ne_eqb}
+use borrow.Author.Tests.{eqb-true, eqb-false, leb-true, leb-false, le-leb, lt-leb}
 use Rattle.layout.specs.declared.field.FieldPlace.{FieldPlace}
 use Rattle.std.specs.Prelude.{Option, Some, None}
 use Rattle.layout.specs.Result.{Result, refused, ok}
@@ -47,18 +47,7 @@ tag_inside rule at read is = go (leb (length rule) at) refl
     go true p = let none : byte rule at ≡ 0 = get_or-eq_default rule 0 (leb-true _ _ p) in absurd (omega arith)
     go false p = leb-false _ _ p
 
--- the end of a field, behind the rule's end
-pub end_behind : (rule : List ℕ) {at : ℕ} → length rule ≤ at → at ≡ field_end rule at
-unfolding field_end
-end_behind rule {at} none = rw (le-leb (length rule) at none)
-
--- and by its header
-pub end_told : (rule : List ℕ) {at : ℕ} {h : Option FieldPlace} → at < length rule → header_at rule at ≡ h → header_end (length rule) h ≡ field_end rule at
-unfolding field_end
-end_told rule {at} room is =
-    sym (ap (λ (b : Bool). cond b at (header_end (length rule) (header_at rule at))) (lt-leb (length rule) at room) ∙ ap (header_end (length rule)) is)
-
--- it is that of whatever node stands there, and onward
+-- the end of a field is that of whatever node stands there, and onward
 pub end_gives : {rule : List ℕ} {at r : ℕ} → r ≡ field_end rule at → EndGives rule at r
 unfolding field_end
 end_gives {rule} {at} is = subst (EndGives rule at) (sym is) (go (leb (length rule) at) refl (header_at rule at) refl)
@@ -73,7 +62,7 @@ end_gives {rule} {at} is = subst (EndGives rule at) (sym is) (go (leb (length ru
         record { ends = λ end e depth n. absurd (node_not_cut n q); onward = omega arith; farther = λ k. k }
 
 -- where the children stand, behind the rule's end
-pub children_behind : (rule : List ℕ) {at : ℕ} → length rule ≤ at → at ≡ children_at rule at
+children_behind : (rule : List ℕ) {at : ℕ} → length rule ≤ at → at ≡ children_at rule at
 unfolding children_at
 children_behind rule {at} none = rw (le-leb (length rule) at none)
 
@@ -84,19 +73,15 @@ children_by rule {at} room is =
     ap (λ (b : Bool). cond b at (cond (leaf_tag (byte rule at)) (field_end rule at) (at + 3 + head_size (byte rule at)))) (lt-leb (length rule) at room)
     ∙ ap (λ (t : ℕ). cond (leaf_tag t) (field_end rule at) (at + 3 + head_size t)) is
 
-pub children_told : (rule : List ℕ) {at r : ℕ} (tag : ℕ) → at < length rule → byte rule at ≡ tag → r ≡ cond (leaf_tag tag) (field_end rule at) (at + 3 + head_size tag)
-    → r ≡ children_at rule at
-children_told rule tag room is told = told ∙ sym (children_by rule room is)
+-- a tag that is one of two
+pub one_of_two : {P : Type 0} (tag n : ℕ) → n ≤ tag → tag < n + 2 → (tag ≡ n → P) → (tag ≡ n + 1 → P) → P
+one_of_two {P} tag n low high first second = go (eqb tag n) refl
+  where
+    go : (b : Bool) → eqb tag n ≡ b → P
+    go true e = first (eqb-true tag n e)
+    go false e = second (let d = eqb-false tag n e in omega arith)
 
--- a tag that is none of those with bytes before the children
-abbrev Plain : ℕ → Type 0
-Plain tag = ((((Unit {0} × (tag ≡ 16 → ⊥)) × (tag ≡ 17 → ⊥)) × (tag ≡ 21 → ⊥)) × (tag ≡ 22 → ⊥)) × (tag ≡ 25 → ⊥)
-
-pub children_plain : (rule : List ℕ) {at tag : ℕ} → at < length rule → byte rule at ≡ tag → Plain tag → at + 3 ≡ children_at rule at
-children_plain rule {at} {tag} room is (((((u, a), b), c), d), e) =
-    children_told rule tag room is (rw (ne_eqb tag 16 a, ne_eqb tag 17 b, ne_eqb tag 21 c, ne_eqb tag 22 d, ne_eqb tag 25 e) (omega arith))
-
--- behind the bytes before them
+-- the children stand behind the bytes before them
 children_placed : {rule : List ℕ} {at end depth : ℕ} (e : Expr) → NodeAt rule at end e depth → children_at rule at ≡ at + 3 + length (head_bytes e)
 children_placed {rule} {at} {end} {depth} e n = children_by rule (nothing_behind n) (node_tag_lem n) ∙ go e n
   where

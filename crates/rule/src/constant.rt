@@ -3,6 +3,7 @@
 ghost use Rattle.rule.specs.ConstantWalks.{OneGives, TwoGives, PassGives, ConstantGives, WithinGives, CaseGives, BaseGives, ElseGives, BranchesGives, WithBaseGives};
 
 use crate::literal::literal_value;
+use crate::tag;
 use crate::type_of::{type_numbered, type_of};
 use crate::walk::{behind_fields, children_at, field_end};
 use layout::number::byte_at;
@@ -17,15 +18,31 @@ use scalar::try_cast::try_cast;
 use scalar::types::DataType;
 use scalar::value::{Value, kind};
 
+// A rule whose parts that equal the target's bytes are null.
+#[derive(Clone, Copy)]
+pub(crate) struct Masked<'a> {
+    pub(crate) rule: &'a [u8],
+    pub(crate) target: &'a [u8],
+}
+
+// The branches of a CASE: where they start, where ELSE behind them ends, how many they are, and the result's type.
+#[derive(Clone, Copy)]
+struct BranchesAt {
+    at: usize,
+    end: usize,
+    count: u8,
+    to: DataType,
+}
+
 // What NOT, negative, IS NOT NULL and the casts make of a value, by tag and type byte.
 fn one(tag: u8, number: u8, v: Value) -> Value
     ensures { OneGives tag number v result }
 {
     match tag {
-        18 => not_value(v),
-        19 => negative(v),
-        20 => is_not_null(v),
-        21 => cast(type_numbered(number), v),
+        tag::NOT => not_value(v),
+        tag::NEGATIVE => negative(v),
+        tag::IS_NOT_NULL => is_not_null(v),
+        tag::CAST => cast(type_numbered(number), v),
         _ => try_cast(type_numbered(number), v),
     }
 }
@@ -34,7 +51,7 @@ fn one(tag: u8, number: u8, v: Value) -> Value
 fn two(rule: &[u8], tag: u8, a: Value, b: Value) -> Value
     ensures { TwoGives rule.now tag a b result }
 {
-    if tag == 23 {
+    if tag == tag::EQUAL {
         equal(rule, rule, a, b)
     } else {
         less(rule, rule, a, b)
@@ -54,54 +71,54 @@ pub(crate) fn may_pass(v: Value) -> bool
 
 // A node; null where it equals the target.
 #[cycle(constant)]
-pub(crate) fn constant(rule: &[u8], start: usize, end: usize, target: &[u8], depth: usize) -> Value
-    ensures { ConstantGives rule.now start end target.now depth result }
+pub(crate) fn constant(masked: Masked, start: usize, end: usize, depth: usize) -> Value
+    ensures { ConstantGives masked.entry.rule.now start end masked.entry.target.now depth result }
 {
     if depth == 0 {
         return Value::Failed;
     }
-    let same = same_bytes(part_of(rule, start, end), target);
+    let same = same_bytes(part_of(masked.rule, start, end), masked.target);
     if same {
         return Value::Null;
     }
-    constant_node(rule, start, end, target, depth - 1)
+    constant_node(masked, start, end, depth - 1)
 }
 
 // A node that doesn't equal the target, by its tag.
 #[cycle(constant)]
-fn constant_node(rule: &[u8], start: usize, end: usize, target: &[u8], depth: usize) -> Value
-    ensures { WithinGives rule.now start end target.now depth result }
+fn constant_node(masked: Masked, start: usize, end: usize, depth: usize) -> Value
+    ensures { WithinGives masked.entry.rule.now start end masked.entry.target.now depth result }
 {
+    let rule = masked.rule;
     if rule.len() <= start {
         return Value::Failed;
     }
     let tag = rule[start];
-    if tag == 16 {
-        return Value::Failed;
-    }
-    if tag == 17 {
-        return literal_value(rule, start, end);
-    }
-    if tag == 25 {
-        return constant_case(rule, start, end, target, depth);
-    }
     let at = children_at(rule, start);
-    if tag < 23 {
-        let number = byte_at(rule, start + 3);
-        let v = constant(rule, at, end, target, depth);
-        return one(tag, number, v);
+    match tag {
+        tag::LITERAL => literal_value(rule, start, end),
+        tag::NOT | tag::NEGATIVE | tag::IS_NOT_NULL | tag::CAST | tag::TRY_CAST => {
+            let number = byte_at(rule, start + 3);
+            let v = constant(masked, at, end, depth);
+            one(tag, number, v)
+        }
+        tag::EQUAL | tag::LESS => {
+            let middle = field_end(rule, at);
+            let a = constant(masked, at, middle, depth);
+            let b = constant(masked, middle, end, depth);
+            two(rule, tag, a, b)
+        }
+        tag::CASE => constant_case(masked, start, end, depth),
+        _ => Value::Failed,
     }
-    let middle = field_end(rule, at);
-    let a = constant(rule, at, middle, target, depth);
-    let b = constant(rule, middle, end, target, depth);
-    two(rule, tag, a, b)
 }
 
 // A CASE: its base, true where there is none, and then the branches.
 #[cycle(constant)]
-fn constant_case(rule: &[u8], start: usize, end: usize, target: &[u8], depth: usize) -> Value
-    ensures { CaseGives rule.now start end target.now depth result }
+fn constant_case(masked: Masked, start: usize, end: usize, depth: usize) -> Value
+    ensures { CaseGives masked.entry.rule.now start end masked.entry.target.now depth result }
 {
+    let rule = masked.rule;
     if rule.len() <= start {
         return Value::Failed;
     }
@@ -109,94 +126,75 @@ fn constant_case(rule: &[u8], start: usize, end: usize, target: &[u8], depth: us
     let count = byte_at(rule, start + 4);
     let at = children_at(rule, start);
     let first = behind_fields(rule, at, (flags % 2) as usize);
-    let base = constant_base(rule, at, first, target, depth);
-    let to = type_of(rule, start);
-    constant_with(rule, first, end, count, base, to, target, depth)
+    let base = constant_base(masked, at, first, depth);
+    let branches = BranchesAt {
+        at: first,
+        end,
+        count,
+        to: type_of(rule, start),
+    };
+    constant_with(masked, branches, base, depth)
 }
 
 // A base; true where the place is empty.
 #[cycle(constant)]
-fn constant_base(rule: &[u8], at: usize, end: usize, target: &[u8], depth: usize) -> Value
-    ensures { BaseGives rule.now at end target.now depth result }
+fn constant_base(masked: Masked, at: usize, end: usize, depth: usize) -> Value
+    ensures { BaseGives masked.entry.rule.now at end masked.entry.target.now depth result }
 {
     if at == end {
         return Value::Boolean(true);
     }
-    constant(rule, at, end, target, depth)
+    constant(masked, at, end, depth)
 }
 
 // The branches by a base: one that failed fails, one that is null goes to ELSE.
 #[cycle(constant)]
-fn constant_with(
-    rule: &[u8],
-    at: usize,
-    end: usize,
-    count: u8,
-    base: Value,
-    to: DataType,
-    target: &[u8],
-    depth: usize,
-) -> Value
-    ensures { WithBaseGives rule.now at end count base to target.now depth result }
+fn constant_with(masked: Masked, branches: BranchesAt, base: Value, depth: usize) -> Value
+    ensures { WithBaseGives masked.entry.rule.now branches.at branches.end branches.count base branches.to masked.entry.target.now depth result }
 {
     let k = kind(base);
     if k == 7 {
         return Value::Failed;
     }
     if k == 0 {
-        let place = behind_fields(rule, at, 2 * (count as usize));
-        return constant_else(rule, place, end, to, target, depth);
+        let place = behind_fields(masked.rule, branches.at, 2 * (branches.count as usize));
+        return constant_else(masked, place, branches, depth);
     }
-    constant_branches(rule, at, end, count, base, to, target, depth)
+    constant_branches(masked, branches, base, depth)
 }
 
 // The THEN of the first branch whose WHEN equals the base, else ELSE.
 #[cycle(constant)]
-fn constant_branches(
-    rule: &[u8],
-    at: usize,
-    end: usize,
-    count: u8,
-    base: Value,
-    to: DataType,
-    target: &[u8],
-    depth: usize,
-) -> Value
-    ensures { BranchesGives rule.now at end count base to target.now depth result }
+fn constant_branches(masked: Masked, branches: BranchesAt, base: Value, depth: usize) -> Value
+    ensures { BranchesGives masked.entry.rule.now branches.at branches.end branches.count base branches.to masked.entry.target.now depth result }
 {
-    let mut place = at;
-    for _ in 0..count {
+    let rule = masked.rule;
+    let mut place = branches.at;
+    for _ in 0..branches.count {
         let then = field_end(rule, place);
         let next = field_end(rule, then);
-        let when = constant(rule, place, then, target, depth);
+        let when = constant(masked, place, then, depth);
         let test = equal(rule, rule, base, when);
         let passed = may_pass(test);
         if passed {
             if kind(test) == 7 {
                 return Value::Failed;
             }
-            return constant(rule, then, next, target, depth);
+            return constant(masked, then, next, depth);
         }
         place = next;
     }
-    constant_else(rule, place, end, to, target, depth)
+    constant_else(masked, place, branches, depth)
 }
 
-// ELSE, try-cast to the result's type; null where the place is empty.
+// ELSE behind the branches, try-cast to the result's type; null where the place is empty.
 #[cycle(constant)]
-fn constant_else(
-    rule: &[u8],
-    at: usize,
-    end: usize,
-    to: DataType,
-    target: &[u8],
-    depth: usize,
-) -> Value
-    ensures { ElseGives rule.now at end to target.now depth result }
+fn constant_else(masked: Masked, at: usize, branches: BranchesAt, depth: usize) -> Value
+    ensures { ElseGives masked.entry.rule.now at branches.end branches.to masked.entry.target.now depth result }
 {
-    if at == end {
+    if at == branches.end {
         return Value::Null;
     }
-    let v = constant(rule, at, end, target, depth);
-    try_cast(to, v)
+    let v = constant(masked, at, branches.end, depth);
+    try_cast(branches.to, v)
 }

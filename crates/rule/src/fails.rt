@@ -1,7 +1,9 @@
 // Whether a constant cast of a rule fails (refusal 8).
 ghost use Rattle.rule.specs.ConstantWalks.{ColumnGives, FailsHereGives, FailsGives};
 
-use crate::constant::constant;
+use crate::constant::{Masked, constant};
+use crate::limits::MOST_DEPTH;
+use crate::tag;
 use crate::walk::{children_at, field_end};
 use layout::part::part_of;
 use scalar::value::kind;
@@ -14,8 +16,9 @@ fn names_column(rule: &[u8], start: usize, end: usize) -> bool
         return false;
     }
     let mut at = start;
+    // Where the next node stands is read from this one, so no range fits.
     while at < end {
-        if rule[at] == 16 {
+        if rule[at] == tag::COLUMN {
             return true;
         }
         at = children_at(rule, at);
@@ -30,14 +33,18 @@ fn fails_here(rule: &[u8], start: usize) -> bool
     if rule.len() <= start {
         return false;
     }
-    if rule[start] != 21 {
+    if rule[start] != tag::CAST {
         return false;
     }
     let end = field_end(rule, start);
     if names_column(rule, start, end) {
         return false;
     }
-    let v = constant(rule, start, end, part_of(rule, 0, 0), 8);
+    let masked = Masked {
+        rule,
+        target: part_of(rule, 0, 0),
+    };
+    let v = constant(masked, start, end, MOST_DEPTH);
     kind(v) == 7
 }
 
@@ -46,6 +53,7 @@ pub(crate) fn constant_fails(rule: &[u8]) -> bool
     ensures { FailsGives rule.now result }
 {
     let mut at = 0;
+    // Where the next node stands is read from this one, so no range fits.
     while at < rule.len() {
         if fails_here(rule, at) {
             return true;

@@ -3,7 +3,7 @@ ghost use Rattle.std.specs.Prelude.{drop};
 ghost use Rattle.rule.specs.Reading.{read_column, read_literal};
 ghost use Rattle.rule.specs.Steps.{NodeGives, meet_column, value_of, ValueGives};
 
-use crate::node::FieldFound;
+use crate::node::{FieldFound, Node};
 use layout::number::byte_at;
 use layout::refusal::Refusal;
 use scalar::types::DataType;
@@ -24,10 +24,8 @@ pub(crate) fn meet_column(
     let new = data_type.number() + 8 * mark;
     let i = index as usize;
     let old = marks[i];
-    if old != 0 {
-        if old != new {
-            return Err(Refusal::RuleTypes);
-        }
+    if old != 0 && old != new {
+        return Err(Refusal::RuleTypes);
     }
     marks[i] = new;
     Ok(FieldFound {
@@ -38,14 +36,14 @@ pub(crate) fn meet_column(
 }
 
 // A column: index, type, nullable, a byte each.
-pub(crate) fn read_column(content: &[u8], end: usize, marks: &mut [u8; 256]) -> Result<FieldFound, Refusal>
-    ensures { NodeGives end marks.old (λ cols rest. read_column (record { tag = 16; content = content.now; rest = rest }) cols) result marks.new }
+pub(crate) fn read_column(node: Node, marks: &mut [u8; 256]) -> Result<FieldFound, Refusal>
+    ensures { NodeGives node.entry.end marks.old (λ cols rest. read_column (record { tag = 16; content = node.entry.content.now; rest = rest }) cols) result marks.new }
 {
-    if content.len() != 3 {
+    if node.content.len() != 3 {
         return Err(Refusal::RuleContent);
     }
-    let data_type = DataType::numbered(content[1]).ok_or(Refusal::RuleContent)?;
-    meet_column(content[0], data_type, content[2], end, marks)
+    let data_type = DataType::numbered(node.content[1]).ok_or(Refusal::RuleContent)?;
+    meet_column(node.content[0], data_type, node.content[2], node.end, marks)
 }
 
 // Whether the value of a literal is as its type and its null mark want it: none if null, a Boolean a byte 0 or 1, numbers 4 or 8 bytes, text any.
@@ -67,27 +65,26 @@ pub(crate) fn value_fits(data_type: DataType, mark: u8, content: &[u8]) -> bool
             byte_at(content, 2) < 2
         }
         DataType::Int32 => size == 6,
-        DataType::Int64 => size == 10,
-        DataType::Float64 => size == 10,
+        DataType::Int64 | DataType::Float64 => size == 10,
         DataType::Utf8 => true,
     }
 }
 
 // A literal: type, null mark, value.
-pub(crate) fn read_literal(content: &[u8], end: usize, marks: &mut [u8; 256]) -> Result<FieldFound, Refusal>
-    ensures { NodeGives end marks.old (λ cols rest. read_literal (record { tag = 17; content = content.now; rest = rest }) cols) result marks.new }
+pub(crate) fn read_literal(node: Node, marks: &mut [u8; 256]) -> Result<FieldFound, Refusal>
+    ensures { NodeGives node.entry.end marks.old (λ cols rest. read_literal (record { tag = 17; content = node.entry.content.now; rest = rest }) cols) result marks.new }
 {
-    if content.len() < 2 {
+    if node.content.len() < 2 {
         return Err(Refusal::RuleContent);
     }
-    let data_type = DataType::numbered(content[0]).ok_or(Refusal::RuleContent)?;
-    let mark = content[1];
-    if !value_fits(data_type, mark, content) {
+    let data_type = DataType::numbered(node.content[0]).ok_or(Refusal::RuleContent)?;
+    let mark = node.content[1];
+    if !value_fits(data_type, mark, node.content) {
         return Err(Refusal::RuleContent);
     }
     Ok(FieldFound {
         result: data_type,
         null: mark == 1,
-        next: end,
+        next: node.end,
     })
 }

@@ -5,6 +5,7 @@ pub mod answer;
 pub(crate) mod constant;
 pub(crate) mod fails;
 pub(crate) mod leaf;
+pub(crate) mod limits;
 pub mod literal;
 pub(crate) mod node;
 pub(crate) mod nullable;

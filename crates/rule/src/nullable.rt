@@ -4,7 +4,9 @@ ghost use Rattle.scalar.specs.Cast.{can_fail_to_fit};
 ghost use Rattle.rule.specs.Walked.{type_at};
 ghost use Rattle.rule.specs.AnswerWalks.{StrippedGives, ReachableGives, NullableGives, AnyGives, CaseNullableGives, BranchesNullableGives, BranchNullableGives, RuleNullableGives};
 
-use crate::constant::{constant, may_pass};
+use crate::constant::{Masked, constant, may_pass};
+use crate::limits::MOST_DEPTH;
+use crate::tag;
 use crate::type_of::type_of;
 use crate::walk::{behind_fields, children_at, field_end};
 use layout::number::byte_at;
@@ -16,20 +18,12 @@ fn stripped_at(rule: &[u8], start: usize) -> usize
     ensures { StrippedGives rule.now start result }
 {
     let mut at = start;
+    // Where the next node stands is read from this one, so no range fits.
     while at < rule.len() {
         match rule[at] {
-            18 => {
-                at += 3;
-            }
-            19 => {
-                at += 3;
-            }
-            21 => {
-                at += 4;
-            }
-            _ => {
-                return at;
-            }
+            tag::NOT | tag::NEGATIVE => at += 3,
+            tag::CAST => at += 4,
+            _ => return at,
         }
     }
     at
@@ -41,7 +35,8 @@ fn is_reachable(rule: &[u8], when: usize, then: usize, end: usize) -> bool
 {
     let at = stripped_at(rule, then);
     let target = part_of(rule, at, end);
-    may_pass(constant(rule, when, then, target, 8))
+    let masked = Masked { rule, target };
+    may_pass(constant(masked, when, then, MOST_DEPTH))
 }
 
 // Whether the try-cast of an ELSE to the type of its CASE, at `start`, can fail to fit.
@@ -63,11 +58,11 @@ fn nullable_node(rule: &[u8], start: usize, end: usize, depth: usize) -> bool
         return true;
     }
     match rule[start] {
-        16 => byte_at(rule, start + 5) == 1,
-        17 => byte_at(rule, start + 4) == 1,
-        20 => false,
-        22 => true,
-        25 => nullable_case(rule, start, end, depth - 1),
+        tag::COLUMN => byte_at(rule, start + 5) == 1,
+        tag::LITERAL => byte_at(rule, start + 4) == 1,
+        tag::IS_NOT_NULL => false,
+        tag::TRY_CAST => true,
+        tag::CASE => nullable_case(rule, start, end, depth - 1),
         _ => nullable_any(rule, children_at(rule, start), end, depth - 1),
     }
 }
@@ -81,6 +76,7 @@ fn nullable_any(rule: &[u8], start: usize, end: usize, depth: usize) -> bool
         return true;
     }
     let mut at = start;
+    // Where the next node stands is read from this one, so no range fits.
     while at < end {
         let next = field_end(rule, at);
         let null = nullable_node(rule, at, next, depth);
@@ -165,5 +161,5 @@ fn nullable_branch(
 pub(crate) fn nullable_of(rule: &[u8]) -> bool
     ensures { RuleNullableGives rule.now result }
 {
-    nullable_node(rule, 0, rule.len(), 8)
+    nullable_node(rule, 0, rule.len(), MOST_DEPTH)
 }

@@ -8,6 +8,7 @@ ghost use Rattle.rule.specs.Seen.{SeenIs};
 use crate::seen::Seen;
 
 // The columns that a rule names, each once, rising: the first `count` of `columns`.
+// Fixed memory: an index is a byte, so 256 places hold them all.
 #[derive(Clone, Copy, Debug, PartialEq, Eq)]
 pub struct Projection {
     pub count: usize,

@@ -6,13 +6,14 @@ ghost use Rattle.rule.specs.Steps.{TreeGives, RuleGives, RootGives, FieldGives, 
 
 use crate::fails::constant_fails;
 use crate::leaf::{read_column, read_literal};
+use crate::limits::{MOST_BRANCHES, MOST_BYTES, MOST_CASES, MOST_DEPTH, Nesting};
 use crate::node::{
-    BranchesRead, FieldFound, RuleFound, add_branch, case_fits, close, unary_fits, unary_type,
+    BranchesRead, FieldFound, Node, RuleFound, add_branch, case_fits, unary_fits, unary_type,
 };
 use crate::nullable::nullable_of;
 use crate::seen::Seen;
 use crate::tag;
-use crate::types::{is_listed, same_type};
+use crate::types::is_listed;
 use layout::field::field_at;
 use layout::part::part_of;
 use layout::refusal::Refusal;
@@ -26,172 +27,134 @@ pub struct RuleReading {
     pub seen: Seen,
 }
 
-// The field at a place of a slice; so much depth and so many CASEs are left on the path.
+// The field at a place of a slice; so much may still stand on the path.
 #[cycle(read)]
-fn read_field(s: &[u8], at: usize, depth: usize, cases: usize, marks: &mut [u8; 256]) -> Result<FieldFound, Refusal>
-    ensures { FieldGives s.now marks.old (read_field depth cases (drop at s.now)) result marks.new }
+fn read_field(
+    s: &[u8],
+    at: usize,
+    left: Nesting,
+    marks: &mut [u8; 256],
+) -> Result<FieldFound, Refusal>
+    ensures { FieldGives s.now marks.old (read_field left.depth left.cases (drop at s.now)) result marks.new }
 {
     let f = field_at(s, at).ok_or(Refusal::RuleCut)?;
     let tag = f.tag;
     if tag < tag::COLUMN || tag::CASE < tag {
         return Err(Refusal::RuleContent);
     }
-    if depth == 0 {
+    if left.depth == 0 {
         return Err(Refusal::RuleDepth);
     }
-    let content = part_of(s, f.start, f.end);
-    read_kind(content, tag, f.end, depth - 1, cases, marks)
+    let node = Node {
+        tag,
+        content: part_of(s, f.start, f.end),
+        end: f.end,
+    };
+    let below = Nesting {
+        depth: left.depth - 1,
+        ..left
+    };
+    read_kind(node, below, marks)
 }
 
-// A field of a tag from 16 to 25 by its content; it ends at a place of its parent.
+// A field by its tag.
 #[cycle(read)]
-fn read_kind(
-    content: &[u8],
-    tag: u8,
-    end: usize,
-    depth: usize,
-    cases: usize,
-    marks: &mut [u8; 256],
-) -> Result<FieldFound, Refusal>
-    ensures { NodeGives end marks.old (λ cols rest. read_tagged (read_field depth) cases (record { tag = tag; content = content.now; rest = rest }) cols) result marks.new }
+fn read_kind(node: Node, left: Nesting, marks: &mut [u8; 256]) -> Result<FieldFound, Refusal>
+    ensures { NodeGives node.entry.end marks.old (λ cols rest. read_tagged (read_field left.depth) left.cases (record { tag = node.entry.tag; content = node.entry.content.now; rest = rest }) cols) result marks.new }
 {
-    match tag {
-        tag::COLUMN => read_column(content, end, marks),
-        tag::LITERAL => read_literal(content, end, marks),
-        tag::NOT | tag::NEGATIVE | tag::IS_NOT_NULL => {
-            read_unary(content, tag, end, depth, cases, marks)
-        }
-        tag::CAST | tag::TRY_CAST => read_cast(content, tag, end, depth, cases, marks),
-        tag::EQUAL | tag::LESS => read_binary(content, tag, end, depth, cases, marks),
-        _ => read_case(content, end, depth, cases, marks),
+    match node.tag {
+        tag::COLUMN => read_column(node, marks),
+        tag::LITERAL => read_literal(node, marks),
+        tag::NOT | tag::NEGATIVE | tag::IS_NOT_NULL => read_unary(node, left, marks),
+        tag::CAST | tag::TRY_CAST => read_cast(node, left, marks),
+        tag::EQUAL | tag::LESS => read_binary(node, left, marks),
+        _ => read_case(node, left, marks),
     }
 }
 
 // NOT, negative or IS NOT NULL: one child.
 #[cycle(read)]
-fn read_unary(
-    content: &[u8],
-    tag: u8,
-    end: usize,
-    depth: usize,
-    cases: usize,
-    marks: &mut [u8; 256],
-) -> Result<FieldFound, Refusal>
-    ensures { NodeGives end marks.old (read_unary (unary_of tag) (read_field depth cases) content.now) result marks.new }
+fn read_unary(node: Node, left: Nesting, marks: &mut [u8; 256]) -> Result<FieldFound, Refusal>
+    ensures { NodeGives node.entry.end marks.old (read_unary (unary_of node.entry.tag) (read_field left.depth left.cases) node.entry.content.now) result marks.new }
 {
-    let a = read_field(content, 0, depth, cases, marks)?;
-    let child = a.result;
-    close(
+    let a = read_field(node.content, 0, left, marks)?;
+    node.close(
         a.next,
-        content.len(),
-        unary_fits(tag, child),
-        unary_type(tag, child),
-        end,
+        unary_fits(node.tag, a.result),
+        unary_type(node.tag, a.result),
     )
 }
 
 // Cast or try-cast: target type byte, one child.
 #[cycle(read)]
-fn read_cast(
-    content: &[u8],
-    tag: u8,
-    end: usize,
-    depth: usize,
-    cases: usize,
-    marks: &mut [u8; 256],
-) -> Result<FieldFound, Refusal>
-    ensures { NodeGives end marks.old (read_cast (cast_of tag) (read_field depth cases) content.now) result marks.new }
+fn read_cast(node: Node, left: Nesting, marks: &mut [u8; 256]) -> Result<FieldFound, Refusal>
+    ensures { NodeGives node.entry.end marks.old (read_cast (cast_of node.entry.tag) (read_field left.depth left.cases) node.entry.content.now) result marks.new }
 {
-    if content.len() == 0 {
+    if node.content.is_empty() {
         return Err(Refusal::RuleContent);
     }
-    let to = DataType::numbered(content[0]).ok_or(Refusal::RuleContent)?;
-    let a = read_field(content, 1, depth, cases, marks)?;
-    let from = a.result;
-    close(a.next, content.len(), is_listed(from, to), to, end)
+    let to = DataType::numbered(node.content[0]).ok_or(Refusal::RuleContent)?;
+    let a = read_field(node.content, 1, left, marks)?;
+    node.close(a.next, is_listed(a.result, to), to)
 }
 
 // Equal or less: two children.
 #[cycle(read)]
-fn read_binary(
-    content: &[u8],
-    tag: u8,
-    end: usize,
-    depth: usize,
-    cases: usize,
-    marks: &mut [u8; 256],
-) -> Result<FieldFound, Refusal>
-    ensures { NodeGives end marks.old (read_binary (binary_of tag) (read_field depth cases) content.now) result marks.new }
+fn read_binary(node: Node, left: Nesting, marks: &mut [u8; 256]) -> Result<FieldFound, Refusal>
+    ensures { NodeGives node.entry.end marks.old (read_binary (binary_of node.entry.tag) (read_field left.depth left.cases) node.entry.content.now) result marks.new }
 {
-    let a = read_field(content, 0, depth, cases, marks)?;
-    let b = read_field(content, a.next, depth, cases, marks)?;
-    let first = a.result;
-    let second = b.result;
-    close(
-        b.next,
-        content.len(),
-        same_type(first, second),
-        DataType::Boolean,
-        end,
-    )
+    let a = read_field(node.content, 0, left, marks)?;
+    let b = read_field(node.content, a.next, left, marks)?;
+    node.close(b.next, a.result == b.result, DataType::Boolean)
 }
 
 // CASE: flags and branch count, then its parts.
 #[cycle(read)]
-fn read_case(
-    content: &[u8],
-    end: usize,
-    depth: usize,
-    cases: usize,
-    marks: &mut [u8; 256],
-) -> Result<FieldFound, Refusal>
-    ensures { NodeGives end marks.old (read_limited_case (read_field depth) cases content.now) result marks.new }
+fn read_case(node: Node, left: Nesting, marks: &mut [u8; 256]) -> Result<FieldFound, Refusal>
+    ensures { NodeGives node.entry.end marks.old (read_limited_case (read_field left.depth) left.cases node.entry.content.now) result marks.new }
 {
-    if cases == 0 {
+    if left.cases == 0 {
         return Err(Refusal::RuleDepth);
     }
-    if content.len() < 2 {
+    if node.content.len() < 2 {
         return Err(Refusal::RuleContent);
     }
-    let flags = content[0];
-    let count = content[1];
+    let flags = node.content[0];
+    let count = node.content[1];
     if 3 < flags {
         return Err(Refusal::RuleContent);
     }
     if count == 0 {
         return Err(Refusal::CaseEmpty);
     }
-    if 32 < count {
+    if MOST_BRANCHES < count {
         return Err(Refusal::CaseBranches);
     }
-    read_parts(content, flags, count, end, depth, cases - 1, marks)
+    let below = Nesting {
+        cases: left.cases - 1,
+        ..left
+    };
+    read_parts(node, flags, count, below, marks)
 }
 
 // The parts of a CASE: base, WHEN and THEN in turn, ELSE.
 #[cycle(read)]
 fn read_parts(
-    content: &[u8],
+    node: Node,
     flags: u8,
     count: u8,
-    end: usize,
-    depth: usize,
-    cases: usize,
+    left: Nesting,
     marks: &mut [u8; 256],
 ) -> Result<FieldFound, Refusal>
-    ensures { NodeGives end marks.old (read_parts (read_field depth cases) flags count (drop 2 content.now)) result marks.new }
+    ensures { NodeGives node.entry.end marks.old (read_parts (read_field left.depth left.cases) flags count (drop 2 node.entry.content.now)) result marks.new }
 {
-    let b = read_optional(content, 2, flags % 2 == 1, depth, cases, marks)?;
-    let when = b.result;
-    let bs = read_branches(content, b.next, count, when, None, depth, cases, marks)?;
-    let e = read_optional(content, bs.next, 2 <= flags, depth, cases, marks)?;
-    let from = e.result;
-    let result = bs.result;
-    close(
+    let b = read_optional(node.content, 2, flags % 2 == 1, left, marks)?;
+    let bs = read_branches(node.content, b.next, count, b.result, None, left, marks)?;
+    let e = read_optional(node.content, bs.next, 2 <= flags, left, marks)?;
+    node.close(
         e.next,
-        content.len(),
-        case_fits(bs.fits, e.null, from, result),
-        result,
-        end,
+        case_fits(bs.fits, e.null, e.result, bs.result),
+        bs.result,
     )
 }
 
@@ -201,14 +164,13 @@ fn read_optional(
     s: &[u8],
     at: usize,
     there: bool,
-    depth: usize,
-    cases: usize,
+    left: Nesting,
     marks: &mut [u8; 256],
 ) -> Result<FieldFound, Refusal>
-    ensures { OptionalGives s.now marks.old (read_optional there (read_field depth cases) (drop at s.now)) result marks.new }
+    ensures { OptionalGives s.now marks.old (read_optional there (read_field left.depth left.cases) (drop at s.now)) result marks.new }
 {
     if there {
-        return read_field(s, at, depth, cases, marks);
+        return read_field(s, at, left, marks);
     }
     Ok(FieldFound {
         result: DataType::Boolean,
@@ -225,11 +187,10 @@ fn read_branches(
     count: u8,
     when: DataType,
     earlier: Option<DataType>,
-    depth: usize,
-    cases: usize,
+    left: Nesting,
     marks: &mut [u8; 256],
 ) -> Result<BranchesRead, Refusal>
-    ensures { BranchesGive s.now marks.old when earlier (read_branches (read_field depth cases) count (drop at s.now)) result marks.new }
+    ensures { BranchesGive s.now marks.old when earlier (read_branches (read_field left.depth left.cases) count (drop at s.now)) result marks.new }
 {
     if count == 0 {
         return Ok(BranchesRead {
@@ -238,8 +199,8 @@ fn read_branches(
             next: at,
         });
     }
-    let w = read_field(s, at, depth, cases, marks)?;
-    read_then(s, w, count - 1, when, earlier, depth, cases, marks)
+    let w = read_field(s, at, left, marks)?;
+    read_then(s, w, count - 1, when, earlier, left, marks)
 }
 
 // A branch behind its WHEN, and so many later ones.
@@ -250,18 +211,15 @@ fn read_then(
     count: u8,
     when: DataType,
     earlier: Option<DataType>,
-    depth: usize,
-    cases: usize,
+    left: Nesting,
     marks: &mut [u8; 256],
 ) -> Result<BranchesRead, Refusal>
-    ensures { BranchGives s.now w marks.old when earlier (λ x. read_then (read_field depth cases) x.tree count x.rest x.seen) result marks.new }
+    ensures { BranchGives s.now w marks.old when earlier (λ x. read_then (read_field left.depth left.cases) x.tree count x.rest x.seen) result marks.new }
 {
-    let t = read_field(s, w.next, depth, cases, marks)?;
-    let own = t.result;
-    let result = earlier.unwrap_or(own);
-    let later = read_branches(s, t.next, count, when, Some(result), depth, cases, marks)?;
-    let tested = w.result;
-    Ok(add_branch(tested, when, own, later))
+    let t = read_field(s, w.next, left, marks)?;
+    let result = earlier.unwrap_or(t.result);
+    let later = read_branches(s, t.next, count, when, Some(result), left, marks)?;
+    Ok(add_branch(w.result, when, t.result, later))
 }
 
 // The root of a rule: a CASE.
@@ -272,17 +230,18 @@ fn read_root(rule: &[u8], marks: &mut [u8; 256]) -> Result<FieldFound, Refusal>
     if f.tag != tag::CASE {
         return Err(Refusal::RuleContent);
     }
-    read_field(rule, 0, 8, 3, marks)
+    let left = Nesting {
+        depth: MOST_DEPTH,
+        cases: MOST_CASES,
+    };
+    read_field(rule, 0, left, marks)
 }
 
 // A rule but for its constant casts: one CASE field of at most 4,096 bytes, with no byte after it.
 fn read_tree(rule: &[u8]) -> Result<RuleFound, Refusal>
     ensures { TreeGives (read_tree rule.now) result }
 {
-    if rule.len() == 0 {
-        return Err(Refusal::RuleSize);
-    }
-    if 4096 < rule.len() {
+    if rule.is_empty() || MOST_BYTES < rule.len() {
         return Err(Refusal::RuleSize);
     }
     let mut marks = [0u8; 256];
@@ -290,9 +249,10 @@ fn read_tree(rule: &[u8]) -> Result<RuleFound, Refusal>
     if r.next < rule.len() {
         return Err(Refusal::RuleContent);
     }
-    let result = r.result;
-    let seen = Seen { marks };
-    Ok(RuleFound { result, seen })
+    Ok(RuleFound {
+        result: r.result,
+        seen: Seen { marks },
+    })
 }
 
 // A rule: its tree, and that no constant cast fails.
@@ -311,11 +271,9 @@ pub fn read_rule(rule: &[u8]) -> Result<RuleReading, Refusal>
     ensures { result ≡ rule_reading (read_rule rule.now) }
 {
     let r = read_accepted(rule)?;
-    let result = r.result;
-    let seen = r.seen;
     Ok(RuleReading {
-        result,
+        result: r.result,
         nullable: nullable_of(rule),
-        seen,
+        seen: r.seen,
     })
 }

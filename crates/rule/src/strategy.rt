@@ -1,12 +1,14 @@
 // How a CASE is evaluated, named as in the Rust.
 ghost use Rattle.std.specs.Prelude.{◌≡◌};
+ghost use Rattle.rule.specs.Strategy.{strategy_number};
 ghost use Rattle.rule.specs.WalkedStrategy.{null_there, else_there, literals_there, when_there, else_serves_at, table_serves_at, single_at, strategy_at};
 
+use crate::tag;
 use crate::type_of::type_of;
 use crate::walk::{behind_fields, field_end};
 use layout::number::byte_at;
 
-#[derive(Clone, Copy)]
+#[derive(Clone, Copy, Debug, PartialEq, Eq)]
 pub enum Strategy {
     NoExpression,
     WithExpression,
@@ -16,24 +18,36 @@ pub enum Strategy {
     WithExprScalarLookupTable,
 }
 
+impl Strategy {
+    // The number of a strategy.
+    pub fn number(self) -> u8
+        ensures { result ≡ strategy_number self }
+    {
+        match self {
+            Strategy::NoExpression => 1,
+            Strategy::WithExpression => 2,
+            Strategy::InfallibleExprOrNull => 3,
+            Strategy::ScalarOrScalar => 4,
+            Strategy::ExpressionOrExpression => 5,
+            Strategy::WithExprScalarLookupTable => 6,
+        }
+    }
+}
+
 // Whether the node at a place is a null literal.
+#[tactic(auto, unfolding(crate::specs::WalkedStrategy::null_there))]
 fn is_null_literal(rule: &[u8], at: usize) -> bool
     ensures { result ≡ null_there rule.now at }
 {
-    if byte_at(rule, at) != 17 {
-        return false;
-    }
-    byte_at(rule, at + 4) == 1
+    byte_at(rule, at) == tag::LITERAL && byte_at(rule, at + 4) == 1
 }
 
 // Whether an ELSE is there that is no null literal.
+#[tactic(auto, unfolding(crate::specs::WalkedStrategy::else_there))]
 fn else_there(rule: &[u8], at: usize, end: usize) -> bool
     ensures { result ≡ else_there rule.now at end }
 {
-    if at == end {
-        return false;
-    }
-    !is_null_literal(rule, at)
+    at != end && !is_null_literal(rule, at)
 }
 
 // Whether so many fields are all literals.
@@ -42,7 +56,7 @@ fn all_literals(rule: &[u8], at: usize, count: usize) -> bool
 {
     let mut place = at;
     for _ in 0..count {
-        if byte_at(rule, place) != 17 {
+        if byte_at(rule, place) != tag::LITERAL {
             return false;
         }
         place = field_end(rule, place);
@@ -66,41 +80,33 @@ fn some_when(rule: &[u8], at: usize, count: u8) -> bool
 }
 
 // Whether ELSE is absent, or a literal of the type of a THEN.
+#[tactic(auto, unfolding(crate::specs::WalkedStrategy::else_serves_at))]
 fn else_serves(rule: &[u8], at: usize, end: usize, then: usize) -> bool
     ensures { result ≡ else_serves_at rule.now at end then }
 {
-    let there = else_there(rule, at, end);
-    if !there {
-        return true;
-    }
-    if byte_at(rule, at) != 17 {
-        return false;
-    }
-    type_of(rule, at).number() == type_of(rule, then).number()
+    !else_there(rule, at, end)
+        || byte_at(rule, at) == tag::LITERAL && type_of(rule, at) == type_of(rule, then)
 }
 
 // Whether a lookup table serves: at least two branches, all literals, some WHEN not null, and an ELSE that serves.
+#[tactic(auto, unfolding(crate::specs::WalkedStrategy::table_serves_at))]
 fn table_serves(rule: &[u8], at: usize, end: usize, count: u8) -> bool
     ensures { result ≡ table_serves_at rule.now at end count }
 {
-    if count < 2 {
-        return false;
-    }
     let fields = 2 * (count as usize);
-    let literals = all_literals(rule, at, fields);
-    if !literals {
-        return false;
-    }
-    let some = some_when(rule, at, count);
-    if !some {
-        return false;
-    }
-    let then = field_end(rule, at);
-    let els = behind_fields(rule, at, fields);
-    else_serves(rule, els, end, then)
+    1 < count
+        && all_literals(rule, at, fields)
+        && some_when(rule, at, count)
+        && else_serves(
+            rule,
+            behind_fields(rule, at, fields),
+            end,
+            field_end(rule, at),
+        )
 }
 
 // One branch without a base: THEN a column and no ELSE, THEN and ELSE literals, or any other.
+#[tactic(auto, unfolding(crate::specs::WalkedStrategy::single_at))]
 fn single_branch(rule: &[u8], at: usize, end: usize) -> Strategy
     ensures { result ≡ single_at rule.now at end }
 {
@@ -109,25 +115,26 @@ fn single_branch(rule: &[u8], at: usize, end: usize) -> Strategy
     let tag = byte_at(rule, then);
     let there = else_there(rule, els, end);
     if there {
-        if tag != 17 {
+        if tag != tag::LITERAL {
             return Strategy::ExpressionOrExpression;
         }
-        if byte_at(rule, els) != 17 {
+        if byte_at(rule, els) != tag::LITERAL {
             return Strategy::ExpressionOrExpression;
         }
         return Strategy::ScalarOrScalar;
     }
-    if tag != 16 {
+    if tag != tag::COLUMN {
         return Strategy::ExpressionOrExpression;
     }
     Strategy::InfallibleExprOrNull
 }
 
 // The strategy of the CASE at a place; where none stands, that of no expression.
+#[tactic(auto, unfolding(crate::specs::WalkedStrategy::strategy_at))]
 pub fn strategy_at(rule: &[u8], start: usize, end: usize) -> Strategy
     ensures { result ≡ strategy_at rule.now start end }
 {
-    if byte_at(rule, start) != 25 {
+    if byte_at(rule, start) != tag::CASE {
         return Strategy::NoExpression;
     }
     let base = byte_at(rule, start + 3) % 2;

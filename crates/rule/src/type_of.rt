@@ -2,6 +2,7 @@
 ghost use Rattle.std.specs.Prelude.{◌≡◌};
 ghost use Rattle.rule.specs.Walked.{type_from, first_then, type_at};
 
+use crate::tag;
 use crate::walk::behind_fields;
 use layout::number::byte_at;
 use scalar::types::DataType;
@@ -10,16 +11,11 @@ use scalar::types::DataType;
 pub fn type_numbered(n: u8) -> DataType
     ensures { result ≡ type_from n }
 {
-    match n {
-        1 => DataType::Boolean,
-        2 => DataType::Int32,
-        3 => DataType::Int64,
-        4 => DataType::Float64,
-        _ => DataType::Utf8,
-    }
+    DataType::numbered(n).unwrap_or(DataType::Utf8)
 }
 
 // Where the first THEN of the CASE at a place stands: behind the base, if there is one, and a WHEN.
+#[tactic(auto, unfolding(crate::specs::Walked::first_then))]
 fn first_then(rule: &[u8], at: usize) -> usize
     ensures { result ≡ first_then rule.now at }
 {
@@ -35,29 +31,16 @@ pub fn type_of(rule: &[u8], start: usize) -> DataType
     ensures { result ≡ type_at rule.now start }
 {
     let mut at = start;
+    // Where the next node stands is read from this one, so no range fits.
     while at < rule.len() {
         match rule[at] {
-            16 => {
-                return type_numbered(byte_at(rule, at + 4));
-            }
-            17 => {
+            tag::COLUMN => return type_numbered(byte_at(rule, at + 4)),
+            tag::LITERAL | tag::CAST | tag::TRY_CAST => {
                 return type_numbered(byte_at(rule, at + 3));
             }
-            19 => {
-                at += 3;
-            }
-            21 => {
-                return type_numbered(byte_at(rule, at + 3));
-            }
-            22 => {
-                return type_numbered(byte_at(rule, at + 3));
-            }
-            25 => {
-                at = first_then(rule, at);
-            }
-            _ => {
-                return DataType::Boolean;
-            }
+            tag::NEGATIVE => at += 3,
+            tag::CASE => at = first_then(rule, at),
+            _ => return DataType::Boolean,
         }
     }
     DataType::Boolean

@@ -2,9 +2,11 @@
 ghost use Rattle.std.specs.Prelude.{◌≡◌};
 ghost use Rattle.rule.specs.Walked.{field_end, children_at, behind_fields};
 
+use crate::tag;
 use layout::field::field_at;
 
 // Where the field at a place ends.
+#[tactic(auto, unfolding(crate::specs::Walked::field_end))]
 pub fn field_end(rule: &[u8], at: usize) -> usize
     ensures { result ≡ field_end rule.now at }
 {
@@ -18,6 +20,7 @@ pub fn field_end(rule: &[u8], at: usize) -> usize
 }
 
 // Where a node's children stand: behind its header, a type byte of a cast, flags and count of a CASE; a leaf has none.
+#[tactic(auto, unfolding(crate::specs::Walked::children_at))]
 pub fn children_at(rule: &[u8], at: usize) -> usize
     ensures { result ≡ children_at rule.now at }
 {
@@ -25,11 +28,9 @@ pub fn children_at(rule: &[u8], at: usize) -> usize
         return at;
     }
     match rule[at] {
-        16 => field_end(rule, at),
-        17 => field_end(rule, at),
-        21 => at + 4,
-        22 => at + 4,
-        25 => at + 5,
+        tag::COLUMN | tag::LITERAL => field_end(rule, at),
+        tag::CAST | tag::TRY_CAST => at + 4,
+        tag::CASE => at + 5,
         _ => at + 3,
     }
 }

@@ -6,16 +6,20 @@ mod answers;
 mod record;
 
 use files::{argument, argument_count, fail, large_buffer, open, path_buffer, read_full};
-use record::{Compared, compare};
+use record::{Differs, compare};
 use std::io;
 use std::rt::{Env, Files};
 
 // How many rules of a file agree, or the number, from 1, of the first that doesn't.
-fn print_compared(rt: &impl Print, path: &[u8], c: Compared) -> io::Result<()> {
+fn print_compared(
+    rt: &impl Print,
+    path: &[u8],
+    compared: Result<usize, Differs>,
+) -> io::Result<()> {
     rt.write_all(path)?;
-    match c {
-        Compared::Agree(count) => println!(rt; ": {count} rules agree"),
-        Compared::Differs(number) => println!(rt; ": the first that differs is {number}"),
+    match compared {
+        Ok(count) => println!(rt; ": {count} rules agree"),
+        Err(Differs(number)) => println!(rt; ": the first that differs is {number}"),
     }
 }
 

@@ -5,12 +5,9 @@ use crate::answers::{FACTS, rule_agrees};
 use layout::number::{byte_at, read_u16};
 use layout::part::part_of;
 
-// How many rules agree, or the number, from 1, of the first that doesn't.
-#[derive(Drop)]
-pub(crate) enum Compared {
-    Agree(usize),
-    Differs(usize),
-}
+// The number, from 1, of the first rule that doesn't agree.
+#[derive(Clone, Copy, Debug, PartialEq, Eq)]
+pub(crate) struct Differs(pub(crate) usize);
 
 // The bytes before the rule.
 const HEAD: usize = 2;
@@ -30,21 +27,21 @@ fn record_agrees(s: &[u8]) -> bool {
     rule_agrees(part_of(s, HEAD, from), part_of(s, from, s.len()))
 }
 
-// Compares the records of a file; one that is cut off doesn't agree.
-pub(crate) fn compare(s: &[u8]) -> Compared {
+// Compares the records of a file: how many rules agree. One that is cut off doesn't.
+pub(crate) fn compare(s: &[u8]) -> Result<usize, Differs> {
     let mut at = 0;
     let mut count = 0;
     while at < s.len() {
         let size = record_size(&s[at..]);
         if s.len() - at < size {
-            return Compared::Differs(count + 1);
+            return Err(Differs(count + 1));
         }
         let next = at + size;
         if !record_agrees(&s[at..next]) {
-            return Compared::Differs(count + 1);
+            return Err(Differs(count + 1));
         }
         at = next;
         count += 1;
     }
-    Compared::Agree(count)
+    Ok(count)
 }

@@ -22,7 +22,7 @@ use Rattle.table.specs.Column.{TableColumn}
 use Rattle.table.specs.Reading.{Part, tagged, tagged_pair, read_count, read_validity, read_offsets, values_length, read_values, read_body, read_parts, count_right, read_alone}
 use Rattle.table.specs.Places.{place_from, values_end, validity_start, alone_answer}
 use Rattle.table.specs.Parts.{column_from, head_answer, place_count_right}
-use Rattle.table.proofs.AnswerLaws.{answered_refused}
+use Rattle.layout.proofs.AnswerLaws.{answered_refused}
 use Rattle.table.proofs.StandLaws.{column_stands}
 use Rattle.table.proofs.ColumnLaws.{found, right_is}
 use Rattle.table.proofs.TableTyped.{number_at_below, pair_bytes, count_rest, validity_rest, offsets_rest}

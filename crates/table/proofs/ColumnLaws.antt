@@ -26,7 +26,7 @@ use Rattle.table.specs.Column.{TableColumn, null_count}
 use Rattle.table.specs.Reading.{Part, tagged, tagged_pair, read_count, read_validity, read_offsets, read_body, read_values, values_length, read_parts, no_null, count_says, count_right, read_column}
 use Rattle.table.specs.Places.{offsets_start, is_counted, count_size}
 use Rattle.table.specs.Parts.{FieldGives, PartGives, count_at, CountGives, column_from, head_answer, place_nulls_fit, place_count_right, end_answer, values_of_length}
-use Rattle.table.proofs.AnswerLaws.{answered_ok, answered_refused, number_refused}
+use Rattle.layout.proofs.AnswerLaws.{answered_ok, answered_refused, number_refused}
 use Rattle.table.proofs.PartsLaws.{behind_refused, behind_field}
 use Rattle.table.proofs.StandLaws.{stands_at, pair_stands, tagged_stands, CountStands, validity_stands, offsets_stand, values_stand, column_stands}
 use Rattle.table.proofs.NullLaws.{no_null_count}

@@ -33,7 +33,7 @@ use Rattle.table.specs.Answers.{table_refused, has, no_row, entry_of_column, ent
 use Rattle.table.specs.Places.{column_in, table_in, no_place, table_from, table_answer_from, table_answer}
 use Rattle.table.specs.Parts.{ValueGives}
 use Rattle.table.proofs.TableTyped.{number_at_below}
-use Rattle.table.proofs.AnswerLaws.{answered_ok, answered_err}
+use Rattle.layout.proofs.AnswerLaws.{answered_ok, answered_err}
 use Rattle.table.proofs.RefusalLaws.{table_number}
 use Rattle.table.proofs.StandLaws.{table_read}
 

@@ -13,5 +13,4 @@ pub mod WholeBytes
 pub mod PlaceLaws
 pub mod EntryLaws
 pub mod RefusalLaws
-pub mod AnswerLaws
 pub mod CountExamples

@@ -18,7 +18,7 @@ use Rattle.table.specs.Column.{TableColumn, valid_in, null_count}
 use Rattle.table.specs.Reading.{no_null, Table, read_table}
 use Rattle.table.specs.Places.{no_place, column_end, places_from, table_from, table_answer, null_count_in}
 use Rattle.table.specs.Answers.{null_count_of_column, null_count_of}
-use Rattle.table.proofs.AnswerLaws.{answered_ok, answered_err}
+use Rattle.layout.proofs.AnswerLaws.{answered_ok, answered_err}
 use Rattle.table.proofs.StandLaws.{length_places}
 
 -- a validity that isn't empty says it by its bits

@@ -22,7 +22,7 @@ use Rattle.table.specs.Column.{TableColumn}
 use Rattle.table.specs.Reading.{Part, tagged_pair, read_column, read_columns, Table, read_table}
 use Rattle.table.specs.Places.{no_place, place_from, column_end, places_from, places_in16, table_from, table_answer_from, table_answer}
 use Rattle.table.specs.Parts.{FieldGives, column_from, head_answer, one_more, columns_step}
-use Rattle.table.proofs.AnswerLaws.{answered_ok, answered_err, number_refused}
+use Rattle.layout.proofs.AnswerLaws.{answered_ok, answered_err, number_refused}
 use Rattle.table.proofs.PartsLaws.{behind_field}
 use Rattle.table.proofs.StandLaws.{pair_stands, stands_at, column_stands, column_parts, length_places}
 

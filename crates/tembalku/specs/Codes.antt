@@ -1,5 +1,5 @@
 -- What the library's functions say in one number.
-use Rattle.std.specs.Prelude.{◌≡◌, cond, List, ◌++◌, ℕ, ◌+◌, leb, length, drop}
+use Rattle.std.specs.Prelude.{◌≡◌, cond, List, ◌++◌, ℕ, ◌+◌, leb, length, drop, Result as RustResult, Ok, Err, Option as RustOption, Some, None}
 use Rattle.std.proofs.Math.Option.{Option, some, none}
 use Rattle.layout.specs.Result.{Result, refused, ok}
 use Rattle.scalar.specs.Types.{type_number, mark_number}
@@ -9,8 +9,8 @@ use Rattle.rule.specs.Reading.{read_rule}
 use Rattle.rule.specs.Strategy.{strategy_number, strategy}
 use Rattle.rule.specs.Nullable.{nullable}
 use Rattle.rule.specs.Projection.{projection}
-use Rattle.table.specs.declared.answer.NullCountAnswer.{NullCountAnswer}
-use Rattle.table.specs.declared.answer.NullCountAnswer.TheVariants.{Nulls, NoColumn, Refused as NullsRefused}
+use Rattle.layout.specs.declared.refusal.Refusal.{Refusal}
+use Rattle.layout.specs.Refusals.{number_of}
 use Rattle.table.specs.Column.{TableColumn, null_count}
 use Rattle.table.specs.Reading.{Table}
 use Rattle.writer.specs.Written.{output_after}
@@ -28,10 +28,10 @@ table_code (refused n) = n
 table_code (ok t) = 65536 + t.rows
 
 -- a column's null count: the table's refusal number, 256 where it has no such column, or 65,536 and the count (02, Change 3)
-abbrev pub null_count_code : NullCountAnswer → ℕ
-null_count_code (NullsRefused n) = n
-null_count_code NoColumn = 256
-null_count_code (Nulls n) = 65536 + n
+abbrev pub null_count_code : RustResult (RustOption ℕ) Refusal → ℕ
+null_count_code (Err e) = number_of e
+null_count_code (Ok None) = 256
+null_count_code (Ok (Some n)) = 65536 + n
 
 -- an answer's null count: the refusal number of a column that is no answer of so many rows, or 65,536 and the count (02, Change 3)
 abbrev pub answer_count_code : ℕ → Result TableColumn → ℕ

@@ -3,39 +3,18 @@
 
 ghost use Rattle.std.specs.Prelude.{◌≡◌, length};
 ghost use Rattle.rule.specs.Reading.{read_rule};
-ghost use Rattle.scalar.specs.Types.{type_number};
 ghost use Rattle.table.specs.Reading.{read_table, read_alone};
 ghost use Rattle.table.specs.Answers.{null_count_of};
-ghost use Rattle.rule.specs.Strategy.{strategy_number};
 ghost use Rattle.utf8.specs.WellFormed.{ill_formed};
 ghost use Rattle.tembalku.specs.Codes.{rule_code, table_code, null_count_code, answer_count_code, text_code, strategy_code, nullable_code, Projected, Called};
 
 use case::evaluate::evaluate;
 use layout::part::{part_of, put_part};
-use rule::answer::{
-    NullableAnswer, RuleAnswer, StrategyAnswer, nullable, projection, read as read_rule, strategy,
-};
-use rule::strategy::Strategy;
-use scalar::types::DataType;
+use rule::answer::{nullable, projection, read as read_rule, strategy};
 use table::alone::read_alone;
-use table::answer::NullCountAnswer;
 use table::nulls::column_null_count;
 use table::read::read as read_table;
-use utf8::validation::{Validation, validate};
-use writer::RunAnswer;
-
-// The number of a type.
-fn type_number(t: DataType) -> u32
-    ensures { result ≡ type_number t }
-{
-    match t {
-        DataType::Boolean => 1,
-        DataType::Int32 => 2,
-        DataType::Int64 => 3,
-        DataType::Float64 => 4,
-        DataType::Utf8 => 5,
-    }
-}
+use utf8::validation::validate;
 
 // The reading of a rule: a refusal number, or 256 and the number of the result's type.
 #[unsafe(no_mangle)]
@@ -43,8 +22,8 @@ pub extern "C" fn tembalku_rule_read(rule: &[u8]) -> u32
     ensures { result ≡ rule_code (read_rule rule.now) }
 {
     match read_rule(rule) {
-        RuleAnswer::Refused(n) => n as u32,
-        RuleAnswer::Accepted(t) => 256 + type_number(t),
+        Ok(data_type) => 256 + u32::from(data_type.number()),
+        Err(refusal) => u32::from(refusal.number()),
     }
 }
 
@@ -53,13 +32,10 @@ pub extern "C" fn tembalku_rule_read(rule: &[u8]) -> u32
 pub extern "C" fn tembalku_table_read(table: &[u8]) -> u32
     ensures { result ≡ table_code (read_table table.now) }
 {
-    let answer = read_table(table);
-    if answer.refused != 0 {
-        return answer.refused as u32;
+    match read_table(table) {
+        Ok(places) => 65536 + places.rows as u32,
+        Err(refusal) => u32::from(refusal.number()),
     }
-    let t = answer.table;
-    let rows = t.rows;
-    65536 + (rows as u32)
 }
 
 // How many rows of a table's column are null: a refusal number, 256 where there is no such column, or 65,536 and their number.
@@ -68,9 +44,9 @@ pub extern "C" fn tembalku_table_null_count(table: &[u8], column: usize) -> usiz
     ensures { result ≡ null_count_code (null_count_of (read_table table.now) column) }
 {
     match column_null_count(table, column) {
-        NullCountAnswer::Refused(n) => n as usize,
-        NullCountAnswer::NoColumn => 256,
-        NullCountAnswer::Nulls(n) => 65536 + n,
+        Ok(Some(nulls)) => 65536 + nulls,
+        Ok(None) => 256,
+        Err(refusal) => usize::from(refusal.number()),
     }
 }
 
@@ -79,12 +55,10 @@ pub extern "C" fn tembalku_table_null_count(table: &[u8], column: usize) -> usiz
 pub extern "C" fn tembalku_answer_null_count(answer: &[u8], rows: usize) -> usize
     ensures { result ≡ answer_count_code rows (read_alone rows answer.now) }
 {
-    let a = read_alone(answer, rows);
-    if a.refused != 0 {
-        return a.refused as usize;
+    match read_alone(answer, rows) {
+        Ok(place) => 65536 + usize::from(place.null_count),
+        Err(refusal) => usize::from(refusal.number()),
     }
-    let place = a.place;
-    65536 + place.null_count as usize
 }
 
 // Tests a text: the place of its first ill-formed sequence, or its length where it is well-formed UTF-8.
@@ -93,22 +67,8 @@ pub extern "C" fn tembalku_text_validate(text: &[u8]) -> usize
     ensures { result ≡ text_code (length text.now) (ill_formed text.now) }
 {
     match validate(text) {
-        Validation::WellFormed => text.len(),
-        Validation::IllFormed(place) => place,
-    }
-}
-
-// The number of a strategy.
-fn strategy_number(s: Strategy) -> u32
-    ensures { result ≡ strategy_number s }
-{
-    match s {
-        Strategy::NoExpression => 1,
-        Strategy::WithExpression => 2,
-        Strategy::InfallibleExprOrNull => 3,
-        Strategy::ScalarOrScalar => 4,
-        Strategy::ExpressionOrExpression => 5,
-        Strategy::WithExprScalarLookupTable => 6,
+        Ok(()) => text.len(),
+        Err(ill_formed) => ill_formed.place,
     }
 }
 
@@ -118,8 +78,8 @@ pub extern "C" fn tembalku_rule_strategy(rule: &[u8]) -> u32
     ensures { result ≡ strategy_code (read_rule rule.now) }
 {
     match strategy(rule) {
-        StrategyAnswer::Refused(n) => n as u32,
-        StrategyAnswer::By(s) => 256 + strategy_number(s),
+        Ok(s) => 256 + u32::from(s.number()),
+        Err(refusal) => u32::from(refusal.number()),
     }
 }
 
@@ -129,8 +89,8 @@ pub extern "C" fn tembalku_rule_nullable(rule: &[u8]) -> u32
     ensures { result ≡ nullable_code (read_rule rule.now) }
 {
     match nullable(rule) {
-        NullableAnswer::Refused(n) => n as u32,
-        NullableAnswer::Nullable(b) => if b { 257 } else { 256 },
+        Ok(mark) => 256 + u32::from(mark),
+        Err(refusal) => u32::from(refusal.number()),
     }
 }
 
@@ -139,15 +99,13 @@ pub extern "C" fn tembalku_rule_nullable(rule: &[u8]) -> u32
 pub extern "C" fn tembalku_rule_projection(rule: &[u8], columns: &mut [u8]) -> usize
     ensures { Projected rule.now columns.old result columns.new }
 {
-    match read_rule(rule) {
-        RuleAnswer::Refused(n) => n as usize,
-        RuleAnswer::Accepted(_) => {
-            let p = projection(rule);
-            let all = p.columns;
-            let named = part_of(&all, 0, p.count);
+    match projection(rule) {
+        Ok(p) => {
+            let named = part_of(&p.columns, 0, p.count);
             put_part(columns, 0, named);
             256 + named.len()
-        },
+        }
+        Err(refusal) => usize::from(refusal.number()),
     }
 }
 
@@ -162,7 +120,7 @@ pub extern "C" fn tembalku_evaluate(
     ensures { Called rule.now table.now work.old output.old result work.new output.new }
 {
     match evaluate(rule, table, work, output) {
-        RunAnswer::Refused(n) => n as usize,
-        RunAnswer::Answered(size) => 65536 + size,
+        Ok(size) => 65536 + size,
+        Err(refusal) => usize::from(refusal.number()),
     }
 }

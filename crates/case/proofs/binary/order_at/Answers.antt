@@ -1,6 +1,6 @@
 -- `order_at` gives the order of two values, by their texts where both are text, else by their keys.
 use Rattle.scalar.proofs.OrderLaws.{both_text, not_both_text}
-use Rattle.case.proofs.CodeLaws.{first_none, second_none, texts_are}
+use Rattle.case.proofs.CompareLaws.{first_none, second_none, texts_are}
 use Rattle.case.proofs.binary.order_at.Goals as goal
 use Rattle.case.proofs.binary.order_at.Goals.{else-is_text-via-then-is_text+else-is_text-2, else-is_text-via-else-is_text}
 

@@ -1,16 +1,14 @@
--- `is_text` tells by the kind what is no text, then by the size, then by the bytes.
-use Rattle.std.proofs.Common.{arith}
-use Rattle.case.proofs.LookUpLaws.{text_nowhere, text_unlike, text_like}
+-- `is_text` goes by the kind: a text, wherever it lies, by its bytes; nothing else is one.
+use Rattle.std.proofs.Common.{ap, ◌∙◌, arith}
+use Rattle.scalar.specs.Text.{same_bytes}
+use Rattle.case.proofs.LookUpLaws.{text_nowhere, text_in_rule, text_in_table}
 use Rattle.case.proofs.bytes_like_lookup_table.is_text.Goals as goal
 
-pub returns-then-kind-lt5 : goal.returns-then-kind-lt5
-returns-then-kind-lt5 c = text_nowhere c.args.rule.now c.args.table.now c.args.text.now c.args.kind c.args.payload (λ e. omega (arith, e, c.if-kind-lt5.true)) (λ e. omega (arith, e, c.if-kind-lt5.true))
+pub returns-in-5 : goal.returns-in-5
+returns-in-5 c = text_in_rule c.args.rule.now c.args.table.now c.args.text.now c.args.kind c.args.payload c.in-5.is (c.same_text.ensures ∙ ap (same_bytes c.args.text.now) c.key_text.ensures)
 
-pub returns-then-kind-gt6 : goal.returns-then-kind-gt6
-returns-then-kind-gt6 c = text_nowhere c.args.rule.now c.args.table.now c.args.text.now c.args.kind c.args.payload (λ e. omega (arith, e, c.if-kind-gt6.true)) (λ e. omega (arith, e, c.if-kind-gt6.true))
+pub returns-in-6 : goal.returns-in-6
+returns-in-6 c = text_in_table c.args.rule.now c.args.table.now c.args.text.now c.args.kind c.args.payload c.in-6.is (c.same_text-in-6.ensures ∙ ap (same_bytes c.args.text.now) c.key_text-in-6.ensures)
 
-pub returns-then-size_in-text : goal.returns-then-size_in-text
-returns-then-size_in-text c = text_unlike c.args.rule.now c.args.table.now c.args.text.now c.args.kind c.args.payload (omega (arith, c.if-kind-lt5.false)) (omega (arith, c.if-kind-gt6.false)) c.size_in.ensures c.if-size_in-text.true
-
-pub returns : goal.returns
-returns c = text_like c.args.rule.now c.args.table.now c.args.text.now c.args.kind c.args.payload (omega (arith, c.if-kind-lt5.false)) (omega (arith, c.if-kind-gt6.false)) c.size_in.ensures c.if-size_in-text.false c.same_in.ensures
+pub returns-in_default : goal.returns-in_default
+returns-in_default c = text_nowhere c.args.rule.now c.args.table.now c.args.text.now c.args.kind c.args.payload (λ e. omega arith) (λ e. omega arith)

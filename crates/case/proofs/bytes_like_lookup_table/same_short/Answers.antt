@@ -1,14 +1,12 @@
-use Rattle.std.proofs.Common.{◌-◌, length, refl, arith}
-use Rattle.scalar.specs.Value.{place_text}
-use Rattle.case.specs.LookUpTables.{bytes_of}
+use Rattle.std.proofs.Common.{◌-◌, refl, arith}
 use Rattle.case.proofs.WordLaws.{backs_all, byte_unlike, byte_more}
 use Rattle.case.proofs.bytes_like_lookup_table.same_short.Goals as goal
 
 pub returns-then-text-left : goal.returns-then-text-left
-returns-then-text-left c = byte_unlike c.args.text.now (bytes_of c.args.kind c.args.rule.now c.args.table.now) c.args.start c.requires (c.loop-left.left - 1) (omega (arith, c.loop-left.invariant.0, c.loop-left-test.true)) refl c.byte_in.ensures c.if-text-left.true
+returns-then-text-left c = byte_unlike c.args.text.now c.args.there.now c.requires (c.loop-left.left - 1) (omega (arith, c.loop-left.invariant.0, c.loop-left-test.true)) refl refl c.if-text-left.true
 
 pub loop-left-preserved : goal.loop-left-preserved
-loop-left-preserved c = (omega (arith, c.loop-left.invariant.0), byte_more c.args.text.now (bytes_of c.args.kind c.args.rule.now c.args.table.now) c.args.start c.requires {left = c.loop-left.left} (c.loop-left.left - 1) (omega (arith, c.loop-left.invariant.0, c.loop-left-test.true)) (omega (arith, c.loop-left-test.true)) c.loop-left.invariant.1 refl c.byte_in.ensures c.if-text-left.false)
+loop-left-preserved c = (omega (arith, c.loop-left.invariant.0), byte_more c.args.text.now c.args.there.now c.requires {left = c.loop-left.left} (c.loop-left.left - 1) (omega (arith, c.loop-left.invariant.0, c.loop-left-test.true)) (omega (arith, c.loop-left-test.true)) c.loop-left.invariant.1 refl refl c.if-text-left.false)
 
 pub returns : goal.returns
-returns c = backs_all c.args.text.now (place_text (bytes_of c.args.kind c.args.rule.now c.args.table.now) c.args.start (length c.args.text.now)) c.loop-left.left (omega (arith, c.loop-left-test.false)) c.loop-left.invariant.1
+returns c = backs_all c.args.text.now c.args.there.now c.loop-left.left (omega (arith, c.loop-left-test.false)) c.loop-left.invariant.1

@@ -1,8 +1,6 @@
 -- `same_short` goes byte by byte. The loop's invariant: from `left` on the texts are one.
 use Rattle.std.proofs.Common.{◌≡◌, ◌≤◌, length, drop}
-use Rattle.scalar.specs.Value.{place_text}
-use Rattle.case.specs.LookUpTables.{bytes_of}
 use Rattle.case.proofs.bytes_like_lookup_table.same_short.Given as goal
 
 abbrev pub invariant-loop-left : goal.invariant-loop-left
-invariant-loop-left l = (l.left ≤ length l.text) × (drop l.left l.text ≡ drop l.left (place_text (bytes_of l.kind l.rule l.table) l.start (length l.text)))
+invariant-loop-left l = (l.left ≤ length l.text) × (drop l.left l.text ≡ drop l.left l.there)

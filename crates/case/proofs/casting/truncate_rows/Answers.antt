@@ -12,17 +12,11 @@ row_at-r-requires c = row_in c.loop-i.invariant c.requires c.loop-i-test.true
 pub truncate_row-requires : goal.truncate_row-requires
 truncate_row-requires c = row_fits c.loop-i.invariant c.requires c.loop-i-test.true c.row_at-r.ensures
 
-pub shape_of-work-then-not-truncate_row : goal.shape_of-work-then-not-truncate_row
-shape_of-work-then-not-truncate_row c = (row_kept c.loop-i.invariant c.requires c.loop-i-test.true c.row_at-r.ensures c.truncate_row.ensures c.if-not-truncate_row.true).done.long
-
 pub returns-then-not-truncate_row : goal.returns-then-not-truncate_row
 returns-then-not-truncate_row c = let s = row_kept c.loop-i.invariant c.requires c.loop-i-test.true c.row_at-r.ensures c.truncate_row.ensures c.if-not-truncate_row.true in (s.few, s.done)
 
 pub loop-i-preserved : goal.loop-i-preserved
 loop-i-preserved c = row_done c.loop-i.invariant c.requires c.loop-i-test.true c.row_at-r.ensures c.truncate_row.ensures c.if-not-truncate_row.false
-
-pub shape_of-work : goal.shape_of-work
-shape_of-work c = c.loop-i.invariant.done.long
 
 pub returns : goal.returns
 returns c = (omega arith, ends c.loop-i.invariant (omega arith))

@@ -21,8 +21,5 @@ put_parts-requires c = row_fits c.loop-i.invariant c.requires c.loop-i-test.true
 pub loop-i-preserved : goal.loop-i-preserved
 loop-i-preserved c = next c.loop-i.invariant c.requires c.loop-i-test.true c.row_at-r.ensures c.put_parts.ensures (number_right c.args.kind c.args.validity.now c.args.values.now c.row_at-r.result c.kind_at-k.result c.payload_at-p.result c.kind_at-k.ensures c.payload_at-p.ensures)
 
-pub shape_of-work : goal.shape_of-work
-shape_of-work c = c.loop-i.invariant.done.long
-
 pub returns : goal.returns
 returns c = ends c.loop-i.invariant (omega arith)

@@ -7,7 +7,7 @@ pub returns-then-not-valid_at : goal.returns-then-not-valid_at
 returns-then-not-valid_at c = number_null c.valid_at.ensures c.if-not-valid_at.true refl
 
 pub overflow_cast-result-2 : goal.overflow_cast-result-2
-overflow_cast-result-2 c = omega (arith, number_below (get_or c.args.column.now c.args.row 0) c.requires.0, c.number_index-j.ensures, c.requires.0.small)
+overflow_cast-result-2 c = omega (arith, number_below (get_or c.args.column.now c.args.row 0) c.args.map.now.numbered, c.index-j.ensures, c.args.map.now.numbered.small)
 
 pub returns : goal.returns
-returns c = number_value c.valid_at.ensures c.if-not-valid_at.false c.number_index-j.ensures refl
+returns c = number_value c.valid_at.ensures c.if-not-valid_at.false c.index-j.ensures refl

@@ -4,4 +4,4 @@ use Rattle.case.specs.LookUpColumns.{NumberRow}
 use Rattle.case.proofs.column_lookup.number_rows.Given as goal
 
 abbrev pub invariant-loop-i : goal.invariant-loop-i
-invariant-loop-i l = RowsIndexed (NumberRow l.validity l.column l.numbers l.indices l.size l.otherwise) l.work 0 l.i l.values
+invariant-loop-i l = RowsIndexed (NumberRow l.validity l.column l.map.numbers l.map.indices l.map.size l.map.else_index) l.work 0 l.i l.values

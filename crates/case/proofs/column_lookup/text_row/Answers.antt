@@ -7,7 +7,7 @@ pub returns-then-not-valid_at : goal.returns-then-not-valid_at
 returns-then-not-valid_at c = text_null c.valid_at.ensures c.if-not-valid_at.true refl
 
 pub overflow_cast-result-2 : goal.overflow_cast-result-2
-overflow_cast-result-2 c = omega (arith, text_below c.args.rule.now c.args.table.now c.row_text-text.result.now c.requires.0.arrays, c.text_index-found.ensures, c.requires.0.small)
+overflow_cast-result-2 c = omega (arith, text_below c.args.map.now.rule.now c.args.map.now.table.now c.row_text.result.now c.args.map.now.texts.arrays, c.index-found.ensures, c.args.map.now.texts.small)
 
 pub returns : goal.returns
-returns c = text_value c.valid_at.ensures c.if-not-valid_at.false c.row_text-text.ensures c.text_index-found.ensures refl
+returns c = text_value c.valid_at.ensures c.if-not-valid_at.false c.row_text.ensures c.index-found.ensures refl

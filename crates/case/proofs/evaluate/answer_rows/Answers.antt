@@ -1,5 +1,5 @@
 -- The rows' classes are written, or the slots, which have the outcomes.
-use Rattle.std.proofs.Common.{[], refl, ◌∙◌, arith}
+use Rattle.std.proofs.Common.{[], refl, arith}
 use Rattle.case.proofs.EvaluateLaws.{root_asks, rows_framed, classes_column, by_classes, slots_column, by_slots}
 use Rattle.case.proofs.LookUpTrees.{zeros}
 use Rattle.case.proofs.evaluate.answer_rows.Goals as goal
@@ -12,9 +12,6 @@ class_rows-requires c = record { root_asks = root_asks c.requires c.all_rows.ens
 
 pub run_of-requires : goal.run_of-requires
 run_of-requires c = classes_column c.requires c.all_rows.ensures c.class_rows.ensures c.if-class_rows.true (c.write_classes.ensures [] [])
-
-pub shape_of-work-then-class_rows : goal.shape_of-work-then-class_rows
-shape_of-work-then-class_rows c = c.class_rows.ensures.long ∙ c.all_rows.ensures.long
 
 pub returns-then-class_rows : goal.returns-then-class_rows
 returns-then-class_rows c = by_classes c.requires c.all_rows.ensures c.class_rows.ensures c.if-class_rows.true c.write_classes.ensures c.run_of.ensures

@@ -1,5 +1,5 @@
 -- `class_rows` has the literals and the index of each row, and then the classes of the rows of THENs that are CASEs; or no classes.
-use Rattle.std.proofs.Common.{rules, sym, ◌∙◌, arith}
+use Rattle.std.proofs.Common.{rules, arith}
 use Rattle.case.proofs.RootLaws.{root_framed, classes_none, thens_ask, classes_give}
 use Rattle.case.proofs.root.class_rows.Goals as goal
 
@@ -8,12 +8,6 @@ returns-then-not-is_number c = classes_none c.requires.classes_len.0 c.requires.
 
 pub root_results-place-requires : goal.root_results-place-requires
 root_results-place-requires c = (c.requires.classes_len.1, c.requires.classes_len.2, c.requires.classes_len.3)
-
-pub shape_of-kinds-then-place-eq0 : goal.shape_of-kinds-then-place-eq0
-shape_of-kinds-then-place-eq0 c = c.root_results-place.ensures.kinds_long ∙ sym c.requires.classes_len.1
-
-pub shape_of-payloads-then-place-eq0 : goal.shape_of-payloads-then-place-eq0
-shape_of-payloads-then-place-eq0 c = c.root_results-place.ensures.payloads_long ∙ sym c.requires.classes_len.2
 
 pub returns-then-place-eq0 : goal.returns-then-place-eq0
 returns-then-place-eq0 c = classes_none c.requires.classes_len.0 c.root_results-place.ensures.kinds_long c.root_results-place.ensures.payloads_long
@@ -25,19 +19,7 @@ pub returns-then-ne : goal.returns-then-ne
 returns-then-ne c = classes_none c.case_values.ensures.long c.root_results-place.ensures.kinds_long c.root_results-place.ensures.payloads_long
 
 pub nested_thens-requires : goal.nested_thens-requires
-nested_thens-requires c = record { framed = root_framed c.requires.root_asks 2 (omega arith); thens_ask = thens_ask (omega (arith, c.type_number-code.ensures, (c.is_number.ensures c.if-not-is_number.false).0)) c.case_values.ensures (search rules) c.if-place-eq0.false c.byte_at.ensures (omega (arith, c.byte_at.type_inv)) c.root_results-place.ensures }
-
-pub shape_of-work : goal.shape_of-work
-shape_of-work c = c.nested_thens.ensures.long
-
-pub shape_of-classes : goal.shape_of-classes
-shape_of-classes c = c.nested_thens.ensures.classes_long_lem ∙ sym c.requires.classes_len.0
-
-pub shape_of-kinds : goal.shape_of-kinds
-shape_of-kinds c = c.nested_thens.ensures.arrays.0 ∙ sym c.requires.classes_len.1
-
-pub shape_of-payloads : goal.shape_of-payloads
-shape_of-payloads c = c.nested_thens.ensures.arrays.1 ∙ sym c.requires.classes_len.2
+nested_thens-requires c = record { framed = root_framed c.requires.root_asks 2 (omega arith); thens_ask = thens_ask (omega (arith, c.number-code.ensures, (c.is_number.ensures c.if-not-is_number.false).0)) c.case_values.ensures (search rules) c.if-place-eq0.false c.byte_at.ensures (omega (arith, c.byte_at.type_inv)) c.root_results-place.ensures }
 
 pub returns : goal.returns
-returns c = classes_give (omega (arith, c.type_number-code.ensures, (c.is_number.ensures c.if-not-is_number.false).0)) c.case_values.ensures (search rules) c.if-place-eq0.false c.byte_at.ensures (omega (arith, c.byte_at.type_inv)) c.root_results-place.ensures c.requires.root_asks c.type_number-code.ensures (omega (arith, c.type_number-code.ensures, (c.is_number.ensures c.if-not-is_number.false).1)) c.nested_thens.ensures
+returns c = classes_give (omega (arith, c.number-code.ensures, (c.is_number.ensures c.if-not-is_number.false).0)) c.case_values.ensures (search rules) c.if-place-eq0.false c.byte_at.ensures (omega (arith, c.byte_at.type_inv)) c.root_results-place.ensures c.requires.root_asks c.number-code.ensures (omega (arith, c.number-code.ensures, (c.is_number.ensures c.if-not-is_number.false).1)) c.nested_thens.ensures

@@ -1,12 +1,19 @@
 -- A comparison of a column with a literal, whichever stands first, or no step.
-use Rattle.std.proofs.Common.{inl, inr}
+use Rattle.std.proofs.Common.{◌≡◌, sym, ap, ◌∙◌, inl, inr}
+use Rattle.case.specs.Steps.{comparison_tag}
 use Rattle.case.proofs.StepLaws.{step_column, step_literal}
 use Rattle.rule.proofs.WalkLaws.{children_gives, end_gives}
 use Rattle.case.proofs.steps.step_at.Goals as goal
-use Rattle.case.proofs.steps.step_at.Goals.{then-tag-ne23+else-tag-ne24, else-tag-ne23}
+use Rattle.case.proofs.steps.step_at.Goals.{in-23, in-24}
 
 pub returns-then-byte_at-ne17 : goal.returns-then-byte_at-ne17
-returns-then-byte_at-ne17 c = step_column c.args.end c.byte_at-tag.ensures (children_gives c.children_at-at.ensures) (end_gives c.field_end-middle.ensures) c.step_between.result (elim c.if-tag-ne23.branch [ then-tag-ne23+else-tag-ne24 w ↦ inr w.if-tag-ne24.false | else-tag-ne23 w ↦ inl w.if-tag-ne23.false ]) c.step_between.ensures
+returns-then-byte_at-ne17 c =
+    let tag : comparison_tag c.match-byte_at.comparison ≡ c.byte_at.result = elim c.match-byte_at.branch [ in-23 w ↦ ap comparison_tag w.comparison-is ∙ sym w.in-23.is | in-24 w ↦ ap comparison_tag w.comparison-is ∙ sym w.in-24.is ] in
+    step_column c.args.end (tag ∙ c.byte_at.ensures) (children_gives c.children_at-at.ensures) (end_gives c.field_end-middle.ensures) c.step_between.result
+    (elim c.match-byte_at.branch [ in-23 w ↦ inl (ap comparison_tag w.comparison-is) | in-24 w ↦ inr (ap comparison_tag w.comparison-is) ]) c.step_between.ensures
 
-pub returns : goal.returns
-returns c = step_literal c.args.end c.byte_at-tag.ensures (children_gives c.children_at-at.ensures) (end_gives c.field_end-middle.ensures) c.step_between-2.result c.if-tag-ne24-2.false c.step_between-2.ensures
+pub returns-in-Less : goal.returns-in-Less
+returns-in-Less c =
+    let tag : comparison_tag c.match-byte_at.comparison ≡ c.byte_at.result = elim c.match-byte_at.branch [ in-23 w ↦ ap comparison_tag w.comparison-is ∙ sym w.in-23.is | in-24 w ↦ ap comparison_tag w.comparison-is ∙ sym w.in-24.is ] in
+    step_literal c.args.end c.byte_at.ensures (children_gives c.children_at-at.ensures) (end_gives c.field_end-middle.ensures) c.step_between-in-Less.result
+    (sym tag ∙ ap comparison_tag c.in-Less.is) c.step_between-in-Less.ensures

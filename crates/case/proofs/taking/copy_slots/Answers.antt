@@ -14,8 +14,5 @@ copy_slot-requires c = ((row_fits_from c.loop-i.invariant c.requires.fillable_fr
 pub loop-i-preserved : goal.loop-i-preserved
 loop-i-preserved c = next_from c.loop-i.invariant c.requires.fillable_from c.loop-i-test.true c.row_at-r.ensures c.copy_slot.ensures (next_fresh_from c.loop-i.invariant c.requires.fillable_from c.loop-i-test.true c.row_at-r.ensures)
 
-pub shape_of-work : goal.shape_of-work
-shape_of-work c = c.loop-i.invariant.done.long
-
 pub returns : goal.returns
 returns c = ends c.loop-i.invariant (omega arith)

@@ -4,4 +4,4 @@ use Rattle.listing.proofs.LineLaws.{head_as}
 use Rattle.listing.proofs.line.write_head.Goals as goal
 
 pub returns : goal.returns
-returns c = head_as c.args.rows c.args.data_type c.args.nullable c.type_number.ensures.0 c.mark_number.ensures.0 (wrote_then (wrote_then c.write_bytes-p.ensures c.write_decimal-q.ensures) c.write_types.ensures)
+returns c = head_as c.args.rows c.args.data_type c.args.nullable c.number.ensures c.from.ensures (wrote_then (wrote_then c.write_bytes-p.ensures c.write_decimal-q.ensures) c.write_types.ensures)

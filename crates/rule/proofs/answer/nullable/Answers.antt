@@ -1,6 +1,6 @@
 -- The answer is the reading's refusal, or its nullability answer.
 use native.Mathlib.Omega.{arith}
-use Rattle.rule.proofs.StepLaws.{passed_on}
+use Rattle.layout.proofs.AnswerLaws.{passed_on}
 use Rattle.rule.proofs.AnswerLaws.{nullable_refused, nullable_accepted}
 use Rattle.rule.proofs.answer.nullable.Goals as goal
 

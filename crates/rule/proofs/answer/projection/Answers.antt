@@ -1,5 +1,5 @@
 -- The answer is the reading's refusal, or the indexes of the columns met.
-use Rattle.rule.proofs.StepLaws.{passed_on}
+use Rattle.layout.proofs.AnswerLaws.{passed_on}
 use Rattle.rule.proofs.AnswerLaws.{answer_refused, projection_answer_lem}
 use Rattle.rule.proofs.answer.projection.Goals as goal
 

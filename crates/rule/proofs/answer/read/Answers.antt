@@ -1,5 +1,5 @@
 -- The answer is the reading's refusal, or the result's type.
-use Rattle.rule.proofs.StepLaws.{passed_on}
+use Rattle.layout.proofs.AnswerLaws.{passed_on}
 use Rattle.rule.proofs.AnswerLaws.{answer_refused, type_answer_lem}
 use Rattle.rule.proofs.answer.read.Goals as goal
 

@@ -1,6 +1,6 @@
 -- The answer is the reading's refusal, or the strategy of the rule that stands in the bytes.
 use native.Mathlib.Omega.{arith}
-use Rattle.rule.proofs.StepLaws.{passed_on}
+use Rattle.layout.proofs.AnswerLaws.{passed_on}
 use Rattle.rule.proofs.AnswerLaws.{answer_refused, strategy_answer_lem}
 use Rattle.rule.proofs.StrategyLaws.{strategy_gives}
 use Rattle.rule.proofs.answer.strategy.Goals as goal

@@ -4,7 +4,7 @@ use mathlib.Core.Path.{refl, sym, ◌∙◌}
 use native.Mathlib.Omega.{arith}
 use Rattle.scalar.proofs.CompareLaws.{equal_both}
 use Rattle.scalar.proofs.OperationLaws.{try_cast_gives}
-use Rattle.rule.proofs.ConstantNode.{within_column, within_literal, within_case, within_one, within_two, constant_same, constant_other, constant_none, within_behind}
+use Rattle.rule.proofs.ConstantNode.{within_column, within_none, within_literal, within_case, within_one, within_two, constant_same, constant_other, constant_none, within_behind}
 use Rattle.rule.proofs.ConstantCase.{base_none, base_some, else_none, else_some, with_failed, with_null, with_value, branches_next, branches_failed, branches_then, branches_end, case_gives, case_behind}
 use Rattle.rule.proofs.LiteralLaws.{literal_gives}
 use Rattle.rule.proofs.WalkLaws.{behind_gives, children_gives, end_gives}
@@ -42,31 +42,34 @@ pub constant_case-returns-then-rule-start : goal.constant_case-returns-then-rule
 constant_case-returns-then-rule-start t c = case_behind c.if-rule-start.true
 
 pub constant_case-returns : goal.constant_case-returns
-constant_case-returns t c = case_gives c.byte_at-flags.ensures c.byte_at-count.ensures (children_gives c.children_at-at.ensures) (behind_gives c.behind_fields-first.ensures) c.constant_base-base.ensures (type_gives c.type_of-to.ensures) c.constant_with.ensures
+constant_case-returns t c = case_gives c.byte_at-flags.ensures c.byte_at-count.ensures (children_gives c.children_at-at.ensures) (behind_gives c.behind_fields-first.ensures) c.constant_base-base.ensures (type_gives c.type_of.ensures) c.constant_with.ensures
 
-pub constant_else-returns-then-at-end : goal.constant_else-returns-then-at-end
-constant_else-returns-then-at-end t c = else_none c.if-at-end.true
+pub constant_else-returns-then-at-branches : goal.constant_else-returns-then-at-branches
+constant_else-returns-then-at-branches t c = else_none c.if-at-branches.true
 
 pub constant_else-returns : goal.constant_else-returns
-constant_else-returns t c = else_some c.if-at-end.false c.constant-v.ensures (try_cast_gives _ _ c.try_cast.ensures)
+constant_else-returns t c = else_some c.if-at-branches.false c.constant-v.ensures (try_cast_gives _ _ c.try_cast.ensures)
 
 pub constant_node-returns-then-rule-start : goal.constant_node-returns-then-rule-start
 constant_node-returns-then-rule-start t c = within_behind c.if-rule-start.true
 
-pub constant_node-returns-then-tag-eq16 : goal.constant_node-returns-then-tag-eq16
-constant_node-returns-then-tag-eq16 t c = within_column c.if-tag-eq16.true
+pub constant_node-returns-in-17 : goal.constant_node-returns-in-17
+constant_node-returns-in-17 t c = within_literal c.in-17.is (literal_gives c.literal_value.ensures)
 
-pub constant_node-returns-then-tag-eq17 : goal.constant_node-returns-then-tag-eq17
-constant_node-returns-then-tag-eq17 t c = within_literal c.if-tag-eq17.true (literal_gives c.literal_value.ensures)
+pub constant_node-returns-in-18 : goal.constant_node-returns-in-18
+constant_node-returns-in-18 t c = within_one refl (λ p. omega arith) (λ p. omega arith) (omega arith) c.byte_at-number.ensures (children_gives c.children_at-at.ensures) c.constant-v.ensures c.one.ensures
 
-pub constant_node-returns-then-tag-eq25 : goal.constant_node-returns-then-tag-eq25
-constant_node-returns-then-tag-eq25 t c = within_case c.if-tag-eq25.true c.constant_case.ensures
+pub constant_node-returns-in-23 : goal.constant_node-returns-in-23
+constant_node-returns-in-23 t c = within_two refl (omega arith) (λ p. omega arith) (children_gives c.children_at-at.ensures) (end_gives c.field_end-middle.ensures) c.constant-a.ensures c.constant-b.ensures c.two.ensures
 
-pub constant_node-returns-then-tag-lt23 : goal.constant_node-returns-then-tag-lt23
-constant_node-returns-then-tag-lt23 t c = within_one refl c.if-tag-eq16.false c.if-tag-eq17.false c.if-tag-lt23.true c.byte_at-number.ensures (children_gives c.children_at-at.ensures) c.constant-v.ensures c.one.ensures
+pub constant_node-returns-in-25 : goal.constant_node-returns-in-25
+constant_node-returns-in-25 t c = within_case c.in-25.is c.constant_case.ensures
 
-pub constant_node-returns : goal.constant_node-returns
-constant_node-returns t c = within_two refl c.if-tag-lt23.false c.if-tag-eq25.false (children_gives c.children_at-at.ensures) (end_gives c.field_end-middle.ensures) c.constant-a.ensures c.constant-b.ensures c.two.ensures
+pub constant_node-returns-in_default : goal.constant_node-returns-in_default
+constant_node-returns-in_default t c = within_column (omega arith)
+
+pub constant_node-returns-in_default-2 : goal.constant_node-returns-in_default-2
+constant_node-returns-in_default-2 t c = within_none (omega arith)
 
 pub constant_with-returns-then-k-eq7 : goal.constant_with-returns-then-k-eq7
 constant_with-returns-then-k-eq7 t c = with_failed (sym c.kind-k.ensures ∙ c.if-k-eq7.true)

@@ -14,7 +14,7 @@ abbrev pub decreases-constant_branches : goal.decreases-constant_branches
 decreases-constant_branches l = 8 * l.depth + 2
 
 abbrev pub invariant-constant_branches-loop : goal.invariant-constant_branches-loop
-invariant-constant_branches-loop l = BranchesLeft l.rule l.at l.end l.count l.base l.to l.target l.depth l.place (l.count - l.counter)
+invariant-constant_branches-loop l = BranchesLeft l.masked.rule.now l.branches.at l.branches.end l.branches.count l.base l.branches.to l.masked.target.now l.depth l.place (l.branches.count - l.counter)
 
 abbrev pub decreases-constant_case : goal.decreases-constant_case
 decreases-constant_case l = 8 * l.depth + 4

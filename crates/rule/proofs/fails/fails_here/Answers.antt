@@ -7,11 +7,11 @@ use Rattle.rule.proofs.fails.fails_here.Goals as goal
 pub returns-then-rule-start : goal.returns-then-rule-start
 returns-then-rule-start c = record { is = λ end e n. absurd (let k = nothing_behind n in omega arith) }
 
-pub returns-then-rule-start-ne21 : goal.returns-then-rule-start-ne21
-returns-then-rule-start-ne21 c = here_other c.if-rule-start-ne21.true
+pub returns-then-rule-start-ne-CAST : goal.returns-then-rule-start-ne-CAST
+returns-then-rule-start-ne-CAST c = here_other c.if-rule-start-ne-CAST.true
 
 pub returns-then-names_column : goal.returns-then-names_column
-returns-then-names_column c = here_named c.if-rule-start-ne21.false (end_gives c.field_end-end.ensures) c.names_column.ensures c.if-names_column.true
+returns-then-names_column c = here_named c.if-rule-start-ne-CAST.false (end_gives c.field_end-end.ensures) c.names_column.ensures c.if-names_column.true
 
 pub returns : goal.returns
-returns c = here_alone c.if-rule-start-ne21.false (end_gives c.field_end-end.ensures) c.names_column.ensures c.if-names_column.false c.part_of.ensures c.constant-v.ensures c.kind.ensures
+returns c = here_alone c.if-rule-start-ne-CAST.false (end_gives c.field_end-end.ensures) c.names_column.ensures c.if-names_column.false c.part_of.ensures c.constant-v.ensures c.kind.ensures

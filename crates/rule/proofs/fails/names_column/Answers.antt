@@ -6,14 +6,14 @@ use Rattle.rule.proofs.fails.names_column.Goals as goal
 pub loop-at-init : goal.loop-at-init
 loop-at-init c = columns_start
 
-pub returns-then-rule-at-eq16 : goal.returns-then-rule-at-eq16
-returns-then-rule-at-eq16 c = columns_found c.loop-at.invariant c.loop-at-test.true c.if-rule-at-eq16.true
+pub returns-then-rule-at-eq-COLUMN : goal.returns-then-rule-at-eq-COLUMN
+returns-then-rule-at-eq-COLUMN c = columns_found c.loop-at.invariant c.loop-at-test.true c.if-rule-at-eq-COLUMN.true
 
 pub loop-at-smaller : goal.loop-at-smaller
 loop-at-smaller c = omega (arith, (children_gives c.children_at-at.ensures).farther (omega arith))
 
 pub loop-at-preserved : goal.loop-at-preserved
-loop-at-preserved c = columns_next c.loop-at.invariant c.loop-at-test.true c.if-rule-at-eq16.false (children_gives c.children_at-at.ensures)
+loop-at-preserved c = columns_next c.loop-at.invariant c.loop-at-test.true c.if-rule-at-eq-COLUMN.false (children_gives c.children_at-at.ensures)
 
 pub returns : goal.returns
 returns c = columns_end_lem c.loop-at.invariant c.loop-at-test.false

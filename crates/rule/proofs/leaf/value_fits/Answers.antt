@@ -1,5 +1,6 @@
 -- The value is tested as its type and its null mark want it.
 use mathlib.Core.Path.{refl}
+use mathlib.Core.Logic.{inl, inr}
 use native.Mathlib.Omega.{arith}
 use Rattle.scalar.specs.Entry.{int32, int64, float64}
 use Rattle.rule.specs.Reading.{literal_value}
@@ -28,11 +29,7 @@ returns-in-Int32 c = value_plain c.args.data_type c.args.mark c.args.content.now
 
 pub returns-in-Int64 : goal.returns-in-Int64
 unfolding literal_value
-returns-in-Int64 c = value_plain c.args.data_type c.args.mark c.args.content.now c.if-mark-gt1.false c.if-mark-eq1.false _ (rw c.in-Int64.is (number_fits int64 8 c.args.content.now (omega arith) (λ n. refl)))
-
-pub returns-in-Float64 : goal.returns-in-Float64
-unfolding literal_value
-returns-in-Float64 c = value_plain c.args.data_type c.args.mark c.args.content.now c.if-mark-gt1.false c.if-mark-eq1.false _ (rw c.in-Float64.is (number_fits float64 8 c.args.content.now (omega arith) (λ n. refl)))
+returns-in-Int64 c = elim c.in-Int64.is [ inl is ↦ value_plain c.args.data_type c.args.mark c.args.content.now c.if-mark-gt1.false c.if-mark-eq1.false _ (rw is (number_fits int64 8 c.args.content.now (omega arith) (λ n. refl))) | inr is ↦ value_plain c.args.data_type c.args.mark c.args.content.now c.if-mark-gt1.false c.if-mark-eq1.false _ (rw is (number_fits float64 8 c.args.content.now (omega arith) (λ n. refl))) ]
 
 pub returns-in-Utf8 : goal.returns-in-Utf8
 unfolding literal_value

@@ -1,6 +1,6 @@
 -- A rule is its tree, and none of its constant casts fails.
 use native.Mathlib.Omega.{arith}
-use Rattle.rule.proofs.StepLaws.{passed_on}
+use Rattle.layout.proofs.AnswerLaws.{passed_on}
 use Rattle.rule.proofs.AnswerLaws.{rule_unread, rule_fails, rule_read}
 use Rattle.rule.proofs.read.read_accepted.Goals as goal
 

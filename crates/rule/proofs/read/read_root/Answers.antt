@@ -1,7 +1,8 @@
 -- The root is a CASE, read at depth 8 with 3 CASEs on a path.
 use mathlib.Core.Path.{sym, ◌∙◌}
 use mathlib.Core.List.{[]}
-use Rattle.rule.proofs.StepLaws.{passed_on, none_of}
+use Rattle.rule.proofs.StepLaws.{none_of}
+use Rattle.layout.proofs.AnswerLaws.{passed_on}
 use Rattle.rule.proofs.CycleLaws.{root_cut, root_other, root_gives}
 use Rattle.rule.proofs.read.read_root.Goals as goal
 

@@ -1,6 +1,6 @@
 -- What an evaluation takes from a rule is what reading it found, and its nullability answer.
 use native.Mathlib.Omega.{arith}
-use Rattle.rule.proofs.StepLaws.{passed_on}
+use Rattle.layout.proofs.AnswerLaws.{passed_on}
 use Rattle.rule.proofs.AnswerLaws.{answer_refused, reading_accepted}
 use Rattle.rule.proofs.read.read_rule.Goals as goal
 

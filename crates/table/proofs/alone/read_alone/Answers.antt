@@ -1,6 +1,6 @@
 -- One column alone: its rows, its parts, its null count and what stands behind it.
 use mathlib.Core.Path.{sym, ◌∙◌}
-use Rattle.std.proofs.lemmas.Result.{err_from_is_err_and}
+use Rattle.layout.proofs.AnswerLaws.{passed_on}
 use Rattle.table.proofs.ColumnLaws.{column_room}
 use Rattle.table.proofs.AloneLaws.{alone_rows, alone_cut, alone_miscounted, alone_over, alone_whole}
 use Rattle.table.proofs.alone.read_alone.Goals as goal
@@ -9,7 +9,7 @@ pub returns-then-rows-gt-ROWS_MOST : goal.returns-then-rows-gt-ROWS_MOST
 returns-then-rows-gt-ROWS_MOST c = alone_rows c.args.bytes.now c.args.rows c.if-rows-gt-ROWS_MOST.true
 
 pub returns-in_err-column : goal.returns-in_err-column
-returns-in_err-column c = let p = err_from_is_err_and c.from_residual.result c.from_residual.ensures.1 in rw (p.1, p.2) (alone_cut c.args.bytes.now c.args.rows c.if-rows-gt-ROWS_MOST.false c.in_err-column.ensures)
+returns-in_err-column c = rw (passed_on c.from_residual.result c.from_residual.ensures.1) (alone_cut c.args.bytes.now c.args.rows c.if-rows-gt-ROWS_MOST.false c.in_err-column.ensures)
 
 pub count_right-requires : goal.count_right-requires
 count_right-requires c = column_room c.args.bytes.now 0 c.args.rows c.in_ok-column.ensures

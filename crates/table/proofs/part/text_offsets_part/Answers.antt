@@ -1,11 +1,11 @@
 -- Tag 5, test by test.
-use Rattle.std.proofs.lemmas.Result.{err_from_is_err_and}
+use Rattle.layout.proofs.AnswerLaws.{passed_on}
 use mathlib.Core.Path.{sym, ◌∙◌}
 use Rattle.table.proofs.PartsLaws.{offsets_refused, offsets_length, offsets_first, offsets_fall, offsets_taken}
 use Rattle.table.proofs.part.text_offsets_part.Goals as goal
 
 pub returns-in_err-part : goal.returns-in_err-part
-returns-in_err-part c = let p = err_from_is_err_and c.from_residual.result c.from_residual.ensures.1 in rw (p.1, p.2) (offsets_refused c.args.at c.args.rows c.in_err-part.ensures)
+returns-in_err-part c = rw (passed_on c.from_residual.result c.from_residual.ensures.1) (offsets_refused c.args.at c.args.rows c.in_err-part.ensures)
 
 pub returns-then-part-rows : goal.returns-then-part-rows
 returns-then-part-rows c = offsets_length c.args.at c.args.rows c.in_ok-part.ensures c.if-part-rows.true

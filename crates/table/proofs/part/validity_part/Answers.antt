@@ -1,12 +1,12 @@
 -- Tag 3, by its length: none, or a bit for each row.
-use Rattle.std.proofs.lemmas.Result.{err_from_is_err_and}
+use Rattle.layout.proofs.AnswerLaws.{passed_on}
 use mathlib.Core.Path.{sym, ◌∙◌}
 use Rattle.table.proofs.PartsLaws.{validity_refused, validity_none, validity_bits, validity_other}
 use Rattle.table.proofs.part.validity_part.Goals.{else-size-ne0-via-then-size-ne0+else-size-bitmap_length, else-size-ne0-via-else-size-ne0}
 use Rattle.table.proofs.part.validity_part.Goals as goal
 
 pub returns-in_err-validity : goal.returns-in_err-validity
-returns-in_err-validity c = let p = err_from_is_err_and c.from_residual.result c.from_residual.ensures.1 in rw (p.1, p.2) (validity_refused c.args.at c.args.rows c.in_err-validity.ensures)
+returns-in_err-validity c = rw (passed_on c.from_residual.result c.from_residual.ensures.1) (validity_refused c.args.at c.args.rows c.in_err-validity.ensures)
 
 pub returns-then-size-bitmap_length : goal.returns-then-size-bitmap_length
 returns-then-size-bitmap_length c = validity_other c.args.at c.args.rows c.in_ok-validity.ensures c.if-size-ne0.true (λ q. c.if-size-bitmap_length.true (q ∙ sym c.bitmap_length.ensures))

@@ -1,6 +1,0 @@
--- `fill_dense` puts the keys' indices. The loop's invariant: those of the first keys are there, and ELSE's anywhere else.
-use Rattle.case.proofs.DenseLaws.{DenseSoFar}
-use Rattle.case.proofs.primitive_lookup_table.fill_dense.Given as goal
-
-abbrev pub invariant-loop-key : goal.invariant-loop-key
-invariant-loop-key l = DenseSoFar l.numbers l.indices l.size l.otherwise l.least l.key l.answers

@@ -1,7 +1,0 @@
--- `find_key` breaks out at the first key of the number. The loop's invariant: what is left gives the answer.
-use Rattle.std.proofs.Common.{ℕ, eqb, get_or}
-use Rattle.case.proofs.LookUpLaws.{Searching}
-use Rattle.case.proofs.primitive_lookup_table.find_key.Given as goal
-
-abbrev pub invariant-loop-k : goal.invariant-loop-k
-invariant-loop-k l = Searching (λ (i : ℕ). eqb l.x (get_or l.numbers i 0)) (λ (i : ℕ). get_or l.indices i 0) l.size l.otherwise l.k

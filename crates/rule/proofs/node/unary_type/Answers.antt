@@ -1,9 +1,0 @@
--- Negative gives its child's type, and the others Boolean.
-use Rattle.rule.proofs.LeafLaws.{negative_type, boolean_type}
-use Rattle.rule.proofs.node.unary_type.Goals as goal
-
-pub returns-then-tag-eq19 : goal.returns-then-tag-eq19
-returns-then-tag-eq19 c = λ e is. negative_type c.args.tag e is c.if-tag-eq19.true
-
-pub returns-else-tag-eq19 : goal.returns-else-tag-eq19
-returns-else-tag-eq19 c = λ e is. boolean_type c.args.tag e c.if-tag-eq19.false

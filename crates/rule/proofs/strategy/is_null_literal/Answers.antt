@@ -1,9 +1,0 @@
--- `is_null_literal` tells a literal by its tag, and null by its mark.
-use Rattle.rule.proofs.StrategyLaws.{null_other, null_mark}
-use Rattle.rule.proofs.strategy.is_null_literal.Goals as goal
-
-pub returns-then-byte_at-ne17 : goal.returns-then-byte_at-ne17
-returns-then-byte_at-ne17 c = null_other _ _ c.byte_at.ensures c.if-byte_at-ne17.true
-
-pub returns : goal.returns
-returns c = null_mark _ _ c.byte_at.ensures c.if-byte_at-ne17.false c.byte_at-2.ensures
