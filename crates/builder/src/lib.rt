@@ -32,7 +32,7 @@ pub struct Finished {
 fn count_of(rows: usize) -> usize
     ensures { result ≡ min rows 512 }
 {
-    if rows < ROWS_MOST { rows } else { ROWS_MOST }
+    rows.min(ROWS_MOST)
 }
 
 // The value of a row by its mark: 0 where it holds none.
