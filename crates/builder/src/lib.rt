@@ -11,7 +11,7 @@ use layout::refusal::Refusal;
 // Most rows of a result.
 const ROWS_MOST: usize = 512;
 
-// `held` is 1 where a row holds its value of `values`, and 0 where it holds none.
+// `held` is 1 where a row holds its value of `values`, and 0 where it holds none (fixed memory: no heap).
 #[derive(Clone, Copy, Debug, PartialEq, Eq)]
 pub struct ResultBuilder {
     pub rows: usize,
@@ -21,7 +21,7 @@ pub struct ResultBuilder {
     pub values: [u16; 512],
 }
 
-// The value of each row, 0 where it holds none: the first `count` of `values`. Behind them stand zeros.
+// The value of each row, 0 where it holds none: the first `count` of `values` (fixed memory: no heap). Behind them stand zeros.
 #[derive(Clone, Copy, Debug, PartialEq, Eq)]
 pub struct Finished {
     pub count: usize,
@@ -32,7 +32,7 @@ pub struct Finished {
 fn count_of(rows: usize) -> usize
     ensures { result ≡ min rows 512 }
 {
-    if rows < ROWS_MOST { rows } else { ROWS_MOST }
+    rows.min(ROWS_MOST)
 }
 
 // The value of a row by its mark: 0 where it holds none.

@@ -2,14 +2,14 @@
 use mathlib.Core.Path.{◌≡◌, refl}
 use mathlib.Core.Bool.{Bool, true, false, not, ◌&&◌}
 use mathlib.Core.List.{List, [], ◌∷◌}
-use Prim.Native.Nat.{ℕ, zero, suc, ◌≤◌}
+use Prim.Native.Nat.{ℕ, zero, suc}
 use lib.Dec.{eqb, leb, ltb}
 use lib.ListN.{length, drop}
 use Rattle.layout.specs.Result.{refused}
 use Rattle.layout.specs.Refusals.{rule_refusals, among}
 use Rattle.layout.specs.Bytes.{byte}
 use Rattle.layout.specs.Field.{Field}
-use Rattle.layout.proofs.ResultLaws.{RefusedAmong, ok_among, refused_among, bind_among, require_among_then, cond_among, among_between}
+use Rattle.layout.proofs.ResultLaws.{RefusedAmong, ok_among, refused_among, bind_among, require_among_then, cond_among}
 use Rattle.layout.proofs.FieldLaws.{header_among}
 use Rattle.scalar.specs.declared.types.DataType.{DataType}
 use Rattle.scalar.specs.declared.types.DataType.TheVariants.{Boolean, Int32, Int64, Float64, Utf8}
@@ -194,6 +194,3 @@ rule_among rule =
 -- the number that a rule is refused with is one of 1 to 8
 pub rule_refusals_lem : (rule : List ℕ) (n : ℕ) → read_rule rule ≡ refused n → among rule_refusals n ≡ true
 rule_refusals_lem rule n e = (rule_among rule).one n e
-
-pub rule_bounds : (rule : List ℕ) (n : ℕ) → read_rule rule ≡ refused n → (1 ≤ n) × (n ≤ 8)
-rule_bounds rule n e = among_between 1 8 rule_refusals n refl (rule_refusals_lem rule n e)

@@ -15,5 +15,5 @@ pub mod seen;
 pub mod strategy;
 pub(crate) mod tag;
 pub mod type_of;
-pub mod types;
+pub(crate) mod types;
 pub mod walk;

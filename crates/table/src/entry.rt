@@ -63,7 +63,7 @@ pub fn text_between(bytes: &[u8], start: usize, end: usize, from: usize, to: usi
     ensures { result ≡ text_between_value bytes.now start end from to }
 {
     let size = part_of(bytes, start, end).len();
-    let last = if to < size { to } else { size };
+    let last = to.min(size);
     if last <= from {
         return Value::TableText(0, 0);
     }

@@ -21,7 +21,7 @@ pub struct ColumnPlace {
     pub values: Part,
 }
 
-// A table: its rows, and the first `count` of `columns`.
+// A table: its rows, and the first `count` of `columns` (fixed memory: no heap).
 #[derive(Clone, Copy, Debug, PartialEq, Eq)]
 pub struct Table {
     pub rows: usize,

@@ -60,10 +60,7 @@ fn classes_long(rows: usize, classes: &[u16], payloads: &[u64]) -> bool
 fn number_type(code: u8) -> bool
     ensures { result ≡ number_type code }
 {
-    if code < INT32 {
-        return false;
-    }
-    code <= FLOAT64
+    (INT32..=FLOAT64).contains(&code)
 }
 
 // Whether every row's class has a number, by the greatest class.

@@ -9,32 +9,14 @@ use crate::slot::get_slot;
 use scalar::text::place_text;
 use scalar::value::Value;
 
-// How long the text of a value is; 0 where it is none.
-fn text_size(rule: &[u8], table: &[u8], v: Value) -> usize
-    ensures { result ≡ length (text_in rule.now table.now v) }
+// The text of a value; empty where it is none.
+fn text_of<'a>(rule: &'a [u8], table: &'a [u8], v: Value) -> &'a [u8]
+    ensures { result.now ≡ text_in rule.now table.now v }
 {
     match v {
-        Value::RuleText(start, size) => {
-            let text = place_text(rule, start, size);
-            text.len()
-        }
-        Value::TableText(start, size) => {
-            let text = place_text(table, start, size);
-            text.len()
-        }
-        _ => 0,
-    }
-}
-
-// The text of a value; nothing where it is none.
-fn put_text_of(rule: &[u8], table: &[u8], v: Value, at: usize, output: &mut [u8]) -> usize
-    requires { at + length (text_in rule.now table.now v) ≤ length output.old }
-    ensures { Wrote output.old at (text_in rule.now table.now v) result output.new }
-{
-    match v {
-        Value::RuleText(start, size) => put_bytes(output, at, place_text(rule, start, size)),
-        Value::TableText(start, size) => put_bytes(output, at, place_text(table, start, size)),
-        _ => at,
+        Value::RuleText(start, size) => place_text(rule, start, size),
+        Value::TableText(start, size) => place_text(table, start, size),
+        _ => &[],
     }
 }
 
@@ -45,7 +27,7 @@ pub(crate) fn text_length(rule: &[u8], table: &[u8], work: &[u8], rows: usize) -
 {
     let mut sum: usize = 0;
     for i in 0..rows {
-        sum += text_size(rule, table, get_slot(work, i));
+        sum += text_of(rule, table, get_slot(work, i)).len();
     }
     sum
 }
@@ -66,7 +48,7 @@ pub(crate) fn put_offsets(
     let mut p = at;
     for i in 0..rows {
         p = put_number(output, p, false, sum as u64);
-        sum += text_size(rule, table, get_slot(work, i));
+        sum += text_of(rule, table, get_slot(work, i)).len();
     }
     put_number(output, p, false, sum as u64)
 }
@@ -85,7 +67,7 @@ pub(crate) fn put_texts(
 {
     let mut p = at;
     for i in 0..rows {
-        p = put_text_of(rule, table, get_slot(work, i), p, output);
+        p = put_bytes(output, p, text_of(rule, table, get_slot(work, i)));
     }
     p
 }

@@ -1,4 +1,4 @@
-use mathlib.Core.Path.{ap}
+use mathlib.Core.Path.{ap, ◌∙◌}
 use Rattle.scalar.specs.Order.{text_in}
 use Rattle.writer.proofs.WroteLaws.{so_far_none, so_far_room, so_far_more, wrote_as, room_as}
 use Rattle.writer.proofs.texts.put_texts.Goals as goal
@@ -6,8 +6,8 @@ use Rattle.writer.proofs.texts.put_texts.Goals as goal
 pub loop-i-init : goal.loop-i-init
 loop-i-init c = so_far_none c.requires.1
 
-pub put_text_of-p-requires : goal.put_text_of-p-requires
-put_text_of-p-requires c = room_as _ _ (ap (text_in c.args.rule.now c.args.table.now) c.get_slot.ensures) (so_far_room c.loop-i.invariant c.requires.1 c.loop-i-test.true)
+pub put_bytes-p-requires : goal.put_bytes-p-requires
+put_bytes-p-requires c = room_as _ _ (c.text_of.ensures ∙ ap (text_in c.args.rule.now c.args.table.now) c.get_slot.ensures) (so_far_room c.loop-i.invariant c.requires.1 c.loop-i-test.true)
 
 pub loop-i-preserved : goal.loop-i-preserved
-loop-i-preserved c = so_far_more c.loop-i.invariant c.loop-i-test.true (wrote_as (ap (text_in c.args.rule.now c.args.table.now) c.get_slot.ensures) c.put_text_of-p.ensures)
+loop-i-preserved c = so_far_more c.loop-i.invariant c.loop-i-test.true (wrote_as (c.text_of.ensures ∙ ap (text_in c.args.rule.now c.args.table.now) c.get_slot.ensures) c.put_bytes-p.ensures)
