@@ -1,6 +1,5 @@
 -- The entries of a column in slots. Assumes nothing.
 use Rattle.std.proofs.Common.{◌≡◌, ℕ, ◌+◌, ◌*◌, ◌%◌, ◌^◌, ◌<◌, Bool, true, false, cond, eqb, List, [], ◌∷◌, sym, refl, ap, ◌∙◌, subst, mod-eq_of_lt}
-use Rattle.std.specs.Int.{from_bool}
 use types.Run.{OneOf, miss}
 use denote.Enum.Declared.{tag_of}
 use Rattle.layout.specs.Bytes.{number_at, bit_at}
@@ -22,11 +21,6 @@ use Rattle.case.specs.Frame.{Filled}
 use Rattle.case.specs.Taking.{EntryRight}
 use Rattle.case.specs.ColumnSlots.{PayloadRight, NumberRight, text_entry, TextRight}
 use Rattle.case.proofs.RowsLaws.{filled_as}
-
--- a Boolean as a number is its mark
-pub boolean_mark : (b : Bool) → from_bool b ≡ mark_number b
-boolean_mark true = refl
-boolean_mark false = refl
 
 -- ---- the payload of a row's value, type by type
 

@@ -31,6 +31,16 @@ front_is l output k e =
     let size : k - 0 ≡ length l = omega arith in
     ap (λ (n : ℕ). take n (output_after (ok l) output)) size ∙ take-append_seam l (drop (length l) output)
 
+-- a run that answers has read its table
+pub table_there : {rule table work output : List ℕ} {a : RustResult ℕ Refusal} {work' output' : List ℕ} {k : ℕ} {b : RustResult TablePlaces Refusal} → Evaluated rule table work output a work' output' → a ≡ Ok k
+    → b ≡ table_answer (read_table table) → IsOk b
+unfolding run table_answer
+table_there {rule} {table} {work} {output} {k = k} g e says =
+    let (l, is, size) = answered_run (call_run rule table work output) k (sym e ∙ g.says) in
+    let a = bind_ok (read_rule rule) _ l is in
+    let t = bind_ok (read_table table) _ l a.2 in
+    ap is_ok says ∙ ap (λ (d : Result Table). is_ok (table_answer_from 5 d)) t.1
+
 module _ {rule table work output : List ℕ} {a : RustResult ℕ Refusal} {work' output' : List ℕ} (g : Evaluated rule table work output a work' output') {out : List ℕ} {r : Option ℕ} {out' : List ℕ} where
   -- the run is refused
   pub listed_refused : {e : Refusal} → a ≡ Err e → Put out 0 (refused_line (number_of e)) r out' → Listed rule table work output out r work' output' out'
@@ -39,15 +49,7 @@ module _ {rule table work output : List ℕ} {a : RustResult ℕ Refusal} {work'
       let is = refused_run (call_run rule table work output) (run_among rule table (length work) (length output)) (sym e ∙ g.says) in
       record { put = put_as (ap (run_lines (rows_in (read_table table))) (sym is)) p; work_is = g.work_is; output_is = g.output_is }
 
-  -- it answers, and so has read its table
-  pub table_there : {k : ℕ} {b : RustResult TablePlaces Refusal} → a ≡ Ok k → b ≡ table_answer (read_table table) → IsOk b
-  unfolding run table_answer
-  table_there {k} {b} e says =
-      let (l, is, size) = answered_run (call_run rule table work output) k (sym e ∙ g.says) in
-      let a = bind_ok (read_rule rule) _ l is in
-      let t = bind_ok (read_table table) _ l a.2 in
-      ap is_ok says ∙ ap (λ (d : Result Table). is_ok (table_answer_from 5 d)) t.1
-
+  -- it answers
   pub listed_answered : {k : ℕ} {b : TablePlaces} {bytes : List ℕ} → a ≡ Ok k → TableRead table (Ok b) → bytes ≡ part output' 0 k
       → Put out 0 (listing b.rows (read_alone b.rows bytes)) r out' → Listed rule table work output out r work' output' out'
   unfolding run_listing

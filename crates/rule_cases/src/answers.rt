@@ -2,7 +2,6 @@
 use layout::number::byte_at;
 use layout::part::part_of;
 use rule::answer::{nullable, projection, read, strategy};
-use scalar::types::mark_number;
 
 // The bytes stored before the columns.
 pub(crate) const FACTS: usize = 5;
@@ -25,7 +24,7 @@ fn strategy_agrees(rule: &[u8], refused: u8, number: u8) -> bool {
 fn nullable_agrees(rule: &[u8], refused: u8, mark: u8) -> bool {
     match nullable(rule) {
         Err(e) => e.number() == refused,
-        Ok(b) => refused == 0 && mark_number(b) == mark,
+        Ok(b) => refused == 0 && u8::from(b) == mark,
     }
 }
 

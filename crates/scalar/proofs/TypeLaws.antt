@@ -4,6 +4,7 @@ use mathlib.Core.Bool.{false≢true}
 use Rattle.layout.specs.Result.{ok}
 use Rattle.layout.specs.Refusals.{among}
 use Rattle.layout.proofs.ResultLaws.{refused_not_ok, ok_injective, RefusedAmong, ok_among, refused_among}
+use Rattle.std.specs.Int.{from_bool}
 use Rattle.scalar.specs.declared.types.DataType.{DataType}
 use Rattle.std.specs.Prelude.{Option, Some, None}
 use Rattle.scalar.specs.declared.types.DataType.TheVariants.{Boolean, Int32, Int64, Float64, Utf8}
@@ -259,3 +260,8 @@ type_means_lem n k e = ap (type_means n) e ∙ go k
     go (suc (suc (suc (suc zero)))) = refl
     go (suc (suc (suc (suc (suc zero))))) = refl
     go (suc (suc (suc (suc (suc (suc j)))))) = refl
+
+-- a Boolean as a number is its mark
+pub boolean_mark : (b : Bool) → from_bool b ≡ mark_number b
+boolean_mark true = refl
+boolean_mark false = refl

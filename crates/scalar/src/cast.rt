@@ -8,7 +8,7 @@ ghost use Rattle.scalar.specs.Cast.{can_fail_to_fit};
 ghost use Rattle.scalar.specs.Casts.{float_as, kept_as, cast_value};
 
 use crate::truncate::{truncated_int32, truncated_int64};
-use crate::types::{DataType, is_integer, mark_number};
+use crate::types::{DataType, is_integer};
 use crate::value::{Value, float_bits};
 
 // Whether a cast from a type to a type can fail to fit: Int64 to Int32, Float64 to an integer.
@@ -63,8 +63,8 @@ pub fn from_boolean(to: DataType, b: bool) -> Value
 {
     match to {
         DataType::Boolean => Value::Boolean(b),
-        DataType::Int32 => Value::Int32(mark_number(b) as u32),
-        DataType::Int64 => Value::Int64(mark_number(b) as u64),
+        DataType::Int32 => Value::Int32(u32::from(b)),
+        DataType::Int64 => Value::Int64(u64::from(b)),
         _ => Value::Failed,
     }
 }

@@ -5,7 +5,7 @@ ghost use Rattle.layout.specs.Field.{field_bytes};
 ghost use Rattle.scalar.specs.Types.{type_number, mark_number};
 ghost use Rattle.writer.specs.Writing.{Wrote, Gives, width_of, row_bytes, plain_numbers};
 
-use scalar::types::{DataType, mark_number};
+use scalar::types::DataType;
 
 // One byte.
 pub(crate) fn put_byte(output: &mut [u8], at: usize, b: u8) -> usize
@@ -73,7 +73,7 @@ pub(crate) fn put_type(output: &mut [u8], at: usize, t: DataType, nullable: bool
 {
     let p = put_header(output, at, 2, 2);
     let q = put_byte(output, p, t.number());
-    put_byte(output, q, mark_number(nullable))
+    put_byte(output, q, u8::from(nullable))
 }
 
 // Tag 6: how many rows are null.

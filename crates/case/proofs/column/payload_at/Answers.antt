@@ -1,6 +1,7 @@
 -- `payload_at` goes by the type.
 use Rattle.std.proofs.Common.{◌∙◌}
-use Rattle.case.proofs.ColumnSlotLaws.{boolean_mark, boolean_payload, int32_payload, int64_payload, float64_payload}
+use Rattle.scalar.proofs.TypeLaws.{boolean_mark}
+use Rattle.case.proofs.ColumnSlotLaws.{boolean_payload, int32_payload, int64_payload, float64_payload}
 use Rattle.case.proofs.column.payload_at.Goals as goal
 
 pub returns-in-Boolean : goal.returns-in-Boolean

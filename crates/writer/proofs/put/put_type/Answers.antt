@@ -2,6 +2,8 @@
 use native.Mathlib.Omega.{arith}
 use Rattle.layout.specs.Bytes.{number_bytes}
 use Rattle.layout.specs.Field.{field_bytes}
+use Rattle.std.proofs.Common.{◌∙◌}
+use Rattle.scalar.proofs.TypeLaws.{boolean_mark}
 use Rattle.writer.proofs.WroteLaws.{wrote_then, wrote_long, wrote_byte, header_room}
 use Rattle.writer.proofs.put.put_type.Goals as goal
 
@@ -13,4 +15,4 @@ put_byte-requires c = omega (arith, header_room 2 c.put_header-p.ensures 2 (omeg
 
 pub returns : goal.returns
 unfolding field_bytes number_bytes
-returns c = wrote_then (wrote_then c.put_header-p.ensures (wrote_byte c.number.ensures c.put_byte-q.ensures)) (wrote_byte c.mark_number.ensures c.put_byte.ensures)
+returns c = wrote_then (wrote_then c.put_header-p.ensures (wrote_byte c.number.ensures c.put_byte-q.ensures)) (wrote_byte (c.from.ensures ∙ boolean_mark c.args.nullable) c.put_byte.ensures)
