@@ -5,7 +5,7 @@
 mod answers;
 mod record;
 
-use files::{argument, argument_count, fail, large_buffer, open, path_buffer, read_full};
+use files::{argument, argument_count, large_buffer, load, path_buffer};
 use record::{Differs, compare};
 use std::io;
 use std::rt::{Env, Files};
@@ -25,16 +25,11 @@ fn print_compared(
 
 // Compares the rules of a file.
 fn compare_file(rt: &(impl Files + Print + Eprint), path: &[u8]) -> io::Result<()> {
-    let mut file = match open(rt, path) {
-        Ok(file) => file,
-        Err(error) => {
-            fail(rt, path, error);
-            return Ok(());
-        }
-    };
     let mut buffer = large_buffer();
-    let size = read_full(&mut file, &mut buffer);
-    print_compared(rt, path, compare(&buffer[..size]))
+    match load(rt, path, &mut buffer) {
+        Some(size) => print_compared(rt, path, compare(&buffer[..size])),
+        None => Ok(()),
+    }
 }
 
 // Compares the rules of the file that an argument names.
