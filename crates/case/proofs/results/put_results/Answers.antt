@@ -4,9 +4,6 @@ use Rattle.case.proofs.ResultLaws.{put_known, put_behind}
 use Rattle.case.proofs.results.put_results.Goals as goal
 use Rattle.case.proofs.results.put_results.Goals.{then-j-lt258, else-j-lt258}
 
-pub put_parts-requires : goal.put_parts-requires
-put_parts-requires c = row_fits c.loop-i.invariant c.requires.fillable c.loop-i-test.true c.row_at-r.ensures
-
 pub put_parts-requires-else-j-lt258 : goal.put_parts-requires-else-j-lt258
 put_parts-requires-else-j-lt258 c = row_fits c.loop-i.invariant c.requires.fillable c.loop-i-test.true c.row_at-r.ensures
 
@@ -18,3 +15,6 @@ bounds-values-r c = omega (arith, (row_fits c.loop-i.invariant c.requires.fillab
 
 pub offset_bounds-values-r : goal.offset_bounds-values-r
 offset_bounds-values-r c = omega (arith, (row_fits c.loop-i.invariant c.requires.fillable c.loop-i-test.true c.row_at-r.ensures).0)
+
+pub put_parts-requires : goal.put_parts-requires
+put_parts-requires c = row_fits c.loop-i.invariant c.requires.fillable c.loop-i-test.true c.row_at-r.ensures

@@ -2,8 +2,8 @@
 use Rattle.case.proofs.SettleLaws.{part_asks, settles}
 use Rattle.case.proofs.settle.settle_rows.Goals as goal
 
-pub add_part-builder-requires : goal.add_part-builder-requires
-add_part-builder-requires g c = part_asks c.requires.fact c.split-m.ensures c.split-m.auto.rows c.split-m.auto.values
-
 pub returns : goal.returns
 returns g c = settles c.requires.fact c.split-m.ensures c.split-m.auto.rows c.split-m.auto.values c.add_part-builder.ensures
+
+pub add_part-builder-requires : goal.add_part-builder-requires
+add_part-builder-requires g c = part_asks c.requires.fact c.split-m.ensures c.split-m.auto.rows c.split-m.auto.values
