@@ -15,7 +15,7 @@ use scalar::types::DataType;
 pub(crate) fn put_refused(refusal: Refusal, at: usize, out: &mut [u8]) -> Option<usize>
     ensures { Put out.old at (refused_line (number_of refusal)) result out.new }
 {
-    let n = u64::from(refusal.number());
+    let n = refusal.number() as u64;
     let k = decimal_places(n);
     if !room(out.len(), at, k + 9) {
         return None;
