@@ -123,13 +123,13 @@ pub take_else-returns-then-byte_at-eq-LITERAL : goal.take_else-returns-then-byte
 take_else-returns-then-byte_at-eq-LITERAL t c = else_known_lem (sym c.byte_at.ensures ∙ c.if-byte_at-eq-LITERAL.true)
 
 pub take_else-returns : goal.take_else-returns
-take_else-returns t c = else_takes c.args.values.now c.requires.framed c.requires.depth_nonzero.0 c.pick-m.ensures c.if-at-end.false c.expr.ensures c.args.to c.apply.ensures c.copy_slots.ensures
+take_else-returns t c = else_takes c.args.values.now c.requires.framed c.requires.depth_nonzero c.pick-m.ensures c.if-at-end.false c.expr.ensures c.args.to c.apply.ensures c.copy_slots.ensures
 
 pub then-returns-then-byte_at-eq-LITERAL : goal.then-returns-then-byte_at-eq-LITERAL
 then-returns-then-byte_at-eq-LITERAL t c = then_known (sym c.byte_at.ensures ∙ c.if-byte_at-eq-LITERAL.true)
 
 pub then-returns : goal.then-returns
-then-returns t c = then_takes (next_takes c.args.values.now c.requires.framed c.requires.depth_nonzero.0 c.pick-m.ensures (picked_next c.args.values.now c.requires.framed c.requires.depth_nonzero.0 c.pick-m.ensures c.expr.ensures) c.copy_slots.ensures)
+then-returns t c = then_takes (next_takes c.args.values.now c.requires.framed c.requires.depth_nonzero c.pick-m.ensures (picked_next c.args.values.now c.requires.framed c.requires.depth_nonzero c.pick-m.ensures c.expr.ensures) c.copy_slots.ensures)
 
 pub turn-returns-then-step_when : goal.turn-returns-then-step_when
 turn-returns-then-step_when t c = step_turn c.requires.ahead _ c.asks_true.ensures c.step_when.ensures c.if-step_when.true c.settle_by.ensures
@@ -159,7 +159,7 @@ pub binary-against-requires : goal.binary-against-requires
 binary-against-requires t c = let q = c.decreases in (omega arith, framed_kept c.requires (c.args.depth + 1) (omega arith) _ c.expr.ensures.long c.expr.ensures.low)
 
 pub branches-take-requires : goal.branches-take-requires
-branches-take-requires t c = let q = c.decreases in (omega arith, (branches_framed c.requires.framed c.requires.depth_nonzero.0 c.requires.depth_nonzero.1 c.choose-s.ensures c.else_values-values.ensures, (c.requires.depth_nonzero.0, omega arith)))
+branches-take-requires t c = let q = c.decreases in (omega arith, (branches_framed c.requires.framed c.requires.depth_nonzero.0 c.requires.depth_nonzero.1 c.choose-s.ensures c.else_values-values.ensures, c.requires.depth_nonzero.0))
 
 pub by_base-settle-s-requires : goal.by_base-settle-s-requires
 by_base-settle-s-requires t c = let l = c.copy_list.ensures.long in let r = c.requires.framed.room in record { fact = open_self (c.open_builder-b.ensures.0 _ _ (rows_to _ _ 0 5632 _ _ c.copy_list.ensures.rows_copied c.requires.framed.list_ok)); in_bounds = omega arith; index_nonzero = (omega arith, omega arith) }
@@ -195,19 +195,19 @@ pub take-take_else-requires : goal.take-take_else-requires
 take-take_else-requires t c = let q = c.decreases in (omega arith, (take_framed (start_framed c.requires.framed c.start_results.ensures) c.loop-k.invariant, c.requires.depth_nonzero))
 
 pub take_else-expr-requires : goal.take_else-expr-requires
-take_else-expr-requires t c = let q = c.decreases in (omega arith, picked_asks c.args.values.now c.requires.framed c.requires.depth_nonzero.0 c.pick-m.ensures)
+take_else-expr-requires t c = let q = c.decreases in (omega arith, picked_asks c.args.values.now c.requires.framed c.requires.depth_nonzero c.pick-m.ensures)
 
 pub take_else-apply-requires : goal.take_else-apply-requires
-take_else-apply-requires t c = next_fillable c.args.values.now c.requires.framed c.requires.depth_nonzero.0 c.pick-m.ensures (else_next c.args.values.now c.requires.framed c.requires.depth_nonzero.0 c.pick-m.ensures c.if-at-end.false c.expr.ensures)
+take_else-apply-requires t c = next_fillable c.args.values.now c.requires.framed c.requires.depth_nonzero c.pick-m.ensures (else_next c.args.values.now c.requires.framed c.requires.depth_nonzero c.pick-m.ensures c.if-at-end.false c.expr.ensures)
 
 pub take_else-copy_slots-requires : goal.take_else-copy_slots-requires
-take_else-copy_slots-requires t c = let q = next_asks c.args.values.now c.requires.framed c.requires.depth_nonzero.0 c.pick-m.ensures (else_again c.args.values.now c.requires.framed c.requires.depth_nonzero.0 c.pick-m.ensures c.if-at-end.false c.expr.ensures c.args.to c.apply.ensures) in record { fillable_from = q.0; in_bounds = q.1 }
+take_else-copy_slots-requires t c = let q = next_asks c.args.values.now c.requires.framed c.requires.depth_nonzero c.pick-m.ensures (else_again c.args.values.now c.requires.framed c.requires.depth_nonzero c.pick-m.ensures c.if-at-end.false c.expr.ensures c.args.to c.apply.ensures) in record { fillable_from = q.0; in_bounds = q.1 }
 
 pub then-expr-requires : goal.then-expr-requires
-then-expr-requires t c = let q = c.decreases in (omega arith, picked_asks c.args.values.now c.requires.framed c.requires.depth_nonzero.0 c.pick-m.ensures)
+then-expr-requires t c = let q = c.decreases in (omega arith, picked_asks c.args.values.now c.requires.framed c.requires.depth_nonzero c.pick-m.ensures)
 
 pub then-copy_slots-requires : goal.then-copy_slots-requires
-then-copy_slots-requires t c = let q = next_asks c.args.values.now c.requires.framed c.requires.depth_nonzero.0 c.pick-m.ensures (picked_next c.args.values.now c.requires.framed c.requires.depth_nonzero.0 c.pick-m.ensures c.expr.ensures) in record { fillable_from = q.0; in_bounds = q.1 }
+then-copy_slots-requires t c = let q = next_asks c.args.values.now c.requires.framed c.requires.depth_nonzero c.pick-m.ensures (picked_next c.args.values.now c.requires.framed c.requires.depth_nonzero c.pick-m.ensures c.expr.ensures) in record { fillable_from = q.0; in_bounds = q.1 }
 
 pub turn-expr-requires : goal.turn-expr-requires
 turn-expr-requires t c = let q = c.decreases in (omega arith, turn_asks c.requires.ahead c.copy_list.ensures)

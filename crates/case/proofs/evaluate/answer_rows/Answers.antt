@@ -14,7 +14,7 @@ pub returns : goal.returns
 returns c = by_slots c.requires c.all_rows.ensures c.class_rows.ensures c.expr.ensures c.write_answer.ensures c.run_of-2.ensures
 
 pub class_rows-requires : goal.class_rows-requires
-class_rows-requires c = record { root_asks = root_asks c.requires c.all_rows.ensures; classes_len = (refl, refl, refl, zeros 258) }
+class_rows-requires c = record { root_asks = root_asks c.requires c.all_rows.ensures; kinds_len = (refl, refl, zeros 258) }
 
 pub run_of-requires : goal.run_of-requires
 run_of-requires c = classes_column c.requires c.all_rows.ensures c.class_rows.ensures c.if-class_rows.true (c.write_classes.ensures [] [])

@@ -11,4 +11,4 @@ pub returns : goal.returns
 returns c = then_case c.if-kinds-class.false c.pick-m.ensures c.nested_case.ensures
 
 pub nested_case-requires : goal.nested_case-requires
-nested_case-requires c = record { framed = picked_asks {depth = 1} c.args.classes.now c.requires.framed (omega arith) c.pick-m.ensures; classes_len = (c.requires.classes_len.0, c.requires.classes_len.1, c.requires.classes_len.2) }
+nested_case-requires c = record { framed = picked_asks {depth = 1} c.args.classes.now c.requires.framed (omega arith) c.pick-m.ensures; arrays = (c.requires.arrays.0, c.requires.arrays.1) }
