@@ -232,8 +232,8 @@ def numbers():
     for name, codes in (("RULE_ACCEPTED", ("rule", "strategy", "nullable", "projection")), ("TABLE_ACCEPTED", ("table", "null_count")),
                         ("ANSWERED", ("run", "answer_count"))):
         for code in codes:
-            yield f"TEMBALKU_{name}, {code}_code", macro(name), int(found(rf"^{code}_code (?:rows )?\((?:ok|Nulls) \w+\) = (\d+) \+", CODES))
-    yield "TEMBALKU_NO_COLUMN", macro("NO_COLUMN"), int(found(r"^null_count_code NoColumn = (\d+)$", CODES))
+            yield f"TEMBALKU_{name}, {code}_code", macro(name), int(found(rf"^{code}_code (?:rows )?\((?:ok \w+|Ok \(Some \w+\))\) = (\d+) \+", CODES))
+    yield "TEMBALKU_NO_COLUMN", macro("NO_COLUMN"), int(found(r"^null_count_code \(Ok None\) = (\d+)$", CODES))
     yield "a missing column, in words", int(found(r"their number; or (\d+)\n \* \(TEMBALKU_NO_COLUMN\), which is no refusal", HEADER)), macro("NO_COLUMN")
     yield "the types", enum("type"), {upper(name): n for name, n in numbered("type_number", "crates/scalar/specs/Types.antt").items()}
     yield "the strategies", enum("strategy"), {upper(name): n for name, n in numbered("strategy_number", "crates/rule/specs/Strategy.antt").items()}

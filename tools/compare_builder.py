@@ -19,7 +19,7 @@ import tempfile
 HERE = os.path.dirname(os.path.dirname(os.path.abspath(__file__)))
 ORACLE = os.path.join(HERE, "tools", "rust_oracle", "target", "release", "rust-oracle")
 BELOW = ("layout", "files", "builder")
-CRATES = "layout:\nfiles:\nbuilder: layout\nbuilder_lines: files builder\n"
+CRATES = "layout:\nfiles: layout\nbuilder: layout\nbuilder_lines: layout files builder\n"
 COMPARED = "built, or refused with 19 or 21"
 CLASSES = {0: COMPARED, 19: COMPARED, 21: COMPARED, 20: "a row held twice (20)", 18: "a row beyond the count, or not rising (18)",
            10: "more than 512 rows (10)"}
