@@ -5,7 +5,7 @@ ghost use Rattle.scalar.specs.Value.{meaning, GivesBoth};
 ghost use Rattle.case.specs.Frame.{slot_at, next_slot, Rows, Fillable, Filled};
 ghost use Rattle.case.specs.Taking.{comparison, order_value, OrderRight, RowsOrdered};
 
-use crate::rows::{fill_rows, row_at};
+use crate::rows::{ROWS_MOST, fill_rows, row_at};
 use crate::slot::{get_slot, next_slot};
 use scalar::order::{Order, is_text, key_of, key_order, text_in, text_order};
 use scalar::value::Value;
@@ -63,10 +63,10 @@ pub(crate) fn compare_list(
     n: usize,
     fixed: bool,
     b: Value,
-    orders: &mut [Order],
+    orders: &mut [Order; ROWS_MOST],
 )
     requires rows { Rows work.now at n 512 × (at + 2 * n ≤ length work.now) }
-    requires in_bounds { (12288 ≤ length work.now) × (length orders.old ≡ 512) }
+    requires in_bounds { 12288 ≤ length work.now }
     ensures { RowsOrdered (λ r o. OrderRight rule.now table.now (slot_at work.now r) (if fixed then b else next_slot work.now r) o) work.now at n orders.new }
 {
     for i in 0..n {
@@ -78,8 +78,8 @@ pub(crate) fn compare_list(
 }
 
 // The value of each listed row's comparison, in the row's slot.
-fn put_orders(work: &mut [u8], n: usize, less: bool, orders: &[Order])
-    requires { Fillable work.old n × (512 ≤ length orders.now) }
+fn put_orders(work: &mut [u8], n: usize, less: bool, orders: &[Order; ROWS_MOST])
+    requires { Fillable work.old n }
     ensures { Filled (λ r v. v ≡ order_value less (slice_index_or orders.now r Order.Less)) work.old n work.new }
 {
     fill_rows(work, n, |row| order_value(less, orders[row]));
@@ -91,7 +91,7 @@ pub(crate) fn compare_rows(rule: &[u8], table: &[u8], work: &mut [u8], n: usize,
     requires in_bounds { 12288 ≤ length work.old }
     ensures { Filled (λ r v. GivesBoth (comparison less) rule.now table.now (slot_at work.old r) (next_slot work.old r) v) work.old n work.new }
 {
-    let mut orders = [Order::Unlike; 512];
+    let mut orders = [Order::Unlike; ROWS_MOST];
     compare_list(rule, table, work, 0, n, false, Value::Null, &mut orders);
     put_orders(work, n, less, &orders);
 }
@@ -109,7 +109,7 @@ pub(crate) fn compare_value(
     requires in_bounds { 12288 ≤ length work.old }
     ensures { Filled (λ r v. GivesBoth (comparison less) rule.now table.now (slot_at work.old r) b v) work.old n work.new }
 {
-    let mut orders = [Order::Unlike; 512];
+    let mut orders = [Order::Unlike; ROWS_MOST];
     compare_list(rule, table, work, 0, n, true, b, &mut orders);
     put_orders(work, n, less, &orders);
 }

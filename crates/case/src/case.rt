@@ -13,7 +13,7 @@ use crate::literal::{LITERAL, fill_literal, scalar_rows};
 use crate::literal_lookup_table::look_up;
 use crate::merge::else_values;
 use crate::results::start_results;
-use crate::rows::{Op, apply, copy_list, operator_at};
+use crate::rows::{Op, ROWS_MOST, apply, copy_list, operator_at};
 use crate::settle::{Leave, Settled, open_builder, settle, settle_by};
 use crate::steps::{step_values, step_when};
 use crate::taking::{copy_slots, pick};
@@ -182,7 +182,7 @@ fn case_when_no_expr(
     let count = byte_at(rule, start + 4);
     let at = children_at(rule, start);
     let to = type_of(rule, start);
-    let mut values = [0u16; 512];
+    let mut values = [0u16; ROWS_MOST];
     if step_values(rule, at, count, table, t, work, n, &mut values) {
         take(rule, at, end, table, t, work, n, &values, count, to, depth);
         return;
@@ -312,7 +312,7 @@ fn scalar_or_scalar(
 {
     let at = children_at(rule, start);
     let to = type_of(rule, start);
-    let mut values = [0u16; 512];
+    let mut values = [0u16; ROWS_MOST];
     if step_values(rule, at, 1, table, t, work, n, &mut values) {
         take(rule, at, end, table, t, work, n, &values, 1, to, depth);
         return;
@@ -340,7 +340,7 @@ fn expr_or_expr(
 {
     let at = children_at(rule, start);
     let to = type_of(rule, start);
-    let mut values = [0u16; 512];
+    let mut values = [0u16; ROWS_MOST];
     if step_values(rule, at, 1, table, t, work, n, &mut values) {
         take(rule, at, end, table, t, work, n, &values, 1, to, depth);
         return;
@@ -386,7 +386,7 @@ fn with_lookup_table(
     let at = children_at(rule, start);
     let first = field_end(rule, at);
     let to = type_of(rule, start);
-    let mut values = [0u16; 512];
+    let mut values = [0u16; ROWS_MOST];
     if lookup_values(rule, at, end, count, table, t, work, n, &mut values) {
         start_results(rule, first, end, count, to, work, n, &values);
         return;
@@ -480,7 +480,7 @@ fn turn(
     requires index_nonzero { (0 < index) × (0 < failed) }
     ensures { Sifts (WhenRight rule.now start end table.now t depth how index failed work.old) work.old left t.rows b result.left result.builder work.new }
 {
-    let mut whens = [0u16; 512];
+    let mut whens = [0u16; ROWS_MOST];
     if step_when(
         how.asks_true(),
         rule,
@@ -510,13 +510,13 @@ fn take(
     t: Table,
     work: &mut [u8],
     n: usize,
-    values: &[u16],
+    values: &[u16; ROWS_MOST],
     count: u8,
     to: DataType,
     depth: usize,
 )
     requires framed { Framed table.now t work.old n (depth + 1) }
-    requires depth_nonzero { (0 < depth) × (512 ≤ length values.now) }
+    requires depth_nonzero { 0 < depth }
     ensures { Done (TakeRight rule.now at end table.now t depth count to values.now) work.old n work.new }
 {
     let els = count as u16 + 1;
@@ -541,12 +541,12 @@ fn then(
     t: Table,
     work: &mut [u8],
     n: usize,
-    values: &[u16],
+    values: &[u16; ROWS_MOST],
     k: u16,
     depth: usize,
 )
     requires framed { Framed table.now t work.old n (depth + 1) }
-    requires depth_nonzero { (0 < depth) × (512 ≤ length values.now) }
+    requires depth_nonzero { 0 < depth }
     ensures { Takes values.now k (ThenRight rule.now start end table.now t depth) work.old n work.new }
 {
     if byte_at(rule, start) == LITERAL {
@@ -567,13 +567,13 @@ fn take_else(
     t: Table,
     work: &mut [u8],
     n: usize,
-    values: &[u16],
+    values: &[u16; ROWS_MOST],
     k: u16,
     to: DataType,
     depth: usize,
 )
     requires framed { Framed table.now t work.old n (depth + 1) }
-    requires depth_nonzero { (0 < depth) × (512 ≤ length values.now) }
+    requires depth_nonzero { 0 < depth }
     ensures { Takes values.now k (ElseRight rule.now at end table.now t depth to) work.old n work.new }
 {
     if at == end {

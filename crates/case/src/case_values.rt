@@ -6,6 +6,7 @@ ghost use Rattle.case.specs.Evaluation.{Framed};
 ghost use Rattle.case.specs.Classes.{CaseSteps, CaseKeys, CaseValues};
 
 use crate::column_lookup::lookup_values;
+use crate::rows::ROWS_MOST;
 use crate::steps::step_values;
 use layout::number::byte_at;
 use rule::strategy::{Strategy, strategy_at};
@@ -24,10 +25,9 @@ fn case_steps(
     t: Table,
     work: &[u8],
     n: usize,
-    values: &mut [u16],
+    values: &mut [u16; ROWS_MOST],
 ) -> Option<usize>
-    requires framed { Framed table.now t work.now n 1 }
-    requires values_len { length values.old ≡ 512 }
+    requires { Framed table.now t work.now n 1 }
     ensures { CaseSteps rule.now at count table.now t work.now n values.new result }
 {
     if step_values(rule, at, count, table, t, work, n, values) {
@@ -46,10 +46,9 @@ fn case_keys(
     t: Table,
     work: &[u8],
     n: usize,
-    values: &mut [u16],
+    values: &mut [u16; ROWS_MOST],
 ) -> Option<usize>
-    requires framed { Framed table.now t work.now n 1 }
-    requires values_len { length values.old ≡ 512 }
+    requires { Framed table.now t work.now n 1 }
     ensures { CaseKeys rule.now at end count table.now t work.now n values.new result }
 {
     if lookup_values(rule, at, end, count, table, t, work, n, values) {
@@ -67,10 +66,9 @@ pub(crate) fn case_values(
     t: Table,
     work: &[u8],
     n: usize,
-    values: &mut [u16],
+    values: &mut [u16; ROWS_MOST],
 ) -> Option<usize>
-    requires framed { Framed table.now t work.now n 1 }
-    requires values_len { length values.old ≡ 512 }
+    requires { Framed table.now t work.now n 1 }
     ensures { CaseValues rule.now start end table.now t work.now n values.new result }
 {
     if byte_at(rule, start) != CASE {

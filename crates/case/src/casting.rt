@@ -49,6 +49,7 @@ fn truncate_row(work: &mut [u8], row: usize, short: bool, tried: bool) -> bool
     requires { (row < 512) × (5632 ≤ length work.old) }
     ensures { RowTruncated short tried work.old row result work.new }
 {
+    // fixed memory: the kind of a slot is a byte, 4 of a float and 0 of null, and the float's bits are cast as they stand there.
     let kind = work[1024 + 9 * row];
     if kind == 4 {
         let bits = long(work, 1025 + 9 * row);

@@ -12,7 +12,7 @@ use crate::bytes_like_lookup_table::BytesLikeIndexMap;
 use crate::keys::column_keys;
 use crate::literal_lookup_table::{BRANCHES_MOST, LiteralLookupTable};
 use crate::primitive_lookup_table::{DenseIndexMap, PrimitiveIndexMap};
-use crate::rows::row_at;
+use crate::rows::{ROWS_MOST, row_at};
 use crate::slot::word;
 use crate::when_literal_index_map::WhenLiteralIndexMap;
 use layout::number::byte_at;
@@ -26,8 +26,13 @@ use table::places::{ColumnPlace, Table};
 const COLUMNS_MOST: usize = 16;
 
 // The index of a row, from 1, by the number of its value: of a null the ELSE index.
-fn number_row(validity: &[u8], column: &[u64], map: &PrimitiveIndexMap, row: usize) -> u16
-    requires { (length column.now ≡ 512) × (row < 512) }
+fn number_row(
+    validity: &[u8],
+    column: &[u64; ROWS_MOST],
+    map: &PrimitiveIndexMap,
+    row: usize,
+) -> u16
+    requires { row < 512 }
     ensures { NumberRow validity.now column.now map.now.numbers map.now.indices map.now.size map.now.else_index row result }
 {
     if !valid_at(validity, row) {
@@ -40,14 +45,13 @@ fn number_row(validity: &[u8], column: &[u64], map: &PrimitiveIndexMap, row: usi
 // The index of each listed row.
 fn number_rows(
     validity: &[u8],
-    column: &[u64],
+    column: &[u64; ROWS_MOST],
     map: &PrimitiveIndexMap,
     work: &[u8],
     n: usize,
-    values: &mut [u16],
+    values: &mut [u16; ROWS_MOST],
 )
-    requires column_len { length column.now ≡ 512 }
-    requires rows { Rows work.now 0 n 512 × (2 * n ≤ length work.now) × (length values.old ≡ 512) }
+    requires { Rows work.now 0 n 512 × (2 * n ≤ length work.now) }
     ensures { RowsIndexed (NumberRow validity.now column.now map.now.numbers map.now.indices map.now.size map.now.else_index) work.now 0 n values.new }
 {
     for i in 0..n {
@@ -57,8 +61,8 @@ fn number_rows(
 }
 
 // The index of a row, from 1, by a dense table: at a number's distance from the least. Of a null, and of a number beyond the table, the ELSE index.
-fn dense_row(validity: &[u8], column: &[u64], map: &DenseIndexMap, row: usize) -> u16
-    requires { (length column.now ≡ 512) × (row < 512) }
+fn dense_row(validity: &[u8], column: &[u64; ROWS_MOST], map: &DenseIndexMap, row: usize) -> u16
+    requires { row < 512 }
     ensures { result ≡ dense_row validity.now column.now map.now.least map.now.answers map.now.else_index row }
 {
     if !valid_at(validity, row) {
@@ -78,14 +82,13 @@ fn dense_row(validity: &[u8], column: &[u64], map: &DenseIndexMap, row: usize) -
 // The index of each listed row by a dense table.
 fn dense_rows(
     validity: &[u8],
-    column: &[u64],
+    column: &[u64; ROWS_MOST],
     map: &DenseIndexMap,
     work: &[u8],
     n: usize,
-    values: &mut [u16],
+    values: &mut [u16; ROWS_MOST],
 )
-    requires column_len { length column.now ≡ 512 }
-    requires rows { Rows work.now 0 n 512 × (2 * n ≤ length work.now) × (length values.old ≡ 512) }
+    requires { Rows work.now 0 n 512 × (2 * n ≤ length work.now) }
     ensures { RowsIndexed (λ r c. c ≡ dense_row validity.now column.now map.now.least map.now.answers map.now.else_index r) work.now 0 n values.new }
 {
     for i in 0..n {
@@ -97,14 +100,13 @@ fn dense_rows(
 // The index of each listed row by the numbers of a column: by a dense table where the keys allow it, else by the hints.
 fn keyed_rows(
     validity: &[u8],
-    column: &[u64],
+    column: &[u64; ROWS_MOST],
     map: &PrimitiveIndexMap,
     work: &[u8],
     n: usize,
-    values: &mut [u16],
+    values: &mut [u16; ROWS_MOST],
 )
-    requires column_len { length column.now ≡ 512 }
-    requires rows { Rows work.now 0 n 512 × (2 * n ≤ length work.now) × (length values.old ≡ 512) }
+    requires { Rows work.now 0 n 512 × (2 * n ≤ length work.now) }
     ensures { RowsIndexed (NumberRow validity.now column.now map.now.numbers map.now.indices map.now.size map.now.else_index) work.now 0 n values.new }
 {
     match map.dense() {
@@ -155,9 +157,9 @@ fn text_rows(
     map: &BytesLikeIndexMap,
     work: &[u8],
     n: usize,
-    values: &mut [u16],
+    values: &mut [u16; ROWS_MOST],
 )
-    requires { Rows work.now 0 n 512 × (2 * n ≤ length work.now) × (length values.old ≡ 512) }
+    requires { Rows work.now 0 n 512 × (2 * n ≤ length work.now) }
     ensures { RowsIndexed (TextRow map.now.rule.now map.now.table.now validity.now offsets.now texts.now map.now.whens.now.kinds map.now.whens.now.keys map.now.whens.now.indices map.now.whens.now.size map.now.whens.now.else_index) work.now 0 n values.new }
 {
     for i in 0..n {
@@ -174,10 +176,10 @@ fn number_column(
     whens: &WhenLiteralIndexMap,
     work: &[u8],
     n: usize,
-    values: &mut [u16],
+    values: &mut [u16; ROWS_MOST],
 ) -> bool
     requires each_once { (rule : List ℕ) × EachOnce rule table.now whens.now.kinds whens.now.keys whens.now.size }
-    requires rows { Rows work.now 0 n rows × (rows ≤ 512) × (2 * n ≤ length work.now) × (length values.old ≡ 512) × (type_number place.data_type ≤ 4) }
+    requires rows { Rows work.now 0 n rows × (rows ≤ 512) × (2 * n ≤ length work.now) × (type_number place.data_type ≤ 4) }
     ensures { (rule : List ℕ) → ColumnKeyed table.now place whens.now.kinds whens.now.keys whens.now.indices whens.now.size whens.now.else_index work.now n rule result values.new }
 {
     let kind = place.data_type;
@@ -185,7 +187,7 @@ fn number_column(
         return false;
     };
     let entries = part_of(table, place.values.start, place.values.end);
-    let mut column = [0u64; 512];
+    let mut column = [0u64; ROWS_MOST];
     column_keys(kind, entries, rows, &mut column);
     let validity = part_of(table, place.validity.start, place.validity.end);
     keyed_rows(validity, &column, &map, work, n, values);
@@ -200,10 +202,10 @@ fn text_column(
     whens: &WhenLiteralIndexMap,
     work: &[u8],
     n: usize,
-    values: &mut [u16],
+    values: &mut [u16; ROWS_MOST],
 )
     requires each_once { EachOnce rule.now table.now whens.now.kinds whens.now.keys whens.now.size }
-    requires rows { Rows work.now 0 n 512 × (2 * n ≤ length work.now) × (length values.old ≡ 512) × (type_number place.data_type ≡ 5) }
+    requires rows { Rows work.now 0 n 512 × (2 * n ≤ length work.now) × (type_number place.data_type ≡ 5) }
     ensures { ColumnKeyed table.now place whens.now.kinds whens.now.keys whens.now.indices whens.now.size whens.now.else_index work.now n rule.now true values.new }
 {
     let map = BytesLikeIndexMap::new(rule, table, whens);
@@ -224,10 +226,10 @@ fn base_values(
     rows: usize,
     work: &[u8],
     n: usize,
-    values: &mut [u16],
+    values: &mut [u16; ROWS_MOST],
 ) -> bool
     requires rows { Rows work.now 0 n rows × (rows ≤ 512) × (2 * n ≤ length work.now) }
-    requires values_len { (length values.old ≡ 512) × (count ≤ 32) }
+    requires few { count ≤ 32 }
     ensures { BaseGives rule.now at end table.now place count work.now n result values.new }
 {
     let lookup = LiteralLookupTable::read(rule, at, end, table, count as usize);
@@ -250,10 +252,10 @@ pub(crate) fn lookup_values(
     t: Table,
     work: &[u8],
     n: usize,
-    values: &mut [u16],
+    values: &mut [u16; ROWS_MOST],
 ) -> bool
     requires rows { Rows work.now 0 n t.rows × (t.rows ≤ 512) × (2 * n ≤ length work.now) }
-    requires values_len { (length values.old ≡ 512) × (length table.now < 2 ^ 32) }
+    requires table_len_bound { length table.now < 2 ^ 32 }
     ensures { KeyedGive rule.now at end table.now t count work.now n result values.new }
 {
     if byte_at(rule, at) != 16 {

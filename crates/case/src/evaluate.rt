@@ -8,7 +8,7 @@ ghost use Rattle.case.specs.Readings.{ReadAsks, AnswerAsks, AnswerGives};
 use crate::case::expr;
 use crate::fits::fits_table;
 use crate::root::class_rows;
-use crate::rows::all_rows;
+use crate::rows::{ROWS_MOST, all_rows};
 use layout::refusal::Refusal;
 use rule::read::{RuleReading, read_rule};
 use scalar::types::DataType;
@@ -77,7 +77,7 @@ fn answer_rows(
 {
     let rows = t.rows;
     all_rows(work, rows);
-    let mut classes = [0u16; 512];
+    let mut classes = [0u16; ROWS_MOST];
     let mut kinds = [0u8; 258];
     let mut payloads = [0u64; 258];
     if class_rows(

@@ -38,8 +38,7 @@ fn index_fits(mark: u8, index: usize, t: Table) -> bool
 }
 
 // Whether there is no mark from 16 on, which no table has a column for.
-fn none_beyond(marks: &[u8]) -> bool
-    requires { length marks.now ≡ 256 }
+fn none_beyond(marks: &[u8; 256]) -> bool
     ensures { result ≡ list_all (λ m. m == 0) (drop 16 marks.now) }
 {
     marks[16..].iter().all(|mark| *mark == 0)

@@ -3,6 +3,7 @@ ghost use Rattle.std.specs.Prelude.{◌≡◌, ◌*◌, ◌≤◌, length};
 ghost use Rattle.scalar.specs.declared.types.DataType.TheVariants.{Int32, Int64, Float64};
 ghost use Rattle.case.specs.Steps.{KeyAt, KeysAt};
 
+use crate::rows::ROWS_MOST;
 use crate::slot::{long, word};
 use layout::bits::bit_at;
 use scalar::negative::sign_turned;
@@ -25,8 +26,8 @@ fn key_at(kind: DataType, values: &[u8], row: usize) -> u64
 }
 
 // The numbers of the first rows of Int32, all of them there.
-fn int32_keys(values: &[u8], rows: usize, keys: &mut [u64])
-    requires { (length keys.old ≡ 512) × (rows ≤ 512) × (4 * rows ≤ length values.now) }
+fn int32_keys(values: &[u8], rows: usize, keys: &mut [u64; ROWS_MOST])
+    requires { (rows ≤ 512) × (4 * rows ≤ length values.now) }
     ensures { KeysAt Int32 values.now rows keys.new }
 {
     for i in 0..rows {
@@ -35,8 +36,8 @@ fn int32_keys(values: &[u8], rows: usize, keys: &mut [u64])
 }
 
 // The numbers of the first rows of Int64, all of them there.
-fn int64_keys(values: &[u8], rows: usize, keys: &mut [u64])
-    requires { (length keys.old ≡ 512) × (rows ≤ 512) × (8 * rows ≤ length values.now) }
+fn int64_keys(values: &[u8], rows: usize, keys: &mut [u64; ROWS_MOST])
+    requires { (rows ≤ 512) × (8 * rows ≤ length values.now) }
     ensures { KeysAt Int64 values.now rows keys.new }
 {
     for i in 0..rows {
@@ -45,8 +46,8 @@ fn int64_keys(values: &[u8], rows: usize, keys: &mut [u64])
 }
 
 // The numbers of the first rows of any type but text, also where some are not there.
-fn cut_keys(kind: DataType, values: &[u8], rows: usize, keys: &mut [u64])
-    requires { (length keys.old ≡ 512) × (rows ≤ 512) }
+fn cut_keys(kind: DataType, values: &[u8], rows: usize, keys: &mut [u64; ROWS_MOST])
+    requires { rows ≤ 512 }
     ensures { KeysAt kind values.now rows keys.new }
 {
     for i in 0..rows {
@@ -55,8 +56,8 @@ fn cut_keys(kind: DataType, values: &[u8], rows: usize, keys: &mut [u64])
 }
 
 // The number of each of the first rows of a column of any type but text.
-pub(crate) fn column_keys(kind: DataType, values: &[u8], rows: usize, keys: &mut [u64])
-    requires { (length keys.old ≡ 512) × (rows ≤ 512) }
+pub(crate) fn column_keys(kind: DataType, values: &[u8], rows: usize, keys: &mut [u64; ROWS_MOST])
+    requires { rows ≤ 512 }
     ensures { KeysAt kind values.now rows keys.new }
 {
     match kind {

@@ -3,6 +3,7 @@ ghost use Rattle.std.specs.Prelude.{◌*◌, ◌≤◌, length};
 ghost use Rattle.case.specs.Choosing.{Open};
 ghost use Rattle.case.specs.Evaluation.{ElseGives};
 
+use crate::rows::ROWS_MOST;
 use crate::settle::{Leave, finished, settle};
 use builder::ResultBuilder;
 use rule::walk::behind_fields;
@@ -17,7 +18,7 @@ pub(crate) fn else_values(
     left: usize,
     count: u8,
     b: ResultBuilder,
-) -> [u16; 512]
+) -> [u16; ROWS_MOST]
     requires { Open b work.old left b.rows × (12288 ≤ length work.old) }
     ensures { ElseGives rule.now at end count work.old left b.rows b result work.new }
 {

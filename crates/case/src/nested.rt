@@ -7,7 +7,7 @@ ghost use Rattle.case.specs.Classes.{all_of_kind, Arrays, BlockCopied, BlockRead
 use crate::case_values::{CASE, branches_at, case_values};
 use crate::literal::LITERAL;
 use crate::results::read_results;
-use crate::rows::row_at;
+use crate::rows::{ROWS_MOST, row_at};
 use crate::taking::pick;
 use layout::number::byte_at;
 use rule::type_of::type_of;
@@ -71,9 +71,15 @@ fn read_block(
 }
 
 // The class of each listed row: its index behind a class.
-fn class_listed(work: &[u8], n: usize, values: &[u16], from: usize, classes: &mut [u16])
+fn class_listed(
+    work: &[u8],
+    n: usize,
+    values: &[u16; ROWS_MOST],
+    from: usize,
+    classes: &mut [u16; ROWS_MOST],
+)
     requires rows { Rows work.now 0 n 512 × (2 * n ≤ length work.now) }
-    requires values_len { (length values.now ≡ 512) × (length classes.old ≡ 512) × ((q : ℕ) → Listed work.now 0 n q → from + slice_index values.now q < 258) }
+    requires below { (q : ℕ) → Listed work.now 0 n q → from + slice_index values.now q < 258 }
     ensures { Numbered work.now n values.now from classes.old classes.new }
 {
     for i in 0..n {
@@ -133,20 +139,20 @@ fn nested_case(
     code: u8,
     work: &[u8],
     n: usize,
-    classes: &mut [u16],
+    classes: &mut [u16; ROWS_MOST],
     kinds: &mut [u8],
     payloads: &mut [u64],
     from: usize,
 ) -> usize
     requires framed { Framed table.now t work.now n 1 }
-    requires classes_len { (length classes.old ≡ 512) × Arrays kinds.old payloads.old × (0 < code) }
+    requires arrays { Arrays kinds.old payloads.old × (0 < code) }
     ensures { CaseClassed (Listed work.now 0 n) rule.now start end table.now t code from classes.old kinds.old payloads.old result classes.new kinds.new payloads.new }
 {
     let place = nested_results(rule, start, end, code, from, kinds, payloads);
     if place == 0 {
         return 0;
     }
-    let mut values = [0u16; 512];
+    let mut values = [0u16; ROWS_MOST];
     if case_values(rule, start, end, table, t, work, n, &mut values) != Some(place) {
         return 0;
     }
@@ -166,13 +172,13 @@ fn nested_then(
     work: &mut [u8],
     n: usize,
     class: usize,
-    classes: &mut [u16],
+    classes: &mut [u16; ROWS_MOST],
     kinds: &mut [u8],
     payloads: &mut [u64],
     from: usize,
 ) -> usize
     requires framed { Framed table.now t work.old n 2 }
-    requires classes_len { (length classes.old ≡ 512) × Arrays kinds.old payloads.old × (0 < code) × (class < 258) }
+    requires arrays { Arrays kinds.old payloads.old × (0 < code) × (class < 258) }
     ensures { ThenClassed rule.now start end table.now t code work.old n class from classes.old kinds.old payloads.old result work.new classes.new kinds.new payloads.new }
 {
     if kinds[class] == code {
@@ -205,7 +211,7 @@ pub(crate) fn nested_thens(
     code: u8,
     work: &mut [u8],
     n: usize,
-    classes: &mut [u16],
+    classes: &mut [u16; ROWS_MOST],
     kinds: &mut [u8],
     payloads: &mut [u64],
 ) -> bool

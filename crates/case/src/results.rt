@@ -6,7 +6,7 @@ ghost use Rattle.case.specs.Frame.{Fillable, Filled};
 ghost use Rattle.case.specs.Results.{StartRight, EmptyArrays, ThensRead, ResultsRead, PutBy};
 
 use crate::literal::LITERAL;
-use crate::rows::row_at;
+use crate::rows::{ROWS_MOST, row_at};
 use crate::slot::put_parts;
 use layout::number::byte_at;
 use rule::literal::literal_value;
@@ -63,9 +63,9 @@ pub(crate) fn read_results(
 }
 
 // The value at each listed row's index, in the row's slot.
-fn put_results(work: &mut [u8], n: usize, values: &[u16], kinds: &[u8], payloads: &[u64])
+fn put_results(work: &mut [u8], n: usize, values: &[u16; ROWS_MOST], kinds: &[u8], payloads: &[u64])
     requires fillable { Fillable work.old n }
-    requires in_bounds { (512 ≤ length values.now) × (length kinds.now ≡ 258) × (length payloads.now ≡ 258) }
+    requires in_bounds { (length kinds.now ≡ 258) × (length payloads.now ≡ 258) }
     ensures { Filled (PutBy kinds.now payloads.now values.now) work.old n work.new }
 {
     for i in 0..n {
@@ -88,10 +88,9 @@ pub(crate) fn start_results(
     to: DataType,
     work: &mut [u8],
     n: usize,
-    values: &[u16],
+    values: &[u16; ROWS_MOST],
 )
-    requires fillable { Fillable work.old n }
-    requires in_bounds { 512 ≤ length values.now }
+    requires { Fillable work.old n }
     ensures { Filled (StartRight rule.now at end count to values.now) work.old n work.new }
 {
     let mut kinds = [0u8; 258];

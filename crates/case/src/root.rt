@@ -7,6 +7,7 @@ ghost use Rattle.case.specs.Classes.{RootAsks, RootResults, ClassesGive};
 use crate::case_values::{branches_at, case_values};
 use crate::nested::{may_class, nested_thens};
 use crate::results::read_results;
+use crate::rows::ROWS_MOST;
 use layout::number::byte_at;
 use rule::type_of::type_of;
 use rule::walk::children_at;
@@ -27,12 +28,12 @@ pub(crate) fn class_rows(
     t: Table,
     res: DataType,
     work: &mut [u8],
-    classes: &mut [u16],
+    classes: &mut [u16; ROWS_MOST],
     kinds: &mut [u8],
     payloads: &mut [u64],
 ) -> bool
     requires root_asks { RootAsks t work.old table.now }
-    requires classes_len { (length classes.old ≡ 512) × (length kinds.old ≡ 258) × (length payloads.old ≡ 258) × ((i : ℕ) → slice_index kinds.old i ≡ 0) }
+    requires kinds_len { (length kinds.old ≡ 258) × (length payloads.old ≡ 258) × ((i : ℕ) → slice_index kinds.old i ≡ 0) }
     ensures { ClassesGive rule.now table.now t res work.old result work.new classes.new kinds.new payloads.new }
 {
     if !is_number(res) {

@@ -18,6 +18,9 @@ use scalar::not::not_value;
 use scalar::types::DataType;
 use scalar::value::Value;
 
+// Most rows of a table.
+pub(crate) const ROWS_MOST: usize = 512;
+
 // The operations on one value.
 #[derive(Clone, Copy)]
 pub(crate) enum Op {

@@ -8,7 +8,7 @@ ghost use Rattle.case.specs.Choosing.{leaving, null_outcome, true_outcome, class
 ghost use Rattle.case.specs.Parting.{Parted, PartAsks, PartGives};
 
 use crate::binary::{compare_list, order_value};
-use crate::rows::{put_row, row_at};
+use crate::rows::{ROWS_MOST, put_row, row_at};
 use crate::slot::{get_slot, next_slot};
 use crate::truth::{Truth, truth_of};
 use builder::ResultBuilder;
@@ -56,7 +56,7 @@ pub(crate) fn open_builder(rows: usize) -> ResultBuilder
 }
 
 // The index with which each row is held, 0 where it is not.
-pub(crate) fn finished(b: ResultBuilder) -> [u16; 512]
+pub(crate) fn finished(b: ResultBuilder) -> [u16; ROWS_MOST]
     requires { b.rows ≤ 512 }
     ensures { (r : ℕ) → r < b.rows → slice_index result r ≡ or_else 0 (held_by b r) }
 {
@@ -87,13 +87,10 @@ fn true_class(when: Value, index: u16, failed: u16) -> u16
 
 // With which index a row leaves the open list, 0 where it stays: it hangs on the row's slots, and on what the type holds.
 trait Leaving {
-    ghost can: { Self → Type 0 };
-
     ghost class: { Self → List ℕ → ℕ → ℕ };
 
     fn class_of(&self, work: &[u8], row: usize) -> u16
-        requires ready { can self.now }
-        requires in_bounds { (row < 512) × (12288 ≤ length work.now) }
+        requires { (row < 512) × (12288 ≤ length work.now) }
         ensures { result ≡ class self.now work.now row };
 
     ghost by_slots: { (s : Self) (w m : List ℕ) (r : ℕ) → slot_at m r ≡ slot_at w r → next_slot m r ≡ next_slot w r → class s m r ≡ class s w r };
@@ -103,14 +100,12 @@ trait Leaving {
 #[derive(Clone, Copy)]
 struct BySlots<'a> {
     how: Leave,
-    orders: &'a [Order],
+    orders: &'a [Order; ROWS_MOST],
     index: u16,
     failed: u16,
 }
 
 impl<'a> Leaving for BySlots<'a> {
-    ghost can = { λ s. 512 ≤ length s.orders.now };
-
     ghost class = { λ s w r. class_by_slots s.how s.orders.now w s.index s.failed r };
 
     fn class_of(&self, work: &[u8], row: usize) -> u16 {
@@ -134,13 +129,11 @@ impl<'a> Leaving for BySlots<'a> {
 // A row leaves where its WHEN has index 1.
 #[derive(Clone, Copy)]
 struct ByWhens<'a> {
-    whens: &'a [u16],
+    whens: &'a [u16; ROWS_MOST],
     index: u16,
 }
 
 impl<'a> Leaving for ByWhens<'a> {
-    ghost can = { λ s. 512 ≤ length s.whens.now };
-
     ghost class = { λ s w r. class_by s.whens.now s.index r };
 
     fn class_of(&self, work: &[u8], row: usize) -> u16 {
@@ -155,12 +148,11 @@ fn split<L: Leaving>(
     work: &mut [u8],
     left: usize,
     leaving: &L,
-    rows: &mut [u16],
-    values: &mut [u16],
+    rows: &mut [u16; ROWS_MOST],
+    values: &mut [u16; ROWS_MOST],
 ) -> usize
     requires rows { Rows work.old 5632 left 512 }
-    requires in_bounds { (12288 ≤ length work.old) × (512 ≤ length rows.old) × (512 ≤ length values.old) }
-    requires ready { L.can leaving.now }
+    requires in_bounds { 12288 ≤ length work.old }
     ensures { Parted (L.class leaving.now work.old) work.old left result rows.new values.new work.new }
 {
     let mut m = 0;
@@ -185,10 +177,10 @@ fn fill_orders(
     work: &[u8],
     left: usize,
     how: Leave,
-    orders: &mut [Order],
+    orders: &mut [Order; ROWS_MOST],
 )
     requires rows { Rows work.now 5632 left 512 }
-    requires in_bounds { (12288 ≤ length work.now) × (length orders.old ≡ 512) }
+    requires in_bounds { 12288 ≤ length work.now }
     ensures { OrdersFor how rule.now table.now work.now left orders.new }
 {
     if how.asks_equal() {
@@ -212,11 +204,10 @@ fn add_part(b: ResultBuilder, rows: &[u16], values: &[u16]) -> ResultBuilder
 fn settle_rows<L: Leaving>(work: &mut [u8], left: usize, leaving: &L, b: ResultBuilder) -> Settled
     requires fact { Open b work.old left b.rows }
     requires in_bounds { 12288 ≤ length work.old }
-    requires ready { L.can leaving.now }
     ensures { Settles (L.class leaving.now work.old) work.old left b.rows b result work.new }
 {
-    let mut rows = [0u16; 512];
-    let mut values = [0u16; 512];
+    let mut rows = [0u16; ROWS_MOST];
+    let mut values = [0u16; ROWS_MOST];
     let m = split(work, left, leaving, &mut rows, &mut values);
     let builder = add_part(b, &rows[..m], &values[..m]);
     Settled {
@@ -241,7 +232,7 @@ pub(crate) fn settle(
     requires index_nonzero { (0 < index) × (0 < failed) }
     ensures { Settles (class_at how rule.now table.now work.old index failed) work.old left b.rows b result work.new }
 {
-    let mut orders = [Order::Unlike; 512];
+    let mut orders = [Order::Unlike; ROWS_MOST];
     fill_orders(rule, table, work, left, how, &mut orders);
     let leaving = BySlots {
         how,
@@ -256,12 +247,12 @@ pub(crate) fn settle(
 pub(crate) fn settle_by(
     work: &mut [u8],
     left: usize,
-    whens: &[u16],
+    whens: &[u16; ROWS_MOST],
     index: u16,
     b: ResultBuilder,
 ) -> Settled
     requires fact { Open b work.old left b.rows }
-    requires in_bounds { (12288 ≤ length work.old) × (512 ≤ length whens.now) }
+    requires in_bounds { 12288 ≤ length work.old }
     requires index_nonzero { 0 < index }
     ensures { Settles (class_by whens.now index) work.old left b.rows b result work.new }
 {

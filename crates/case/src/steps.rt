@@ -7,7 +7,7 @@ ghost use Rattle.case.specs.Steps.{StepsGive, comparison_tag, step_of, SidesGive
 
 use crate::keys::column_keys;
 use crate::literal_lookup_table::BRANCHES_MOST;
-use crate::rows::row_at;
+use crate::rows::{ROWS_MOST, row_at};
 use layout::number::byte_at;
 use layout::part::part_of;
 use rule::literal::literal_value;
@@ -136,8 +136,8 @@ fn one_index(low: u64, high: u64, x: u64) -> u16
 }
 
 // The index of a row by one span: of a null the ELSE index.
-fn one_row(numbers: &[u64], validity: &[u8], low: u64, high: u64, row: usize) -> u16
-    requires { row < length numbers.now }
+fn one_row(numbers: &[u64; ROWS_MOST], validity: &[u8], low: u64, high: u64, row: usize) -> u16
+    requires { row < 512 }
     ensures { result ≡ one_span numbers.now validity.now low high row }
 {
     if !valid_at(validity, row) {
@@ -148,17 +148,16 @@ fn one_row(numbers: &[u64], validity: &[u8], low: u64, high: u64, row: usize) ->
 
 // The index of each row of the list at a place, by one span.
 fn index_one(
-    numbers: &[u64],
+    numbers: &[u64; ROWS_MOST],
     validity: &[u8],
     low: u64,
     high: u64,
     work: &[u8],
     at: usize,
     n: usize,
-    indices: &mut [u16],
+    indices: &mut [u16; ROWS_MOST],
 )
-    requires rows { Rows work.now at n 512 × (at + 2 * n ≤ length work.now) }
-    requires indices_len { (length indices.old ≡ 512) × (length numbers.now ≡ 512) }
+    requires { Rows work.now at n 512 × (at + 2 * n ≤ length work.now) }
     ensures { RowsIndexed (λ r c. c ≡ one_span numbers.now validity.now low high r) work.now at n indices.new }
 {
     for i in 0..n {
@@ -227,8 +226,8 @@ impl Spans {
     }
 
     // The index of a row by its number: of a null the ELSE index.
-    fn row_index(&self, numbers: &[u64], validity: &[u8], row: usize) -> u16
-        requires { row < length numbers.now }
+    fn row_index(&self, numbers: &[u64; ROWS_MOST], validity: &[u8], row: usize) -> u16
+        requires { row < 512 }
         ensures { result ≡ row_span numbers.now validity.now self.now.lows self.now.highs self.now.count row }
     {
         if !valid_at(validity, row) {
@@ -240,15 +239,14 @@ impl Spans {
     // The index of each row of the list at a place.
     fn index_rows(
         &self,
-        numbers: &[u64],
+        numbers: &[u64; ROWS_MOST],
         validity: &[u8],
         work: &[u8],
         at: usize,
         n: usize,
-        indices: &mut [u16],
+        indices: &mut [u16; ROWS_MOST],
     )
-        requires rows { Rows work.now at n 512 × (at + 2 * n ≤ length work.now) }
-        requires indices_len { (length indices.old ≡ 512) × (length numbers.now ≡ 512) }
+        requires { Rows work.now at n 512 × (at + 2 * n ≤ length work.now) }
         ensures { RowsIndexed (λ r c. c ≡ row_span numbers.now validity.now self.now.lows self.now.highs self.now.count r) work.now at n indices.new }
     {
         for i in 0..n {
@@ -260,15 +258,14 @@ impl Spans {
     // The same, by the one span alone where there is one.
     fn index_spans(
         &self,
-        numbers: &[u64],
+        numbers: &[u64; ROWS_MOST],
         validity: &[u8],
         work: &[u8],
         at: usize,
         n: usize,
-        indices: &mut [u16],
+        indices: &mut [u16; ROWS_MOST],
     )
-        requires rows { Rows work.now at n 512 × (at + 2 * n ≤ length work.now) }
-        requires indices_len { (length indices.old ≡ 512) × (length numbers.now ≡ 512) }
+        requires { Rows work.now at n 512 × (at + 2 * n ≤ length work.now) }
         ensures { RowsIndexed (λ r c. c ≡ row_span numbers.now validity.now self.now.lows self.now.highs self.now.count r) work.now at n indices.new }
     {
         if self.count == 1 {
@@ -296,17 +293,15 @@ fn index_column(
     work: &[u8],
     at: usize,
     n: usize,
-    indices: &mut [u16],
+    indices: &mut [u16; ROWS_MOST],
 )
-    requires rows { Rows work.now at n 512 × (at + 2 * n ≤ length work.now) }
-    requires indices_len { length indices.old ≡ 512 }
-    ensures long { length indices.new ≡ 512 }
-    ensures indexed { (tags keys : List ℕ) → SpansOf tags keys spans.now.count spans.now.lows spans.now.highs → RowsIndexed (RowIndex place.data_type (column_in table.now place).values (column_in table.now place).validity tags keys spans.now.count) work.now at n indices.new }
+    requires { Rows work.now at n 512 × (at + 2 * n ≤ length work.now) }
+    ensures { (tags keys : List ℕ) → SpansOf tags keys spans.now.count spans.now.lows spans.now.highs → RowsIndexed (RowIndex place.data_type (column_in table.now place).values (column_in table.now place).validity tags keys spans.now.count) work.now at n indices.new }
 {
     let values = part_of(table, place.values.start, place.values.end);
     let validity = part_of(table, place.validity.start, place.validity.end);
-    let mut numbers = [0u64; 512];
-    column_keys(place.data_type, values, 512, &mut numbers);
+    let mut numbers = [0u64; ROWS_MOST];
+    column_keys(place.data_type, values, ROWS_MOST, &mut numbers);
     spans.index_spans(&numbers, validity, work, at, n, indices);
 }
 
@@ -320,10 +315,9 @@ fn column_steps(
     place: ColumnPlace,
     work: &[u8],
     n: usize,
-    indices: &mut [u16],
+    indices: &mut [u16; ROWS_MOST],
 ) -> bool
-    requires rows { Rows work.now 0 n 512 × (2 * n ≤ length work.now) }
-    requires indices_len { length indices.old ≡ 512 }
+    requires { Rows work.now 0 n 512 × (2 * n ≤ length work.now) }
     ensures { ColumnGives rule.now at table.now column place count work.now n result indices.new }
 {
     if BRANCHES_MOST < count {
@@ -350,10 +344,9 @@ pub(crate) fn step_values(
     t: Table,
     work: &[u8],
     n: usize,
-    values: &mut [u16],
+    values: &mut [u16; ROWS_MOST],
 ) -> bool
-    requires rows { Rows work.now 0 n 512 × (2 * n ≤ length work.now) }
-    requires values_len { length values.old ≡ 512 }
+    requires { Rows work.now 0 n 512 × (2 * n ≤ length work.now) }
     ensures { StepsGive rule.now at table.now t count work.now n result values.new }
 {
     let Some(first) = step_at(rule, at, field_end(rule, at)) else {
@@ -379,10 +372,9 @@ fn column_step(
     work: &[u8],
     at: usize,
     n: usize,
-    indices: &mut [u16],
+    indices: &mut [u16; ROWS_MOST],
 ) -> bool
-    requires rows { Rows work.now at n 512 × (at + 2 * n ≤ length work.now) }
-    requires indices_len { length indices.old ≡ 512 }
+    requires { Rows work.now at n 512 × (at + 2 * n ≤ length work.now) }
     ensures { StepRows s table.now place work.now at n result indices.new }
 {
     let kind = place.data_type;
@@ -408,10 +400,9 @@ pub(crate) fn step_when(
     work: &[u8],
     at: usize,
     n: usize,
-    values: &mut [u16],
+    values: &mut [u16; ROWS_MOST],
 ) -> bool
-    requires rows { Rows work.now at n 512 × (at + 2 * n ≤ length work.now) }
-    requires values_len { length values.old ≡ 512 }
+    requires { Rows work.now at n 512 × (at + 2 * n ≤ length work.now) }
     ensures { WhenGives asked rule.now start end table.now t work.now at n result values.new }
 {
     if !asked {

@@ -3,13 +3,13 @@ ghost use Rattle.std.specs.Prelude.{◌≡◌, ◌≤◌, length};
 ghost use Rattle.case.specs.Frame.{next_slot, Rows, FillableFrom, FilledFrom};
 ghost use Rattle.case.specs.Taking.{HasIndex, Picked};
 
-use crate::rows::{put_row, row_at};
+use crate::rows::{ROWS_MOST, put_row, row_at};
 use crate::slot::copy_slot;
 
 // The listed rows of an index, to the next frame's list: how many they are.
-pub(crate) fn pick(work: &mut [u8], n: usize, values: &[u16], k: u16) -> usize
+pub(crate) fn pick(work: &mut [u8], n: usize, values: &[u16; ROWS_MOST], k: u16) -> usize
     requires rows { Rows work.old 0 n 512 }
-    requires in_bounds { (7680 ≤ length work.old) × (512 ≤ length values.now) }
+    requires in_bounds { 7680 ≤ length work.old }
     ensures { Picked (HasIndex values.now k) work.old n result work.new }
 {
     let mut m = 0;

@@ -8,5 +8,6 @@ pub mod CountLaws
 pub mod NumberLaws
 pub mod PartLaws
 pub mod PlaceLaws
+pub mod PutLaws
 pub mod RefusalLaws
 pub mod AnswerLaws

@@ -4,3 +4,4 @@ pub mod Refusals
 pub mod Bytes
 pub mod Field
 pub mod Place
+pub mod Put

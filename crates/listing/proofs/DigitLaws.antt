@@ -11,8 +11,8 @@ use lib.ListN.{length, take, get_or, length-append, set}
 use lib.Seq.{take-suc, take-length, append_snoc}
 use borrow.Author.Tests.{lt-ltb, le-ltb}
 use Rattle.listing.specs.Listing.{digit, digits, places_within, places, decimal, hex_bytes}
-use Rattle.listing.specs.Putting.{Wrote}
-use Rattle.listing.proofs.WriteLaws.{wrote_none, wrote_long, wrote_then, wrote_as, wrote_before}
+use Rattle.layout.specs.Put.{Wrote}
+use Rattle.layout.proofs.PutLaws.{wrote_none, wrote_long, wrote_then, wrote_before, wrote_as, wrote_sets}
 
 -- ---- how many decimal digits a number has
 
@@ -113,7 +113,7 @@ digits_more {out} {base} {k} {n} {at} {i} {rest} {m} j d s e q =
       spells = s.spells ∙ ap₂ (λ (a : ℕ) (b : List ℕ). digits base a rest ++ b) e refl
           ∙ ap (λ (b : ℕ). digits base j (rest / base) ++ (b ∷ []) ++ s.tail) (sym q)
           ∙ append_snoc (digits base j (rest / base)) d s.tail;
-      done = wrote_before (at + j) d (omega arith) s.done;
+      done = wrote_before (omega arith) s.done (wrote_sets (d ∷ []) (omega (arith, s.done.fits)) refl refl);
     }
 
 pub digits_all : {out : List ℕ} {base k n at i rest : ℕ} {m : List ℕ} → DigitsSoFar out base k n at i rest m → i ≡ 0 → Wrote out at (digits base k n) (at + k) m

@@ -16,8 +16,10 @@ use Rattle.table.specs.Parts.{ValueGives}
 use Rattle.scalar.specs.TryCast.{or_null}
 use Rattle.listing.specs.declared.shown.Shown.{Shown}
 use Rattle.listing.specs.Listing.{digits, places, decimal, entry_bytes, row_line, rows_word, type_words, head_line, refused_word, refused_line}
-use Rattle.listing.specs.Putting.{Wrote, Put, entry_of, shown_bytes, Shows}
-use Rattle.listing.proofs.WriteLaws.{wrote_as, put_fits, put_full}
+use Rattle.listing.specs.Putting.{Put, entry_of, shown_bytes, Shows}
+use Rattle.layout.specs.Put.{Wrote}
+use Rattle.layout.proofs.PutLaws.{wrote_as}
+use Rattle.listing.proofs.WriteLaws.{put_fits, put_full}
 use Rattle.listing.proofs.DigitLaws.{length_decimal}
 
 -- ---- room

@@ -10,6 +10,7 @@ use lib.Ieee.{Float, binary64, to_bits}
 use lib.IntN.{ℤ, negsuc}
 use lib.ListN.{length, take}
 use lib.Seq.{take-nil, drop-nil}
+use Rattle.layout.specs.Put.{Wrote}
 use Rattle.scalar.specs.declared.value.Value.{Value}
 use Rattle.scalar.specs.Integer.{signed, bits_of}
 use Rattle.scalar.specs.Value.{place_text}
@@ -17,7 +18,7 @@ use Rattle.scalar.proofs.IntegerLaws.{signed_low, signed_high}
 use Rattle.listing.specs.declared.shown.Shown.{Shown}
 use Rattle.listing.specs.declared.shown.Shown.TheVariants.{Null, Truth, Number, Negative, Bits, Text}
 use Rattle.listing.specs.Listing.{digits, places, decimal, hex_bytes, truth_word, integer_bytes, entry_bytes, listing_most}
-use Rattle.listing.specs.Putting.{Wrote, shown_bytes, Shows, ShowsInteger}
+use Rattle.listing.specs.Putting.{shown_bytes, Shows, ShowsInteger}
 use Rattle.listing.proofs.DigitLaws.{length_digits, length_decimal, length_hex}
 
 -- ---- an integer

@@ -14,14 +14,15 @@ use Rattle.scalar.specs.Entry.{Entry}
 use Rattle.table.specs.declared.places.ColumnPlace.{ColumnPlace}
 use Rattle.layout.specs.declared.refusal.Refusal.{Refusal}
 use Rattle.layout.specs.Refusals.{number_of}
+use Rattle.layout.specs.Put.{Wrote}
+use Rattle.layout.proofs.PutLaws.{wrote_none, wrote_then, wrote_as, wrote_long}
 use Rattle.table.specs.Column.{TableColumn, entry_at}
 use Rattle.table.specs.Parts.{ValueGives}
 use Rattle.table.specs.Places.{column_in, place_in, AloneRead}
 use Rattle.table.specs.Reading.{read_alone}
 use Rattle.listing.specs.declared.shown.Shown.{Shown}
 use Rattle.listing.specs.Listing.{places, decimal, row_line, head_line, refused_line, row_lines, column_lines, listing, listing_most}
-use Rattle.listing.specs.Putting.{Wrote, Put, shown_bytes, Shows}
-use Rattle.listing.proofs.WriteLaws.{wrote_none, wrote_then, wrote_as, wrote_long}
+use Rattle.listing.specs.Putting.{Put, shown_bytes, Shows}
 use Rattle.listing.proofs.LineLaws.{length_head, row_length, row_as}
 use Rattle.listing.proofs.DigitLaws.{length_decimal}
 use Rattle.listing.proofs.ListingMostLaws.{lines_most}

@@ -1,5 +1,6 @@
 -- What the writers of a listing promise: bytes at a place of a buffer, or nothing where they don't fit.
-use Rattle.std.specs.Prelude.{◌≡◌, Bool, cond, List, [], ◌∷◌, ◌++◌, ℕ, ◌+◌, ◌≤◌, leb, ℤ, length, take, drop, Option, Some, None}
+use Rattle.std.specs.Prelude.{◌≡◌, Bool, cond, List, [], ◌∷◌, ℕ, ◌+◌, leb, ℤ, length, Option, Some, None}
+use Rattle.layout.specs.Put.{wrote}
 use Rattle.scalar.specs.declared.value.Value.{Value}
 use Rattle.scalar.specs.Entry.{Entry}
 use Rattle.scalar.specs.TryCast.{or_null}
@@ -10,16 +11,6 @@ use Rattle.case.specs.Promise.{call_run}
 use Rattle.listing.specs.declared.shown.Shown.{Shown}
 use Rattle.listing.specs.declared.shown.Shown.TheVariants.{Null, Truth, Number, Negative, Bits, Text}
 use Rattle.listing.specs.Listing.{digits, decimal, hex_bytes, null_word, truth_word, integer_bytes, entry_bytes, run_listing}
-
--- bytes written over those at a place
-unfoldable pub wrote : List ℕ → ℕ → List ℕ → List ℕ
-wrote out at bytes = take at out ++ bytes ++ drop (at + length bytes) out
-
--- out is now out': the bytes stand at a place and end at another, and nothing else is changed
-pub record Wrote (out : List ℕ) (at : ℕ) (bytes : List ℕ) (end : ℕ) (out' : List ℕ) : Type 0 where
-  pub fits : at + length bytes ≤ length out
-  pub ends : end ≡ at + length bytes
-  pub holds : out' ≡ wrote out at bytes
 
 -- the bytes fit at the place
 abbrev pub fits_at : List ℕ → ℕ → List ℕ → Bool

@@ -1,8 +1,9 @@
 // Numbers in digits.
 ghost use Rattle.std.specs.Prelude.{◌≡◌, ◌+◌, ◌<◌, ◌≤◌, length};
+ghost use Rattle.layout.specs.Put.{Wrote};
 ghost use Rattle.listing.specs.Listing.{places, digits, decimal, hex_bytes};
 ghost use Rattle.listing.specs.Listing.{digit as digitOf};
-ghost use Rattle.listing.specs.Putting.{Wrote, Put};
+ghost use Rattle.listing.specs.Putting.{Put};
 
 use crate::put::room;
 

@@ -1,7 +1,8 @@
 // The bytes of an entry.
 ghost use Rattle.std.specs.Prelude.{◌≡◌, ◌∷◌, suc, ◌+◌, ◌≤◌, leb, length};
+ghost use Rattle.layout.specs.Put.{Wrote};
 ghost use Rattle.listing.specs.Listing.{decimal, hex_bytes, truth_word, entry_bytes, listing_most};
-ghost use Rattle.listing.specs.Putting.{Wrote, Put, entry_of, shown_bytes};
+ghost use Rattle.listing.specs.Putting.{Put, entry_of, shown_bytes};
 
 use crate::digits::{decimal_places, write_decimal, write_digits, write_text};
 use crate::put::{write_byte, write_bytes};

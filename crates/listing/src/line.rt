@@ -1,8 +1,9 @@
 // The lines of a listing.
 ghost use Rattle.std.specs.Prelude.{◌≡◌, [], ◌∷◌, ◌++◌, ◌+◌, ◌≤◌, length};
 ghost use Rattle.layout.specs.Refusals.{number_of};
+ghost use Rattle.layout.specs.Put.{Wrote};
 ghost use Rattle.listing.specs.Listing.{decimal, type_words, head_line, refused_line};
-ghost use Rattle.listing.specs.Putting.{Wrote, Put, shown_bytes};
+ghost use Rattle.listing.specs.Putting.{Put, shown_bytes};
 
 use crate::digits::{decimal_places, digit, write_decimal};
 use crate::entry::write_shown;
@@ -15,7 +16,7 @@ use scalar::types::DataType;
 pub(crate) fn put_refused(refusal: Refusal, at: usize, out: &mut [u8]) -> Option<usize>
     ensures { Put out.old at (refused_line (number_of refusal)) result out.new }
 {
-    let n = u64::from(refusal.number());
+    let n = refusal.number() as u64;
     let k = decimal_places(n);
     if !room(out.len(), at, k + 9) {
         return None;
@@ -59,12 +60,7 @@ pub(crate) fn write_head(
 {
     let p = write_bytes(b"rows ", at, out);
     let q = write_decimal(rows as u64, p, out);
-    write_types(
-        u64::from(data_type.number()),
-        u64::from(nullable),
-        q,
-        out,
-    )
+    write_types(u64::from(data_type.number()), u64::from(nullable), q, out)
 }
 
 // The line of a refusal, where it fits.

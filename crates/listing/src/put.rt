@@ -1,8 +1,6 @@
-// Bytes put at a place of a buffer.
-ghost use Rattle.std.specs.Prelude.{[], ◌∷◌, ◌+◌, ◌≤◌, ◌≡◌, leb, length};
-ghost use Rattle.listing.specs.Putting.{Wrote};
-
-use layout::part::put_part;
+// Bytes put at a place of a buffer. `write_byte` and `write_bytes` stand in `writer` too: they have a `requires`, and no public function has one.
+ghost use Rattle.std.specs.Prelude.{◌≡◌, [], ◌∷◌, ◌+◌, ◌≤◌, leb, length};
+ghost use Rattle.layout.specs.Put.{Wrote};
 
 // Whether so many bytes fit at a place of a buffer of a length.
 pub(crate) fn room(length: usize, at: usize, size: usize) -> bool
@@ -28,6 +26,7 @@ pub(crate) fn write_bytes(bytes: &[u8], at: usize, out: &mut [u8]) -> usize
     requires { at + length bytes.now ≤ length out.old }
     ensures { Wrote out.old at bytes.now result out.new }
 {
-    put_part(out, at, bytes);
-    at + bytes.len()
+    let end = at + bytes.len();
+    out[at..end].copy_from_slice(bytes);
+    end
 }

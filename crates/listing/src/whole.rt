@@ -1,10 +1,11 @@
 // The whole listing of an answer, and of a run.
 ghost use Rattle.std.specs.Prelude.{◌≡◌, ◌+◌, ◌≤◌, length};
+ghost use Rattle.layout.specs.Put.{Wrote};
 ghost use Rattle.table.specs.Column.{entry_at};
 ghost use Rattle.table.specs.Places.{column_in};
 ghost use Rattle.table.specs.Reading.{read_alone};
 ghost use Rattle.listing.specs.Listing.{row_line, column_lines, listing, listing_most};
-ghost use Rattle.listing.specs.Putting.{Wrote, Put, Listed};
+ghost use Rattle.listing.specs.Putting.{Put, Listed};
 
 use crate::digits::decimal_places;
 use crate::entry::shown_size;

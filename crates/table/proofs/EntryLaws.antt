@@ -6,10 +6,10 @@ use mathlib.Core.Option.{Option, some, none}
 use Prim.Native.Nat.{ℕ, zero, suc, ◌+◌, ◌-◌, ◌*◌, ◌/◌, ◌<◌, ◌≤◌, min}
 use native.Mathlib.Omega.{arith}
 use lib.Dec.{leb, ltb}
-use lib.ListN.{length, get_or, get_elem?, take, drop, length-take, length-drop, length-map}
+use lib.ListN.{length, get_elem?, take, drop, length-take, length-drop}
 use lib.Seq.{get_or-take, get_or-drop, ext_get_or}
 use borrow.Author.Tests.{lt-ltb, le-ltb, le-leb, lt-leb, leb-true, leb-false}
-use Rattle.std.specs.Prelude.{Result as RustResult, Ok, Err}
+use Rattle.std.specs.Prelude.{slice_get, Option as RustOption, Some, None, Result as RustResult, Ok, Err}
 use Rattle.layout.specs.declared.refusal.Refusal.{Refusal}
 use Rattle.layout.specs.Result.{Result, refused, ok}
 use Rattle.layout.specs.Bytes.{Bytes, byte, number_at, bit_at, part}
@@ -30,7 +30,7 @@ use Rattle.table.specs.declared.entry.EntryError.TheVariants.{NoColumn, NoRow, R
 use Rattle.table.specs.Column.{TableColumn, valid_in, offset_at, text_between, value_at, entry_at}
 use Rattle.table.specs.Reading.{Table as TableOf, read_table}
 use Rattle.table.specs.Answers.{table_refused, has, no_row, entry_of_column, entry_of_table, text_from, text_between_value, value_in, entry_value, entry_of_place, entry_at_places, entry_of_reading, entry_of_bytes, EntryGives}
-use Rattle.table.specs.Places.{column_in, table_in, no_place, table_from, table_answer_from, table_answer}
+use Rattle.table.specs.Places.{column_in, table_in, column_of, table_from, table_answer_from, table_answer}
 use Rattle.table.specs.Parts.{ValueGives}
 use Rattle.table.proofs.TableTyped.{number_at_below}
 use Rattle.layout.proofs.AnswerLaws.{answered_ok, answered_err}
@@ -264,55 +264,42 @@ module _ (l : List ℕ) (p : ColumnPlace) (row : ℕ) where
 
 -- ---- in a table
 
-elem_none : {A : Type 0} (l : List A) (i : ℕ) → length l ≤ i → get_elem? l i ≡ none
-elem_none [] i h = refl
-elem_none (x ∷ l) zero h = absurd (omega arith)
-elem_none (x ∷ l) (suc i) h = elem_none l i (omega arith)
+-- an element of a list, as the definitions of a table say it
+abbrev element : {A : Type 0} → RustOption A → Option A
+element None = none
+element (Some x) = some x
 
-elem_some : {A : Type 0} (l : List A) (i : ℕ) (d : A) → i < length l → get_elem? l i ≡ some (get_or l i d)
-elem_some [] i d h = absurd (omega arith)
-elem_some (x ∷ l) zero d h = refl
-elem_some (x ∷ l) (suc i) d h = elem_some l i d (omega arith)
+elem_get : {A : Type 0} (l : List A) (i : ℕ) → get_elem? l i ≡ element (slice_get l i)
+elem_get [] i = refl
+elem_get (x ∷ l) zero = refl
+elem_get (x ∷ l) (suc i) = elem_get l i
 
-module _ {A : Type 0} (f : ColumnPlace → A) (l : List ℕ) (t : Table) (long : length (map f t.columns) ≡ 16) (column row : ℕ) where
-  -- how many columns there are
-  columns_there : length (take t.count t.columns) ≡ min t.count 16
-  columns_there = length-take t.count t.columns ∙ ap (min t.count) (sym (length-map t.columns f) ∙ long)
+module _ {o : RustOption ColumnPlace} (l : List ℕ) (t : Table) (column : ℕ) (is : o ≡ column_of t column) where
+  place_is : get_elem? (take t.count t.columns) column ≡ element o
+  place_is = elem_get (take t.count t.columns) column ∙ ap element (sym is)
 
-  -- a column that the table doesn't have
-  module _ (h : min t.count 16 ≤ column) where
-    place_missing : get_elem? (take t.count t.columns) column ≡ none
-    place_missing = elem_none (take t.count t.columns) column (omega (arith, columns_there))
+  -- the column at a place, or none
+  pub column_is : get_elem? (table_in l t).columns column ≡ column_of_place l (element o)
+  column_is = elem_column l (take t.count t.columns) column ∙ ap (column_of_place l) place_is
 
-    pub column_missing : get_elem? (map (column_in l) (take t.count t.columns)) column ≡ none
-    column_missing = elem_column l (take t.count t.columns) column ∙ ap (column_of_place l) place_missing
+  -- and its entry
+  entry_in_place : (row : ℕ) → entry_of_place l (element o) t.rows row ≡ entry_at_places l t column row
+  unfolding entry_at_places
+  entry_in_place row = sym (ap (λ (x : Option ColumnPlace). entry_of_place l x t.rows row) place_is)
 
-    pub no_column_lem : Err NoColumn ≡ entry_at_places l t column row
-    unfolding entry_at_places
-    no_column_lem = sym (ap (λ (o : Option ColumnPlace). entry_of_place l o t.rows row) place_missing)
+pub no_column_lem : (l : List ℕ) (t : Table) (column row : ℕ) → None ≡ column_of t column → Err NoColumn ≡ entry_at_places l t column row
+no_column_lem l t column row is = entry_in_place l t column is row
 
-  -- and one that it has
-  module _ (h : column < min t.count 16) where
-    place_there : get_elem? (take t.count t.columns) column ≡ some (get_or t.columns column no_place)
-    place_there =
-        elem_some (take t.count t.columns) column no_place (omega (arith, columns_there))
-        ∙ ap some (get_or-take t.count t.columns column no_place (omega arith))
+module _ {p : ColumnPlace} (l : List ℕ) (t : Table) (column row : ℕ) (is : Some p ≡ column_of t column) where
+  -- by its row
+  row_is : (b : Bool) → ltb row t.rows ≡ b → cond b (Ok (entry_value l p row)) (Err NoRow) ≡ entry_at_places l t column row
+  row_is b q = ap (λ (x : Bool). cond x (Ok (entry_value l p row)) (Err NoRow)) (sym q) ∙ entry_in_place l t column is row
 
-    pub column_there : get_elem? (map (column_in l) (take t.count t.columns)) column ≡ some (column_in l (get_or t.columns column no_place))
-    column_there = elem_column l (take t.count t.columns) column ∙ ap (column_of_place l) place_there
+  pub no_row_lem : t.rows ≤ row → Err NoRow ≡ entry_at_places l t column row
+  no_row_lem m = row_is false (le-ltb row t.rows m)
 
-    -- by its row
-    row_is : (b : Bool) → ltb row t.rows ≡ b → cond b (Ok (entry_value l (get_or t.columns column no_place) row)) (Err NoRow) ≡ entry_at_places l t column row
-    unfolding entry_at_places
-    row_is b q =
-        ap (λ (x : Bool). cond x (Ok (entry_value l (get_or t.columns column no_place) row)) (Err NoRow)) (sym q)
-        ∙ sym (ap (λ (o : Option ColumnPlace). entry_of_place l o t.rows row) place_there)
-
-    pub no_row_lem : t.rows ≤ row → Err NoRow ≡ entry_at_places l t column row
-    no_row_lem m = row_is false (le-ltb row t.rows m)
-
-    pub has_entry : row < t.rows → (v : Value) → v ≡ entry_value l (get_or t.columns column no_place) row → Ok v ≡ entry_at_places l t column row
-    has_entry m v g = ap Ok g ∙ row_is true (lt-ltb row t.rows m)
+  pub has_entry : row < t.rows → (v : Value) → v ≡ entry_value l p row → Ok v ≡ entry_at_places l t column row
+  has_entry m v g = ap Ok g ∙ row_is true (lt-ltb row t.rows m)
 
 -- ---- in the bytes of a table
 

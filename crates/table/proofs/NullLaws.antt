@@ -2,21 +2,22 @@
 use mathlib.Core.Path.{◌≡◌, refl, sym, ap, ◌∙◌}
 use mathlib.Core.Bool.{Bool, true, false, cond, ◌&&◌}
 use mathlib.Core.List.{List, [], ◌∷◌}
-use Prim.Native.Nat.{ℕ, zero, suc, ◌+◌, ◌-◌, ◌<◌, ◌≤◌}
+use Prim.Native.Nat.{ℕ, zero, suc, ◌+◌, ◌-◌, ◌≤◌}
 use native.Mathlib.Omega.{arith}
 use lib.Dec.{eqb}
-use lib.ListN.{length, get_or, get_elem?, replicate}
+use lib.ListN.{length, get_elem?, replicate}
 use lib.Seq.{take_at}
 use borrow.Author.Tests.{ne_eqb}
-use Rattle.std.specs.Prelude.{Ok, Err, Some, None}
+use Rattle.std.specs.Prelude.{Ok, Err, Option as RustOption, Some, None, IsSomeAnd, MatchOption, slice_get}
+use Rattle.std.specs.Option.{option_map}
 use Rattle.layout.specs.declared.refusal.Refusal.{Refusal}
-use Rattle.layout.specs.Result.{Result, ok}
+use Rattle.layout.specs.Result.{Result}
 use Rattle.layout.specs.Bytes.{bit_at, set_bits}
 use Rattle.table.specs.declared.places.ColumnPlace.{ColumnPlace}
 use Rattle.table.specs.declared.places.Table.{Table as TablePlaces}
 use Rattle.table.specs.Column.{TableColumn, valid_in, null_count}
 use Rattle.table.specs.Reading.{no_null, Table, read_table}
-use Rattle.table.specs.Places.{no_place, column_end, places_from, table_from, table_answer, null_count_in}
+use Rattle.table.specs.Places.{no_place, column_end, places_from, table_from, table_answer, column_of}
 use Rattle.table.specs.Answers.{null_count_of_column, null_count_of}
 use Rattle.layout.proofs.AnswerLaws.{answered_ok, answered_err}
 use Rattle.table.proofs.StandLaws.{length_places}
@@ -63,41 +64,30 @@ no_null_count validity (suc n) = go (valid_in validity n) (no_null_count validit
 
 -- ---- the null count of a table's column
 
--- of no column
-nulls_none : (rows : ℕ) (cs : List TableColumn) (i : ℕ) → length cs ≤ i → None ≡ null_count_of_column (get_elem? cs i) rows
-nulls_none rows [] i h = refl
-nulls_none rows (c ∷ cs) zero h = absurd (omega arith)
-nulls_none rows (c ∷ cs) (suc i) h = nulls_none rows cs i (omega arith)
-
 -- as its place holds it
-nulls_placed : (rows at : ℕ) (cs : List TableColumn) (i : ℕ) → i < length cs → Some (get_or (places_from rows at cs) i no_place).null_count ≡ null_count_of_column (get_elem? cs i) rows
+nulls_placed : (rows at : ℕ) (cs : List TableColumn) (i : ℕ) → option_map (λ p. p.null_count) (slice_get (places_from rows at cs) i) ≡ null_count_of_column (get_elem? cs i) rows
 unfolding places_from
-nulls_placed rows at [] i h = absurd (omega arith)
-nulls_placed rows at (c ∷ cs) zero h = refl
-nulls_placed rows at (c ∷ cs) (suc i) h = nulls_placed rows (column_end at c) cs i (omega arith)
+nulls_placed rows at [] i = refl
+nulls_placed rows at (c ∷ cs) zero = refl
+nulls_placed rows at (c ∷ cs) (suc i) = nulls_placed rows (column_end at c) cs i
 
 module _ (l : List ℕ) (column : ℕ) where
   pub nulls_refused : {e : Refusal} → Err e ≡ table_answer (read_table l) → Err e ≡ null_count_of (read_table l) column
   unfolding table_answer
   nulls_refused p = let r = answered_err (table_from 5) (read_table l) p in ap Err r.2 ∙ sym (ap (λ (d : Result Table). null_count_of d column) r.1)
 
-  module _ {t : TablePlaces} (g : Ok t ≡ table_answer (read_table l)) where
-    -- the table that was read
-    accepted : (x : Table) × (read_table l ≡ ok x) × (t ≡ table_from 5 x)
-    unfolding table_answer
-    accepted = answered_ok (table_from 5) (read_table l) g
-
-    pub nulls_absent : t.count ≤ column → Ok None ≡ null_count_of (read_table l) column
-    nulls_absent h =
-        ap Ok (nulls_none accepted.0.rows accepted.0.columns column (omega (arith, h, ap (λ (x : TablePlaces). x.count) accepted.2)))
-        ∙ sym (ap (λ (d : Result Table). null_count_of d column) accepted.1)
-
-    pub nulls_there : column < t.count → (n : ℕ) → n ≡ null_count_in t column → Ok (Some n) ≡ null_count_of (read_table l) column
-    nulls_there h n e =
-        let x = accepted.0 in
-        let places = places_from x.rows 5 x.columns in
-        let count : t.count ≡ length x.columns = ap (λ (y : TablePlaces). y.count) accepted.2 in
-        ap (λ (k : ℕ). Ok (Some k)) (e ∙ ap (λ (y : TablePlaces). null_count_in y column) accepted.2
-        ∙ ap (λ (ps : List ColumnPlace). (get_or ps column no_place).null_count) (take_at places (replicate (16 - length places) no_place) (length x.columns) (length_places x.rows 5 x.columns)))
-        ∙ ap Ok (nulls_placed x.rows 5 x.columns column (omega (arith, h, count)))
-        ∙ sym (ap (λ (d : Result Table). null_count_of d column) accepted.1)
+  pub nulls_of : {t : TablePlaces} → Ok t ≡ table_answer (read_table l) → {o : RustOption ColumnPlace} → o ≡ column_of t column
+      → (r : RustOption ℕ) → MatchOption o (r ≡ None) (λ p. IsSomeAnd r (λ n. n ≡ p.null_count)) → Ok r ≡ null_count_of (read_table l) column
+  unfolding table_answer
+  nulls_of {t} g {o} is r m =
+      let x = answered_ok (table_from 5) (read_table l) g in
+      let places = places_from x.0.rows 5 x.0.columns in
+      ap Ok (counted o r m ∙ ap (option_map (λ p. p.null_count)) (is ∙ ap (λ (y : TablePlaces). column_of y column) x.2
+      ∙ ap (λ (ps : List ColumnPlace). slice_get ps column) (take_at places (replicate (16 - length places) no_place) (length x.0.columns) (length_places x.0.rows 5 x.0.columns)))
+      ∙ nulls_placed x.0.rows 5 x.0.columns column)
+      ∙ sym (ap (λ (d : Result Table). null_count_of d column) x.1)
+    where
+      counted : (o : RustOption ColumnPlace) (r : RustOption ℕ) → MatchOption o (r ≡ None) (λ p. IsSomeAnd r (λ n. n ≡ p.null_count)) → r ≡ option_map (λ p. p.null_count) o
+      counted None r e = e
+      counted (Some p) (Some n) e = ap Some e
+      counted (Some p) None e = elim e [ ]

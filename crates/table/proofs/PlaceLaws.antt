@@ -1,24 +1,12 @@
 -- The columns of a table by their places, in range or not. Assumes nothing.
-use mathlib.Core.Path.{◌≡◌, refl, sym, ap, ◌∙◌}
+use mathlib.Core.Path.{◌≡◌, refl, ap, ◌∙◌}
 use mathlib.Core.List.{List, [], ◌∷◌, map}
-use Prim.Native.Nat.{ℕ, zero, suc, ◌<◌, ◌≤◌, min}
-use native.Mathlib.Omega.{arith}
-use lib.ListN.{length, get_or, get_elem?, take, length-take, length-map, get_or-eq_default}
-use lib.Seq.{get_or-take}
+use Prim.Native.Nat.{ℕ, zero, suc}
+use lib.ListN.{get_or, get_elem?, take}
 use Rattle.table.specs.declared.places.ColumnPlace.{ColumnPlace}
 use Rattle.table.specs.declared.places.Table.{Table}
 use Rattle.table.specs.Column.{TableColumn}
 use Rattle.table.specs.Places.{column_in, no_place, part_of_column, part_in}
-
--- a column behind the last has no place; the array's length is known of a list that is as long
-pub place_none : {A : Type 0} (f : ColumnPlace → A) (columns : List ColumnPlace) → length (map f columns) ≡ 16 → (count column : ℕ) → min count 16 ≤ column
-    → (r : ColumnPlace) → r ≡ no_place → r ≡ get_or (take count columns) column no_place
-place_none f columns e count column h r p =
-    p ∙ sym (get_or-eq_default (take count columns) no_place (omega (arith, length-take count columns, length-map columns f, e)))
-
--- one before it has its own
-pub place_there : (columns : List ColumnPlace) (count column : ℕ) → column < count → get_or columns column no_place ≡ get_or (take count columns) column no_place
-place_there columns count column h = sym (get_or-take count columns column no_place h)
 
 -- a part of the column at a place
 part_at : (choose : TableColumn → List ℕ) (l : List ℕ) → choose (column_in l no_place) ≡ [] → (places : List ColumnPlace) (i : ℕ)

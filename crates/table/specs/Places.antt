@@ -1,5 +1,5 @@
 -- Where the parts of a table stand, and what the places say: the columns that its bytes hold there.
-use Rattle.std.specs.Prelude.{◌≡◌, Bool, true, false, cond, List, [], ◌∷◌, ◌++◌, map, ℕ, ◌+◌, ◌-◌, ◌≤◌, ◌<◌, length, get_or, take, replicate, Result as RustResult, Ok, Err, IfOk}
+use Rattle.std.specs.Prelude.{◌≡◌, Bool, true, false, cond, List, [], ◌∷◌, ◌++◌, map, ℕ, ◌+◌, ◌-◌, ◌≤◌, ◌<◌, length, get_or, take, replicate, slice_get, Option as RustOption, Result as RustResult, Ok, Err, IfOk}
 use Rattle.std.proofs.Math.Option.{Option, some, none}
 use Rattle.std.proofs.Math.ListN.{get_elem?}
 use Rattle.layout.specs.declared.refusal.Refusal.{Refusal}
@@ -173,6 +173,10 @@ part_of_column choose (some c) = choose c
 -- the validity, offsets or values of a column, as the part of the table's bytes that holds them (01, Bytes of a table)
 abbrev pub part_in : (TableColumn → List ℕ) → List ℕ → TablePlaces → ℕ → List ℕ
 part_in choose bytes t column = part_of_column choose (get_elem? (table_in bytes t).columns column)
+
+-- the place of a column of a table, or none where the table has no such column
+abbrev pub column_of : TablePlaces → ℕ → RustOption ColumnPlace
+column_of t column = slice_get (take t.count t.columns) column
 
 -- the null count that the places hold of a column; of no column 0
 abbrev pub null_count_in : TablePlaces → ℕ → ℕ

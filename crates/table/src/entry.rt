@@ -114,16 +114,13 @@ pub fn entry_in(bytes: &[u8], place: ColumnPlace, row: usize) -> Value
 pub fn entry_at(bytes: &[u8], t: Table, column: usize, row: usize) -> Result<Value, EntryError>
     ensures { result ≡ entry_at_places bytes.now t column row }
 {
-    if t.count <= column {
+    let Some(place) = t.column(column) else {
         return Err(EntryError::NoColumn);
-    }
-    if 16 <= column {
-        return Err(EntryError::NoColumn);
-    }
+    };
     if t.rows <= row {
         return Err(EntryError::NoRow);
     }
-    Ok(entry_in(bytes, t.columns[column], row))
+    Ok(entry_in(bytes, place, row))
 }
 
 // The entry of a column at a row of a table.

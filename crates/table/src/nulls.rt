@@ -6,7 +6,6 @@ ghost use Rattle.table.specs.Column.{null_count};
 ghost use Rattle.table.specs.Reading.{count_says, read_table};
 
 use crate::read::read;
-use crate::slices::null_count_in;
 use layout::bits::set_bits;
 use layout::number::read_u16;
 use layout::refusal::Refusal;
@@ -36,8 +35,5 @@ pub fn column_null_count(bytes: &[u8], column: usize) -> Result<Option<usize>, R
     ensures { result ≡ null_count_of (read_table bytes.now) column }
 {
     let t = read(bytes)?;
-    if t.count <= column {
-        return Ok(None);
-    }
-    Ok(Some(null_count_in(t, column)))
+    Ok(t.column(column).map(|place| place.null_count as usize))
 }

@@ -1,4 +1,7 @@
 // Where the parts of a table stand in its bytes.
+ghost use Rattle.std.specs.Prelude.{◌≡◌};
+ghost use Rattle.table.specs.Places.{column_of};
+
 use scalar::types::DataType;
 
 // A part of the bytes, from its start up to its end.
@@ -27,4 +30,16 @@ pub struct Table {
     pub rows: usize,
     pub count: usize,
     pub columns: [ColumnPlace; 16],
+}
+
+impl Table {
+    // The place of a column, where the table has it.
+    pub fn column(&self, column: usize) -> Option<ColumnPlace>
+        ensures { result ≡ column_of self.now column }
+    {
+        if self.count <= column {
+            return None;
+        }
+        self.columns.get(column).copied()
+    }
 }

@@ -10,14 +10,7 @@ use layout::part::part_of;
 pub(crate) fn place_of(t: Table, column: usize) -> ColumnPlace
     ensures { result ≡ get_or (take t.count t.columns) column no_place }
 {
-    if t.count <= column {
-        return no_place();
-    }
-    if column < 16 {
-        t.columns[column]
-    } else {
-        no_place()
-    }
+    t.column(column).unwrap_or(no_place())
 }
 
 // The validity bits of a column; empty where there is no such column or no null in it.

@@ -39,7 +39,7 @@ use Rattle.table.specs.Places.{table_from, table_answer, place_from, alone_answe
 use Rattle.table.proofs.TableInversions.{table_few}
 use Rattle.table.proofs.NullLaws.{count_most}
 use Rattle.table.proofs.RefusalLaws.{table_refusals_lem, alone_number}
-use Rattle.tembalku.specs.Codes.{answer_count_code, text_code, projection_code, columns_after, Projected, run_code, Called}
+use Rattle.tembalku.specs.Codes.{table_code, answer_count_code, text_code, projection_code, columns_after, Projected, run_code, Called}
 
 -- ---- a refusal, and what is answered
 
@@ -72,6 +72,14 @@ unfolding table_answer
 table_rows bytes says is =
     let (a, reads, is-f) = answered_ok (table_from 5) (read_table bytes) (sym is ∙ says) in
     omega (arith, table_few bytes a reads, ap (λ (x : TablePlaces). x.rows) is-f)
+
+pub table_accepted : (bytes : List ℕ) {r : RustResult TablePlaces Refusal} {t : TablePlaces} → r ≡ table_answer (read_table bytes) → r ≡ Ok t → 65536 + t.rows ≡ table_code (read_table bytes)
+unfolding table_answer
+table_accepted bytes says is = answered_code (table_from 5) table_code (λ t. 65536 + t.rows) (λ t. refl) (read_table bytes) says is
+
+pub table_refused_lem : (bytes : List ℕ) {r : RustResult TablePlaces Refusal} {e : Refusal} → r ≡ table_answer (read_table bytes) → r ≡ Err e → number_of e ≡ table_code (read_table bytes)
+unfolding table_answer
+table_refused_lem bytes says is = refused_code (table_from 5) table_code (λ n. refl) (read_table bytes) (table_number bytes) says is
 
 -- ---- null counts
 

@@ -8,15 +8,17 @@ use lib.Dec.{eqb}
 use lib.ListN.{length, length-append}
 use Rattle.layout.specs.Bytes.{number_bytes, bitmap_length}
 use Rattle.layout.specs.Field.{field_bytes}
+use Rattle.layout.specs.Put.{Wrote}
 use Rattle.layout.proofs.BytesLaws.{length_number_bytes}
 use Rattle.scalar.specs.declared.types.DataType.{DataType}
 use Rattle.scalar.specs.declared.value.Value.{Value}
 use Rattle.scalar.specs.Types.{type_number, mark_number}
 use Rattle.scalar.specs.Value.{kind_of}
 use Rattle.writer.specs.Slots.{slot_at}
-use Rattle.writer.specs.Writing.{Wrote, BitsWrote, BitFieldWrote, ValidityWrote, RowsAsk, row_bytes, some_of_kind, number_of, width_of, row_nulls, row_numbers, row_text, row_offset, row_validity, row_values, row_column, validity_size, values_size}
+use Rattle.writer.specs.Writing.{BitsWrote, BitFieldWrote, ValidityWrote, RowsAsk, row_bytes, some_of_kind, number_of, width_of, row_nulls, row_numbers, row_text, row_offset, row_validity, row_values, row_column, validity_size, values_size}
 use Rattle.layout.proofs.FieldLaws.{length_field}
-use Rattle.writer.proofs.WroteLaws.{length_rows, wrote_as, wrote_to, wrote_then, wrote_before, wrote_long, wrote_field}
+use Rattle.layout.proofs.PutLaws.{wrote_as, wrote_to, wrote_then, wrote_before, wrote_long}
+use Rattle.writer.proofs.WroteLaws.{length_rows, wrote_field}
 use Rattle.writer.proofs.RowBitLaws.{bits_size}
 use Rattle.writer.proofs.RowCountLaws.{count_le, nulls_rest, nulls_none}
 

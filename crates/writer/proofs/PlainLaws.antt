@@ -25,11 +25,13 @@ use Rattle.scalar.specs.TryCast.{or_null}
 use Rattle.scalar.proofs.FloatLaws.{float_means}
 use Rattle.std.specs.Prelude.{Ok, Err}
 use Rattle.layout.specs.declared.refusal.Refusal.TheVariants.{OutputSize}
+use Rattle.layout.specs.Put.{Wrote}
 use Rattle.writer.specs.Answer.{number_in}
 use Rattle.writer.specs.Write.{WriteGives, ClassesAsk, PlainRows, RowsOfKind, Tells, slot_kind, slot_payload, class_payload}
-use Rattle.writer.specs.Writing.{Wrote, row_bytes, some_of_kind, number_of, width_of, row_numbers, row_text, row_values, row_column, plain_numbers, plain_front, validity_size, values_size}
+use Rattle.writer.specs.Writing.{row_bytes, some_of_kind, number_of, width_of, row_numbers, row_text, row_values, row_column, plain_numbers, plain_front, validity_size, values_size}
 use Rattle.layout.proofs.FieldLaws.{length_field}
-use Rattle.writer.proofs.WroteLaws.{length_rows, rows_same, numbers_long, low_bytes, wrote_as, wrote_then, wrote_long}
+use Rattle.layout.proofs.PutLaws.{wrote_as, wrote_then, wrote_long}
+use Rattle.writer.proofs.WroteLaws.{length_rows, rows_same, numbers_long, low_bytes}
 use Rattle.writer.proofs.RowKindLaws.{any_none}
 use Rattle.writer.proofs.ColumnPutLaws.{rows_empty, empty_field, count_size_lem}
 use Rattle.writer.proofs.RowCountLaws.{nulls_none}

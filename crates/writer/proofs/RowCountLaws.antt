@@ -10,12 +10,14 @@ use lib.Dec.{eqb}
 use lib.ListN.{length}
 use borrow.Author.Tests.{lt-ltb}
 use Rattle.layout.specs.Bytes.{bitmap_length}
+use Rattle.layout.specs.Put.{Wrote}
+use Rattle.layout.proofs.PutLaws.{wrote_byte, wrote_to}
 use Rattle.scalar.specs.declared.value.Value.{Value}
 use Rattle.scalar.specs.Value.{kind_of}
-use Rattle.writer.specs.Writing.{Wrote, BitsWrote, row_bytes, count_rows, some_of_kind, flag_of, flag_at, flag_count, row_nulls, bits_from, row_bits}
+use Rattle.writer.specs.Writing.{BitsWrote, row_bytes, count_rows, some_of_kind, flag_of, flag_at, flag_count, row_nulls, bits_from, row_bits}
 use Rattle.writer.proofs.RowBitLaws.{flag_out, bit_below, bits_size}
 use Rattle.writer.proofs.RowKindLaws.{none_at}
-use Rattle.writer.proofs.WroteLaws.{SoFar, so_far_none, so_far_more, so_far_ends, wrote_byte, wrote_to}
+use Rattle.writer.proofs.WroteLaws.{SoFar, so_far_none, so_far_more, so_far_ends}
 
 -- ---- rows that pass a test
 

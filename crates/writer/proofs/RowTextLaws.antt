@@ -5,11 +5,13 @@ use Prim.Native.Nat.{ℕ, zero, suc, ◌+◌, ◌*◌, ◌^◌, ◌<◌, ◌≤�
 use native.Mathlib.Omega.{arith}
 use lib.ListN.{length, take, drop, length-append, length-take, length-drop}
 use Rattle.layout.specs.Bytes.{number_bytes}
+use Rattle.layout.specs.Put.{Wrote}
+use Rattle.layout.proofs.PutLaws.{wrote_as}
 use Rattle.scalar.specs.declared.value.Value.{Value}
 use Rattle.scalar.specs.declared.value.Value.TheVariants.{Null, Boolean, Int32, Int64, Float64, Nan, RuleText, TableText, Failed}
 use Rattle.scalar.specs.Order.{text_in}
-use Rattle.writer.specs.Writing.{Wrote, row_bytes, row_text, row_offset}
-use Rattle.writer.proofs.WroteLaws.{SoFar, so_far_none, so_far_room, so_far_more, so_far_ends, length_row_more, rows_within, number_room, wrote_as}
+use Rattle.writer.specs.Writing.{row_bytes, row_text, row_offset}
+use Rattle.writer.proofs.WroteLaws.{SoFar, so_far_none, so_far_room, so_far_more, so_far_ends, length_row_more, rows_within, number_room}
 
 -- ---- texts of values
 

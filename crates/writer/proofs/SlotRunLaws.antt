@@ -22,14 +22,15 @@ use Rattle.scalar.specs.Types.{type_number, mark_number}
 use Rattle.std.specs.Prelude.{Result as RustResult, Ok, Err}
 use Rattle.layout.specs.declared.refusal.Refusal.{Refusal}
 use Rattle.layout.specs.declared.refusal.Refusal.TheVariants.{Cast, TextSize, OutputSize}
+use Rattle.layout.specs.Put.{wrote, Wrote}
 use Rattle.table.specs.TableBytes.{column_bytes}
 use Rattle.layout.proofs.FieldLaws.{length_field}
+use Rattle.layout.proofs.PutLaws.{wrote_as}
 use Rattle.writer.specs.Answer.{column_of, text_length}
 use Rattle.writer.specs.Written.{rows_from, entries_of, text_most, written_as, run_answer, output_after}
 use Rattle.writer.specs.Slots.{slot_at}
 use Rattle.writer.specs.Write.{row_outcomes, rows_run, WriteGives, WriteAsks, kind_fits}
-use Rattle.writer.specs.Writing.{wrote, Wrote, row_bytes, some_of_kind, row_entries, row_nulls, row_text, row_offset, row_validity, row_values, row_column, validity_size, values_size}
-use Rattle.writer.proofs.WroteLaws.{wrote_as}
+use Rattle.writer.specs.Writing.{row_bytes, some_of_kind, row_entries, row_nulls, row_text, row_offset, row_validity, row_values, row_column, validity_size, values_size}
 use Rattle.writer.proofs.ColumnPutLaws.{numbers_size, offsets_size, rows_empty, validity_size_lem, count_size_lem}
 use Rattle.writer.proofs.RowBitLaws.{bits_size}
 use Rattle.writer.proofs.RowKindLaws.{none_at, some_at}

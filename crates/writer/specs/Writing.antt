@@ -1,9 +1,10 @@
 -- What the writers of the answer promise: bytes at a place of the output, one row's behind the other's.
-use Rattle.std.specs.Prelude.{◌≡◌, Bool, true, false, cond, not, List, [], ◌∷◌, ◌++◌, map, ℕ, zero, suc, ◌+◌, ◌*◌, ◌<◌, ◌≤◌, eqb, ltb, length, take, drop}
+use Rattle.std.specs.Prelude.{◌≡◌, Bool, true, false, cond, not, List, [], ◌∷◌, ◌++◌, map, ℕ, zero, suc, ◌+◌, ◌*◌, ◌<◌, ◌≤◌, eqb, ltb, length}
 use Rattle.std.specs.Float.{binary64}
 use Rattle.std.specs.Float.Ieee.{to_bits}
 use Rattle.layout.specs.Bytes.{number_bytes, bitmap_length}
 use Rattle.layout.specs.Field.{field_bytes}
+use Rattle.layout.specs.Put.{Wrote}
 use Rattle.scalar.specs.declared.types.DataType.{DataType}
 use Rattle.scalar.specs.declared.value.Value.{Value}
 use Rattle.scalar.specs.declared.value.Value.TheVariants.{Null, Boolean, Int32, Int64, Float64, Nan, RuleText, TableText, Failed}
@@ -13,16 +14,6 @@ use Rattle.scalar.specs.Value.{meaning, kind_of}
 use Rattle.scalar.specs.Order.{text_in}
 use Rattle.scalar.specs.TryCast.{or_null}
 use Rattle.writer.specs.Written.{rows_from}
-
--- bytes written over those at a place
-unfoldable pub wrote : List ℕ → ℕ → List ℕ → List ℕ
-wrote out at bytes = take at out ++ bytes ++ drop (at + length bytes) out
-
--- out is now out': the bytes stand at a place and end at another, and nothing else is changed
-pub record Wrote (out : List ℕ) (at : ℕ) (bytes : List ℕ) (end : ℕ) (out' : List ℕ) : Type 0 where
-  pub fits : at + length bytes ≤ length out
-  pub ends : end ≡ at + length bytes
-  pub holds : out' ≡ wrote out at bytes
 
 -- calls at the first rows give their numbers
 pub record Gives (post : ℕ → ℕ → Type 0) (numbers : ℕ → ℕ) (rows : ℕ) : Type 0 where

@@ -1,8 +1,9 @@
 // An answer of numbers none of which is null: 17 and nothing, or its bytes at the front of the output.
 ghost use Rattle.std.specs.Prelude.{List, ℕ, ◌+◌, ◌-◌, ◌≤◌, length};
+ghost use Rattle.layout.specs.Put.{Wrote};
 ghost use Rattle.writer.specs.Slots.{slot_at};
 ghost use Rattle.writer.specs.Write.{PlainRows, RowsOfKind, Tells, WriteGives, slot_kind};
-ghost use Rattle.writer.specs.Writing.{Wrote, RowsAsk, plain_front, values_size};
+ghost use Rattle.writer.specs.Writing.{RowsAsk, plain_front, values_size};
 
 use crate::put::{put_count, put_header, put_numbers, put_type};
 use crate::slot::slot_payload;

@@ -1,9 +1,11 @@
-// Bytes put at a place of the output. Each function says where they end.
+// Bytes put at a place of the output. Each function says where they end. `put_byte` and `put_bytes` stand in `listing` too: they have a
+// `requires`, and no public function has one.
 ghost use Rattle.std.specs.Prelude.{ℕ, [], ◌∷◌, ◌+◌, ◌*◌, ◌<◌, ◌≤◌, length};
 ghost use Rattle.layout.specs.Bytes.{number_bytes};
 ghost use Rattle.layout.specs.Field.{field_bytes};
+ghost use Rattle.layout.specs.Put.{Wrote};
 ghost use Rattle.scalar.specs.Types.{type_number, mark_number};
-ghost use Rattle.writer.specs.Writing.{Wrote, Gives, width_of, row_bytes, plain_numbers};
+ghost use Rattle.writer.specs.Writing.{Gives, width_of, row_bytes, plain_numbers};
 
 use scalar::types::DataType;
 

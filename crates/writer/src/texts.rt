@@ -1,8 +1,9 @@
 // The rows' texts: how long they are, and they and their offsets put at a place of the output.
 ghost use Rattle.std.specs.Prelude.{◌≡◌, suc, ◌+◌, ◌≤◌, length};
+ghost use Rattle.layout.specs.Put.{Wrote};
 ghost use Rattle.scalar.specs.Order.{text_in};
 ghost use Rattle.writer.specs.Slots.{slot_at};
-ghost use Rattle.writer.specs.Writing.{Wrote, RowsAsk, row_bytes, row_text, row_offset};
+ghost use Rattle.writer.specs.Writing.{RowsAsk, row_bytes, row_text, row_offset};
 
 use crate::put::{put_bytes, put_number};
 use crate::slot::get_slot;

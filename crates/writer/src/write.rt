@@ -2,9 +2,10 @@
 ghost use Rattle.std.specs.Prelude.{◌≡◌, true, ◌++◌, suc, ◌+◌, ◌<◌, ◌≤◌, length};
 ghost use Rattle.layout.specs.Bytes.{bitmap_length};
 ghost use Rattle.layout.specs.Field.{field_bytes};
+ghost use Rattle.layout.specs.Put.{Wrote};
 ghost use Rattle.writer.specs.Slots.{slot_at};
 ghost use Rattle.writer.specs.Write.{ColumnGives, WriteGives, WriteAsks, kind_fits, lengths_fit, slots_fit, writable, rows_run};
-ghost use Rattle.writer.specs.Writing.{Wrote, BitFieldWrote, ValidityWrote, RowsAsk, some_of_kind, row_bytes, number_of, row_numbers, row_bits, row_text, row_offset, row_values, row_column, validity_size, values_size};
+ghost use Rattle.writer.specs.Writing.{BitFieldWrote, ValidityWrote, RowsAsk, some_of_kind, row_bytes, number_of, row_numbers, row_bits, row_text, row_offset, row_values, row_column, validity_size, values_size};
 
 use crate::WriteError;
 use crate::bitmap::put_bits;

@@ -1,10 +1,10 @@
 -- `tembalku_answer_null_count`: the nulls of an answer, as one number.
-use Rattle.table.specs.Reading.{read_alone}
-use Rattle.tembalku.proofs.CodeLaws.{answer_refused, answer_nulls}
+use Rattle.std.proofs.Common.{ℕ, ◌+◌, ap, ◌∙◌}
+use Rattle.tembalku.proofs.CodeLaws.{alone_refused, alone_nulls}
 use Rattle.tembalku.proofs.tembalku_answer_null_count.Goals as goal
 
-pub returns-then-a-ne0 : goal.returns-then-a-ne0
-returns-then-a-ne0 c = answer_refused c.args.rows (read_alone c.args.rows c.args.answer.now) c.read_alone-a.result c.read_alone-a.ensures c.if-a-ne0.true
+pub returns-in-Ok : goal.returns-in-Ok
+returns-in-Ok c = ap (λ (n : ℕ). 65536 + n) c.from.ensures ∙ alone_nulls c.args.rows c.args.answer.now c.read_alone.ensures c.in-Ok.is
 
-pub returns : goal.returns
-returns c = answer_nulls c.args.rows c.args.answer.now c.read_alone-a.result c.read_alone-a.ensures c.if-a-ne0.false
+pub returns-in-Err : goal.returns-in-Err
+returns-in-Err c = c.from-in-Err.ensures ∙ c.number.ensures ∙ alone_refused c.args.rows c.args.answer.now c.read_alone.ensures c.in-Err.is

@@ -1,17 +1,17 @@
--- `tembalku_table_read`: the answer of the reading, as one number.
-use native.Mathlib.Omega.{arith}
-use Rattle.tembalku.proofs.CodeLaws.{table_refused_lem, table_rows, table_accepted}
-use Rattle.table.proofs.StandLaws.{table_read}
+-- `tembalku_table_read`: the reading of a table, as one number.
+use Rattle.std.proofs.Common.{ℕ, ◌+◌, refl, ap, ◌∙◌, arith}
+use Rattle.table.specs.Reading.{read_table}
+use Rattle.tembalku.proofs.CodeLaws.{table_rows, table_accepted, table_refused_lem}
 use Rattle.tembalku.proofs.tembalku_table_read.Goals as goal
 
-pub returns-then-answer-ne0 : goal.returns-then-answer-ne0
-returns-then-answer-ne0 c = table_refused_lem c.args.table.now c.read-answer.result (table_read c.read-answer.ensures) c.if-answer-ne0.true
-
-pub overflow_cast-result-2 : goal.overflow_cast-result-2
-overflow_cast-result-2 c = omega (arith, table_rows c.args.table.now c.read-answer.result (table_read c.read-answer.ensures) c.if-answer-ne0.false)
+pub overflow_cast-result : goal.overflow_cast-result
+overflow_cast-result c = omega (arith, table_rows c.args.table.now c.read.ensures c.in-Ok.is)
 
 pub overflow_add-result : goal.overflow_add-result
-overflow_add-result c = omega (arith, table_rows c.args.table.now c.read-answer.result (table_read c.read-answer.ensures) c.if-answer-ne0.false)
+overflow_add-result c = omega (arith, table_rows c.args.table.now c.read.ensures c.in-Ok.is)
 
-pub returns : goal.returns
-returns c = table_accepted c.args.table.now c.read-answer.result (table_read c.read-answer.ensures) c.if-answer-ne0.false
+pub returns-in-Ok : goal.returns-in-Ok
+returns-in-Ok c = table_accepted c.args.table.now c.read.ensures c.in-Ok.is
+
+pub returns-in-Err : goal.returns-in-Err
+returns-in-Err c = c.from.ensures ∙ c.number.ensures ∙ table_refused_lem c.args.table.now c.read.ensures c.in-Err.is

@@ -4,7 +4,7 @@ use Rattle.rule.proofs.WalkLaws.{end_gives}
 use Rattle.case.proofs.case_values.case_keys.Goals as goal
 
 pub lookup_values-requires : goal.lookup_values-requires
-lookup_values-requires c = record { rows = list_rows c.requires.framed; values_len = (c.requires.values_len, c.requires.framed.short) }
+lookup_values-requires c = record { rows = list_rows c.requires; table_len_bound = c.requires.short }
 
 pub returns-then-lookup_values : goal.returns-then-lookup_values
 returns-then-lookup_values c = keys_found c.lookup_values.ensures c.if-lookup_values.true (end_gives c.field_end.ensures)

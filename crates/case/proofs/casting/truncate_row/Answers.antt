@@ -4,11 +4,11 @@ use Rattle.scalar.proofs.FloatLaws.{float_stores}
 use Rattle.case.proofs.CastingLaws.{float_row, other_row}
 use Rattle.case.proofs.casting.truncate_row.Goals as goal
 
-pub put_slot-requires : goal.put_slot-requires
-put_slot-requires c = record { row_bound = c.requires; storable = c.truncated.ensures.stores (float_stores _ (omega arith)) }
-
 pub returns-then-kind-eq4 : goal.returns-then-kind-eq4
 returns-then-kind-eq4 c = float_row c.args.short c.args.tried c.if-kind-eq4.true c.long-bits.ensures c.truncated.ensures c.put_slot.ensures
 
 pub returns : goal.returns
 returns c = other_row c.args.short c.args.tried refl
+
+pub put_slot-requires : goal.put_slot-requires
+put_slot-requires c = record { row_bound = c.requires; storable = c.truncated.ensures.stores (float_stores _ (omega arith)) }

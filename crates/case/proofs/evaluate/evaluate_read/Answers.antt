@@ -10,8 +10,8 @@ returns-then-not-fits c = not_fitting (λ i. omega (arith, c.type_inv.rule i)) (
 pub returns-then-work-lt-WORK_LEAST : goal.returns-then-work-lt-WORK_LEAST
 returns-then-work-lt-WORK_LEAST c = too_short (λ i. omega (arith, c.type_inv.rule i)) (λ i. omega (arith, c.type_inv.table i)) c.requires c.fits_table-fits.ensures (ap not c.if-not-fits.false) (omega arith)
 
-pub answer_rows-answer-requires : goal.answer_rows-answer-requires
-answer_rows-answer-requires c = answer_asks (λ i. omega (arith, c.type_inv.rule i)) (λ i. omega (arith, c.type_inv.table i)) c.requires c.fits_table-fits.ensures (ap not c.if-not-fits.false) (omega arith)
-
 pub returns : goal.returns
 returns c = evaluated (λ i. omega (arith, c.type_inv.rule i)) (λ i. omega (arith, c.type_inv.table i)) c.requires c.fits_table-fits.ensures (ap not c.if-not-fits.false) c.answer_rows-answer.ensures.right c.answer_rows-answer.ensures.wrote (omega arith) c.answer_rows-answer.ensures.long c.clear.ensures
+
+pub answer_rows-answer-requires : goal.answer_rows-answer-requires
+answer_rows-answer-requires c = answer_asks (λ i. omega (arith, c.type_inv.rule i)) (λ i. omega (arith, c.type_inv.table i)) c.requires c.fits_table-fits.ensures (ap not c.if-not-fits.false) (omega arith)

@@ -1,12 +1,9 @@
 use Rattle.std.proofs.Common.{sym, ◌∙◌, inl, inr, arith, ◌≡◌, length}
 use Rattle.std.proofs.Math.ListN.{length-map}
 use Rattle.table.specs.declared.places.ColumnPlace.{ColumnPlace}
-use Rattle.case.proofs.FitsLaws.{fitted_none, fitted_more, table_misfits, beyond_fits}
+use Rattle.case.proofs.FitsLaws.{fitted_more, table_misfits, beyond_fits}
 use Rattle.case.proofs.fits.fits_table.Goals as goal
 use Rattle.case.proofs.fits.fits_table.Goals.{then-mark-ne0+else-not-index_fits, else-mark-ne0}
-
-pub loop-i-init : goal.loop-i-init
-loop-i-init c = fitted_none
 
 pub returns-then-not-index_fits : goal.returns-then-not-index_fits
 returns-then-not-index_fits c = table_misfits c.args.seen c.args.t c.loop-i.i c.if-mark-ne0.true (λ bytes. sym c.if-not-index_fits.true ∙ c.index_fits.ensures bytes)

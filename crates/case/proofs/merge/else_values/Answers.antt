@@ -1,17 +1,11 @@
 -- Without ELSE the indexes are what the builder holds; with it the open list's rows are settled first.
-use Rattle.std.proofs.Common.{refl, arith}
+use Rattle.std.proofs.Common.{refl}
 use Rattle.case.proofs.MergeLaws.{values_none, values_some, settled_small}
 use Rattle.rule.proofs.WalkLaws.{behind_gives}
 use Rattle.case.proofs.merge.else_values.Goals as goal
 
-pub finished-requires : goal.finished-requires
-finished-requires c = let o = c.requires.0 in let z = o.small in omega arith
-
 pub returns-then-place-end : goal.returns-then-place-end
 returns-then-place-end c = values_none (behind_gives c.behind_fields-place.ensures) c.requires.0 c.if-place-end.true c.finished.ensures
-
-pub settle-s-requires : goal.settle-s-requires
-settle-s-requires c = record { fact = c.requires.0; in_bounds = c.requires.1; index_nonzero = (omega arith, omega arith) }
 
 pub finished-requires-2 : goal.finished-requires-2
 finished-requires-2 c = settled_small c.settle-s.ensures

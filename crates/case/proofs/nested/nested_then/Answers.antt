@@ -1,6 +1,5 @@
 -- `nested_then` picks the rows of the class to the next frame, where its literal is not of the kind, and classes them there.
 use Rattle.std.proofs.Common.{arith}
-use Rattle.case.proofs.FrameLaws.{rows_small}
 use Rattle.case.proofs.TakeLaws.{picked_asks}
 use Rattle.case.proofs.NestedLaws.{then_same, then_case}
 use Rattle.case.proofs.nested.nested_then.Goals as goal
@@ -8,11 +7,8 @@ use Rattle.case.proofs.nested.nested_then.Goals as goal
 pub returns-then-kinds-class : goal.returns-then-kinds-class
 returns-then-kinds-class c = then_same c.if-kinds-class.true
 
-pub pick-m-requires : goal.pick-m-requires
-pick-m-requires c = record { rows = rows_small c.requires.framed.small c.requires.framed.list_ok; in_bounds = (omega (arith, c.requires.framed.room), omega (arith, c.requires.classes_len.0)) }
-
-pub nested_case-requires : goal.nested_case-requires
-nested_case-requires c = record { framed = picked_asks {depth = 1} c.args.classes.now c.requires.framed (omega arith) c.pick-m.ensures; classes_len = (c.requires.classes_len.0, c.requires.classes_len.1, c.requires.classes_len.2) }
-
 pub returns : goal.returns
 returns c = then_case c.if-kinds-class.false c.pick-m.ensures c.nested_case.ensures
+
+pub nested_case-requires : goal.nested_case-requires
+nested_case-requires c = record { framed = picked_asks {depth = 1} c.args.classes.now c.requires.framed (omega arith) c.pick-m.ensures; arrays = (c.requires.arrays.0, c.requires.arrays.1) }

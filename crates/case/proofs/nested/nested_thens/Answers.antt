@@ -1,13 +1,7 @@
 use Rattle.std.proofs.Common.{arith}
-use Rattle.case.proofs.NestedLaws.{classed_none, classed_framed, classed_all, classed_not, classed_next}
+use Rattle.case.proofs.NestedLaws.{classed_framed, classed_all, classed_not, classed_next}
 use Rattle.rule.proofs.WalkLaws.{end_gives}
 use Rattle.case.proofs.nested.nested_thens.Goals as goal
-
-pub loop-k-init : goal.loop-k-init
-loop-k-init c = classed_none c.requires.thens_ask
-
-pub nested_then-used-requires : goal.nested_then-used-requires
-nested_then-used-requires c = record { framed = classed_framed c.requires.thens_ask c.requires.framed.list_ok.few c.loop-k.invariant c.requires.framed; classes_len = (c.loop-k.invariant.classes_long_lem, c.loop-k.invariant.grown.arrays, c.requires.thens_ask.some_kind, omega (arith, c.requires.thens_ask.few, c.loop-k-test.true)) }
 
 pub returns-then-used-eq0 : goal.returns-then-used-eq0
 returns-then-used-eq0 c = classed_not c.requires.thens_ask c.requires.framed.list_ok.few c.loop-k.invariant c.nested_then-used.ensures
@@ -17,3 +11,6 @@ loop-k-preserved c = classed_next c.requires.thens_ask c.requires.framed.list_ok
 
 pub returns : goal.returns
 returns c = classed_all c.requires.thens_ask c.requires.framed.list_ok.few c.loop-k.invariant (omega (arith, c.loop-k-test.false))
+
+pub nested_then-used-requires : goal.nested_then-used-requires
+nested_then-used-requires c = record { framed = classed_framed c.requires.thens_ask c.requires.framed.list_ok.few c.loop-k.invariant c.requires.framed; arrays = (c.loop-k.invariant.grown.arrays, c.requires.thens_ask.some_kind, omega (arith, c.requires.thens_ask.few, c.loop-k-test.true)) }

@@ -4,11 +4,8 @@ use Rattle.case.proofs.LookUpTrees.{zeros}
 use Rattle.case.proofs.ResultLaws.{start_right}
 use Rattle.case.proofs.results.start_results.Goals as goal
 
-pub read_results-requires : goal.read_results-requires
-read_results-requires c = record { kinds_long = refl; payloads_long = refl; few = omega arith; empty = zeros 258 }
-
-pub put_results-requires : goal.put_results-requires
-put_results-requires c = record { fillable = c.requires.fillable; in_bounds = (c.requires.in_bounds, c.read_results.ensures.kinds_long, c.read_results.ensures.payloads_long) }
-
 pub returns : goal.returns
 returns c = start_right c.read_results.ensures c.put_results.ensures
+
+pub read_results-requires : goal.read_results-requires
+read_results-requires c = record { kinds_long = refl; payloads_long = refl; few = omega arith; empty = zeros 258 }

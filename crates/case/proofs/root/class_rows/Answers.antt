@@ -4,16 +4,16 @@ use Rattle.case.proofs.RootLaws.{root_framed, classes_none, thens_ask, classes_g
 use Rattle.case.proofs.root.class_rows.Goals as goal
 
 pub returns-then-not-is_number : goal.returns-then-not-is_number
-returns-then-not-is_number c = classes_none c.requires.classes_len.0 c.requires.classes_len.1 c.requires.classes_len.2
+returns-then-not-is_number c = classes_none (omega arith) c.requires.kinds_len.0 c.requires.kinds_len.1
 
 pub root_results-place-requires : goal.root_results-place-requires
-root_results-place-requires c = (c.requires.classes_len.1, c.requires.classes_len.2, c.requires.classes_len.3)
+root_results-place-requires c = (c.requires.kinds_len.0, c.requires.kinds_len.1, c.requires.kinds_len.2)
 
 pub returns-then-place-eq0 : goal.returns-then-place-eq0
-returns-then-place-eq0 c = classes_none c.requires.classes_len.0 c.root_results-place.ensures.kinds_long c.root_results-place.ensures.payloads_long
+returns-then-place-eq0 c = classes_none (omega arith) c.root_results-place.ensures.kinds_long c.root_results-place.ensures.payloads_long
 
 pub case_values-requires : goal.case_values-requires
-case_values-requires c = record { framed = root_framed c.requires.root_asks 1 (omega arith); values_len = c.requires.classes_len.0 }
+case_values-requires c = root_framed c.requires.root_asks 1 (omega arith)
 
 pub returns-then-ne : goal.returns-then-ne
 returns-then-ne c = classes_none c.case_values.ensures.long c.root_results-place.ensures.kinds_long c.root_results-place.ensures.payloads_long

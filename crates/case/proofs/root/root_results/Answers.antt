@@ -1,17 +1,10 @@
 -- `root_results` has the results, and the place of the branches where they serve.
-use Rattle.std.proofs.Common.{arith}
 use Rattle.case.proofs.RootLaws.{results_none, results_give}
 use Rattle.rule.proofs.TypeOfLaws.{type_gives}
 use Rattle.case.proofs.root.root_results.Goals as goal
 
-pub read_results-requires : goal.read_results-requires
-read_results-requires c = record { kinds_long = c.requires.0; payloads_long = c.requires.1; few = omega (arith, c.byte_at-count.type_inv); empty = c.requires.2 }
-
 pub returns-then-kinds-count : goal.returns-then-kinds-count
 returns-then-kinds-count c = results_none c.byte_at-count.ensures (type_gives c.type_of.ensures) c.read_results.ensures
-
-pub may_class-requires : goal.may_class-requires
-may_class-requires c = (c.read_results.ensures.kinds_long, omega (arith, c.byte_at-count.type_inv))
 
 pub returns-then-may_class : goal.returns-then-may_class
 returns-then-may_class c = results_give c.byte_at-count.ensures (type_gives c.type_of.ensures) c.read_results.ensures c.if-kinds-count.false

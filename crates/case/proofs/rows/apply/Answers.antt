@@ -1,10 +1,6 @@
 -- `apply` by the operation: a cast, a try-cast, or none.
-use Rattle.std.proofs.Common.{rules}
-use Rattle.case.proofs.CastingLaws.{no_cast, filled_by}
+use Rattle.case.proofs.CastingLaws.{filled_by}
 use Rattle.case.proofs.rows.apply.Goals as goal
-
-pub apply_castless-requires : goal.apply_castless-requires
-apply_castless-requires c = (c.requires, no_cast c.args.op (search rules))
 
 pub returns-in-Cast : goal.returns-in-Cast
 returns-in-Cast c = filled_by c.in-Cast.is c.cast_rows.ensures

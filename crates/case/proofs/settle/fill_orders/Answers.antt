@@ -1,4 +1,5 @@
 -- `fill_orders` compares the open rows where that is asked for.
+use Rattle.std.proofs.Common.{arith}
 use Rattle.case.proofs.ClassLaws.{orders_asked, orders_unasked}
 use Rattle.case.proofs.settle.fill_orders.Goals as goal
 
@@ -6,4 +7,4 @@ pub returns-then-asks_equal : goal.returns-then-asks_equal
 returns-then-asks_equal c = orders_asked c.compare_list.ensures
 
 pub returns-else-asks_equal : goal.returns-else-asks_equal
-returns-else-asks_equal c = orders_unasked c.requires.in_bounds.1 c.asks_equal.ensures c.if-asks_equal.false
+returns-else-asks_equal c = orders_unasked (omega arith) c.asks_equal.ensures c.if-asks_equal.false

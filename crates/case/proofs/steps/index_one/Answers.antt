@@ -2,4 +2,4 @@ use Rattle.case.proofs.StepLaws.{indices_more}
 use Rattle.case.proofs.steps.index_one.Goals as goal
 
 pub loop-i-preserved : goal.loop-i-preserved
-loop-i-preserved c = indices_more c.loop-i.invariant c.requires.rows.0 c.loop-i-test.true c.row_at-r.ensures c.one_row.ensures
+loop-i-preserved c = indices_more c.loop-i.invariant c.requires.0 c.loop-i-test.true c.row_at-r.ensures c.one_row.ensures

@@ -1,5 +1,5 @@
 -- `write_hex` writes `t`, then the text.
-use Rattle.listing.proofs.WriteLaws.{wrote_then}
+use Rattle.layout.proofs.PutLaws.{wrote_then}
 use Rattle.listing.proofs.entry.write_hex.Goals as goal
 
 pub returns : goal.returns

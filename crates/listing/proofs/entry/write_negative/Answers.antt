@@ -1,5 +1,5 @@
 -- `write_negative` writes the sign, then the decimal.
-use Rattle.listing.proofs.WriteLaws.{wrote_then}
+use Rattle.layout.proofs.PutLaws.{wrote_then}
 use Rattle.listing.proofs.entry.write_negative.Goals as goal
 
 pub returns : goal.returns

@@ -1,7 +1,7 @@
 -- `write_head` writes the word, the row count and what follows it.
 use Rattle.std.proofs.Common.{◌∙◌}
+use Rattle.layout.proofs.PutLaws.{wrote_then}
 use Rattle.scalar.proofs.TypeLaws.{boolean_mark}
-use Rattle.listing.proofs.WriteLaws.{wrote_then}
 use Rattle.listing.proofs.LineLaws.{head_as}
 use Rattle.listing.proofs.line.write_head.Goals as goal
 

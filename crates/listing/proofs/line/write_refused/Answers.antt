@@ -1,5 +1,5 @@
 -- `write_refused` writes the word, the number and LF.
-use Rattle.listing.proofs.WriteLaws.{wrote_then}
+use Rattle.layout.proofs.PutLaws.{wrote_then}
 use Rattle.listing.proofs.line.write_refused.Goals as goal
 
 pub returns : goal.returns

@@ -1,5 +1,5 @@
 -- `write_row` writes the number, a space, the entry and LF.
-use Rattle.listing.proofs.WriteLaws.{wrote_then}
+use Rattle.layout.proofs.PutLaws.{wrote_then}
 use Rattle.listing.proofs.line.write_row.Goals as goal
 
 pub returns : goal.returns

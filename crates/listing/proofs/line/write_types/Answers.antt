@@ -1,5 +1,5 @@
 -- `write_types` writes the two words, each with its digit, and LF.
-use Rattle.listing.proofs.WriteLaws.{wrote_then, wrote_byte}
+use Rattle.layout.proofs.PutLaws.{wrote_then, wrote_byte}
 use Rattle.listing.proofs.line.write_types.Goals as goal
 
 pub returns : goal.returns

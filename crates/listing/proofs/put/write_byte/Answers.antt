@@ -2,7 +2,7 @@
 use native.Mathlib.Omega.{arith}
 use mathlib.Core.Path.{refl}
 use mathlib.Core.List.{[], ◌∷◌}
-use Rattle.listing.proofs.WriteLaws.{wrote_sets}
+use Rattle.layout.proofs.PutLaws.{wrote_sets}
 use Rattle.listing.proofs.put.write_byte.Goals as goal
 
 pub returns : goal.returns

@@ -1,5 +1,6 @@
-use Rattle.listing.proofs.WriteLaws.{wrote_part}
+-- `write_bytes` copies the bytes to their place.
+use Rattle.layout.proofs.PutLaws.{wrote_mid}
 use Rattle.listing.proofs.put.write_bytes.Goals as goal
 
 pub returns : goal.returns
-returns c = wrote_part c.requires c.put_part.ensures
+returns c = wrote_mid c.requires c.copy_from_slice.ensures.after

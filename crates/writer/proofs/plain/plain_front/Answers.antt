@@ -1,6 +1,7 @@
 -- `plain_front` puts the type, a count of 0, no validity and the head of tag 4, one behind the other.
 use native.Mathlib.Omega.{arith}
-use Rattle.writer.proofs.WroteLaws.{wrote_long, header_room}
+use Rattle.layout.proofs.PutLaws.{wrote_long}
+use Rattle.writer.proofs.WroteLaws.{header_room}
 use Rattle.writer.proofs.ColumnPutLaws.{type_ends, count_ends}
 use Rattle.writer.proofs.PlainLaws.{values_small, front_put}
 use Rattle.writer.proofs.plain.plain_front.Goals as goal

@@ -2,7 +2,7 @@
 use native.Mathlib.Omega.{arith}
 use mathlib.Core.Path.{refl}
 use mathlib.Core.List.{[], ◌∷◌}
-use Rattle.writer.proofs.WroteLaws.{wrote_sets}
+use Rattle.layout.proofs.PutLaws.{wrote_sets}
 use Rattle.writer.proofs.put.put_byte.Goals as goal
 
 pub returns : goal.returns

@@ -1,5 +1,5 @@
 -- `put_bytes` copies the bytes to their place.
-use Rattle.writer.proofs.WroteLaws.{wrote_mid}
+use Rattle.layout.proofs.PutLaws.{wrote_mid}
 use Rattle.writer.proofs.put.put_bytes.Goals as goal
 
 pub returns : goal.returns

@@ -1,5 +1,6 @@
 -- `put_header` stores the tag and the length behind it.
-use Rattle.writer.proofs.WroteLaws.{wrote_then, wrote_lowest}
+use Rattle.layout.proofs.PutLaws.{wrote_then}
+use Rattle.writer.proofs.WroteLaws.{wrote_lowest}
 use Rattle.writer.proofs.put.put_header.Goals as goal
 
 pub returns : goal.returns

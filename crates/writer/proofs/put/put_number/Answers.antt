@@ -1,6 +1,7 @@
 -- `put_number` puts the bytes of the number or of its low 32 bits.
 use Prim.Native.Nat.{◌%◌}
-use Rattle.writer.proofs.WroteLaws.{wrote_lowest, wrote_as, low_bytes, width_bytes}
+use Rattle.layout.proofs.PutLaws.{wrote_as}
+use Rattle.writer.proofs.WroteLaws.{wrote_lowest, low_bytes, width_bytes}
 use Rattle.writer.proofs.put.put_number.Goals as goal
 
 pub returns-then-wide : goal.returns-then-wide

@@ -1,8 +1,9 @@
 use mathlib.Core.Path.{ap}
 use native.Mathlib.Omega.{arith}
 use Rattle.layout.specs.Bytes.{number_bytes}
+use Rattle.layout.proofs.PutLaws.{wrote_as}
 use Rattle.writer.specs.Writing.{width_of}
-use Rattle.writer.proofs.WroteLaws.{so_far_none, so_far_more, so_far_ends, wrote_as, numbers_start, numbers_room, numbers_next, numbers_long}
+use Rattle.writer.proofs.WroteLaws.{so_far_none, so_far_more, so_far_ends, numbers_start, numbers_room, numbers_next, numbers_long}
 use Rattle.writer.proofs.put.put_numbers.Goals as goal
 
 pub loop-i-init : goal.loop-i-init

@@ -2,9 +2,10 @@
 use native.Mathlib.Omega.{arith}
 use Rattle.layout.specs.Bytes.{number_bytes}
 use Rattle.layout.specs.Field.{field_bytes}
+use Rattle.layout.proofs.PutLaws.{wrote_then, wrote_long, wrote_byte}
 use Rattle.std.proofs.Common.{◌∙◌}
 use Rattle.scalar.proofs.TypeLaws.{boolean_mark}
-use Rattle.writer.proofs.WroteLaws.{wrote_then, wrote_long, wrote_byte, header_room}
+use Rattle.writer.proofs.WroteLaws.{header_room}
 use Rattle.writer.proofs.put.put_type.Goals as goal
 
 pub put_byte-q-requires : goal.put_byte-q-requires

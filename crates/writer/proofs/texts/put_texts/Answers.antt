@@ -1,6 +1,7 @@
 use mathlib.Core.Path.{ap, ◌∙◌}
+use Rattle.layout.proofs.PutLaws.{wrote_as, room_as}
 use Rattle.scalar.specs.Order.{text_in}
-use Rattle.writer.proofs.WroteLaws.{so_far_none, so_far_room, so_far_more, wrote_as, room_as}
+use Rattle.writer.proofs.WroteLaws.{so_far_none, so_far_room, so_far_more}
 use Rattle.writer.proofs.texts.put_texts.Goals as goal
 
 pub loop-i-init : goal.loop-i-init
