@@ -32,6 +32,7 @@ pub fn put_hex(n: u64, k: usize, at: usize, out: &mut [u8]) -> Option<usize>
 pub(crate) fn decimal_places(n: u64) -> usize
     ensures { (result ≡ places n) × (result ≤ 20) }
 {
+    // Not a `for`: the digits are counted by dividing them away.
     let mut k = 1;
     let mut rest = n;
     while 10 <= rest {
