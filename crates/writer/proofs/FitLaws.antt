@@ -12,6 +12,7 @@ use lib.ListN.{length, get_or}
 use borrow.Author.Tests.{ltb-true, ltb-false, leb-true, eqb-true, lt-ltb, le-ltb, le-leb, lt-leb, eq-eqb, ne_eqb}
 use Rattle.layout.specs.Bytes.{Bytes}
 use Rattle.layout.specs.Result.{Result}
+use Rattle.layout.proofs.TestLaws.{both_hold}
 use Rattle.scalar.specs.declared.types.DataType.{DataType}
 use Rattle.scalar.specs.declared.value.Value.{Value}
 use Rattle.scalar.specs.declared.value.Value.TheVariants.{Null, Boolean, Int32, Int64, Float64, Nan, RuleText, TableText, Failed}
@@ -54,11 +55,6 @@ gives_rows {run = run} r e g is = record { says = same r (run_answer run) (sym i
     same (Err e) (Ok m) p = let z : ◌≡◌ {A = ℕ} 0 1 = cc in absurd (omega arith)
     same (Err e) (Err f) p = ap Err cc
 
--- two tests that both passed
-both : (a b : Bool) → (a && b) ≡ true → (a ≡ true) × (b ≡ true)
-both true b e = (refl, e)
-both false b e = absurd (false≢true e)
-
 -- ---- each row passes
 
 -- where the loop stands: i rows have passed
@@ -73,9 +69,6 @@ each_none = record { few = omega arith; each = refl }
 pub each_more : {f : ℕ → Bool} {n i : ℕ} → EachSoFar f n i → i < n → f i ≡ true → EachSoFar f n (i + 1)
 unfolding each_row
 each_more {f} {n} {i} s h e = record { few = omega arith; each = rw (add-one i, e) s.each }
-
-pub each_ends : {f : ℕ → Bool} {n i : ℕ} → EachSoFar f n i → n ≤ i → true ≡ each_row f n
-each_ends {f} {n} {i} s h = let few = s.few in let e : i ≡ n = omega arith in sym s.each ∙ ap (each_row f) e
 
 -- all of them
 each_all : (f : ℕ → Bool) (n : ℕ) → ((i : ℕ) → i < n → f i ≡ true) → each_row f n ≡ true
@@ -103,23 +96,6 @@ each_fails f n i h e = go (each_row f n) refl
     go true p = sym e ∙ each_at f n i p h
 
 -- ---- the slots' kinds
-
-module _ (code k : ℕ) where
-  -- null's
-  pub null_fits : k ≡ 0 → true ≡ kind_fits code k
-  null_fits e = rw e
-
-  -- failed's
-  pub failed_fits : k ≡ 7 → true ≡ kind_fits code k
-  failed_fits e = rw e
-
-  -- that of a text in the table
-  pub table_fits : k ≡ 6 → eqb code 5 ≡ kind_fits code k
-  table_fits e = rw e
-
-  -- any other
-  pub own_fits : (k ≡ 0 → ⊥) → (k ≡ 7 → ⊥) → (k ≡ 6 → ⊥) → eqb k code ≡ kind_fits code k
-  own_fits n m o = rw (ne_eqb k 0 n, ne_eqb k 7 m, ne_eqb k 6 o)
 
 -- a row's kind by its value
 module _ (w : List ℕ) (code i : ℕ) {kd : ℕ} {x : Value} {b : Bool} (fits : b ≡ kind_fits code kd) (p : kd ≡ kind_of x) (q : x ≡ slot_at w i) where
@@ -178,10 +154,6 @@ number_fits DataType.Utf8 a b = refl
 -- ---- the slots
 
 module _ (rule table w : List ℕ) (rows : ℕ) where
-  -- too many rows
-  pub rows_many : 512 < rows → false ≡ lengths_fit rule table w rows
-  rows_many h = rw (lt-leb rows 512 h)
-
   module _ (few : rows ≤ 512) where
     -- too short a frame
     pub frame_short : length w < 5632 → false ≡ lengths_fit rule table w rows
@@ -199,9 +171,9 @@ module _ (rule table w : List ℕ) (rows : ℕ) where
   -- what the lengths tell
   length_facts : lengths_fit rule table w rows ≡ true → (rows ≤ 512) × (5632 ≤ length w) × (length rule ≤ 65536) × (length table ≤ 65536)
   length_facts e =
-      let p = both (leb rows 512 && leb 5632 (length w) && leb (length rule) 65536) (leb (length table) 65536) e in
-      let q = both (leb rows 512 && leb 5632 (length w)) (leb (length rule) 65536) p.0 in
-      let r = both (leb rows 512) (leb 5632 (length w)) q.0 in
+      let p = both_hold (leb rows 512 && leb 5632 (length w) && leb (length rule) 65536) (leb (length table) 65536) e in
+      let q = both_hold (leb rows 512 && leb 5632 (length w)) (leb (length rule) 65536) p.0 in
+      let r = both_hold (leb rows 512) (leb 5632 (length w)) q.0 in
       (leb-true rows 512 r.0, leb-true 5632 (length w) r.1, leb-true (length rule) 65536 q.1, leb-true (length table) 65536 p.1)
 
   module _ {b : Bool} (is : b ≡ lengths_fit rule table w rows) where
@@ -230,7 +202,7 @@ module _ (rule table w : List ℕ) (rows : ℕ) where
   -- slots that can be written, fact by fact
   pub write_asks : (t : DataType) → writable rule table w rows t ≡ true → WriteAsks rule table w rows t
   write_asks t e =
-      let a = both (lengths_fit rule table w rows) (slots_fit (type_number t) w rows) e in
+      let a = both_hold (lengths_fit rule table w rows) (slots_fit (type_number t) w rows) e in
       let f = length_facts a.0 in
       record {
         few = f.0;
@@ -248,21 +220,10 @@ module _ (rule table w : List ℕ) (rows : ℕ) where
 
 -- ---- the classes
 
--- a type's number below those of numbers
-pub number_below : (code : ℕ) → code < 2 → false ≡ number_type code
-number_below code h = rw (lt-leb 2 code h)
-
--- or not
-pub number_last : (code : ℕ) → 2 ≤ code → leb code 4 ≡ number_type code
-number_last code h = rw (le-leb 2 code h)
-
 -- the greatest of the first rows' classes
 pub record MostSoFar (classes : List ℕ) (i most : ℕ) : Type 0 where
   pub below : (j : ℕ) → j < i → get_or classes j 0 ≤ most
   pub some : (most ≡ 0) ⊎ ((j : ℕ) × (j < i) × (get_or classes j 0 ≡ most))
-
-pub most_none : {classes : List ℕ} → MostSoFar classes 0 0
-most_none = record { below = λ j h. absurd (omega arith); some = inl refl }
 
 module _ {classes : List ℕ} {i most : ℕ} (s : MostSoFar classes i most) where
   -- one more
@@ -290,10 +251,6 @@ module _ {classes : List ℕ} {i most : ℕ} (s : MostSoFar classes i most) wher
       go false e (inr (j, l, p)) = each_fails (class_in classes) rows j (omega arith) (le-ltb (get_or classes j 0) 258 (let m = ltb-false most 258 e in omega arith))
 
 module _ (rows : ℕ) (classes payloads : List ℕ) where
-  -- too many rows
-  pub many_classes : 512 < rows → false ≡ classes_long rows classes payloads
-  many_classes h = rw (lt-leb rows 512 h)
-
   module _ (few : rows ≤ 512) where
     -- an array of another length
     pub classes_differ : (length classes ≡ 512 → ⊥) → false ≡ classes_long rows classes payloads
@@ -305,8 +262,8 @@ module _ (rows : ℕ) (classes payloads : List ℕ) where
   -- what the lengths tell
   long_facts : classes_long rows classes payloads ≡ true → (rows ≤ 512) × (length classes ≡ 512) × (length payloads ≡ 258)
   long_facts e =
-      let p = both (leb rows 512 && eqb (length classes) 512) (eqb (length payloads) 258) e in
-      let r = both (leb rows 512) (eqb (length classes) 512) p.0 in
+      let p = both_hold (leb rows 512 && eqb (length classes) 512) (eqb (length payloads) 258) e in
+      let r = both_hold (leb rows 512) (eqb (length classes) 512) p.0 in
       (leb-true rows 512 r.0, eqb-true (length classes) 512 r.1, eqb-true (length payloads) 258 p.1)
 
   module _ {b : Bool} (is : b ≡ classes_long rows classes payloads) where
@@ -331,9 +288,9 @@ module _ (rows : ℕ) (classes payloads : List ℕ) where
   -- classes that can be written, fact by fact
   pub classes_ask : (t : DataType) → classed rows t classes payloads ≡ true → ClassesAsk rows t classes payloads
   classes_ask t e =
-      let a = both (classes_long rows classes payloads && number_type (type_number t)) (classes_in classes rows) e in
-      let b = both (classes_long rows classes payloads) (number_type (type_number t)) a.0 in
-      let n = both (leb 2 (type_number t)) (leb (type_number t) 4) b.1 in
+      let a = both_hold (classes_long rows classes payloads && number_type (type_number t)) (classes_in classes rows) e in
+      let b = both_hold (classes_long rows classes payloads) (number_type (type_number t)) a.0 in
+      let n = both_hold (leb 2 (type_number t)) (leb (type_number t) 4) b.1 in
       let f = long_facts b.0 in
       record {
         number = (leb-true 2 (type_number t) n.0, leb-true (type_number t) 4 n.1);
