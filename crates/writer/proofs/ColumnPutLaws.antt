@@ -15,7 +15,7 @@ use Rattle.scalar.specs.declared.value.Value.{Value}
 use Rattle.scalar.specs.Types.{type_number, mark_number}
 use Rattle.scalar.specs.Value.{kind_of}
 use Rattle.writer.specs.Slots.{slot_at}
-use Rattle.writer.specs.Writing.{BitsWrote, BitFieldWrote, ValidityWrote, RowsAsk, row_bytes, some_of_kind, number_of, width_of, row_nulls, row_numbers, row_text, row_offset, row_validity, row_values, row_column, validity_size, values_size}
+use Rattle.writer.specs.Writing.{BitsWrote, BitFieldWrote, ValidityWrote, row_bytes, some_of_kind, number_of, width_of, row_nulls, row_numbers, row_text, row_offset, row_validity, row_values, row_column, validity_size, values_size}
 use Rattle.layout.proofs.FieldLaws.{length_field}
 use Rattle.layout.proofs.PutLaws.{wrote_as, wrote_to, wrote_then, wrote_before, wrote_long}
 use Rattle.writer.proofs.WroteLaws.{length_rows, wrote_field}
@@ -54,13 +54,10 @@ pub values_room : (at rows text n : ℕ) {t s : DataType} → t ≡ s → at + v
 values_room at rows text n e h = rw e at h
 
 -- the numbers of a column, what their field asks
-pub numbers_ask : (wide : Bool) (w : List ℕ) (rows at size n : ℕ) → RowsAsk w rows → size ≡ width_of wide * rows → at + (3 + size) ≤ n
-    → RowsAsk w rows × (size ≡ length (row_bytes (row_numbers wide (slot_at w)) rows)) × (size < 65536) × (at + 3 + size ≤ n)
-numbers_ask wide w rows at size n ask e h = (ask, e ∙ sym (numbers_size wide (slot_at w) rows), small wide e, omega arith)
+pub numbers_ask : (wide : Bool) (w : List ℕ) (rows at size n : ℕ) → rows ≤ 512 → size ≡ width_of wide * rows → at + (3 + size) ≤ n
+    → (size ≡ length (row_bytes (row_numbers wide (slot_at w)) rows)) × (size < 65536) × (at + 3 + size ≤ n)
+numbers_ask wide w rows at size n few e h = (e ∙ sym (numbers_size wide (slot_at w) rows), small wide e, omega arith)
   where
-    few : rows ≤ 512
-    few = ask.few
-
     small : (b : Bool) → size ≡ width_of b * rows → size < 65536
     small true p = omega (arith, few)
     small false p = omega (arith, few)

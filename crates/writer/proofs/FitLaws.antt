@@ -26,7 +26,7 @@ use Rattle.writer.specs.declared.WriteError.TheVariants.{NoColumn}
 use Rattle.writer.specs.Written.{run_answer}
 use Rattle.writer.specs.Slots.{slot_at}
 use Rattle.writer.specs.Write.{RunGives, ColumnGives, said, WriteAsks, ClassesAsk, PlainRows, kind_fits, lengths_fit, slot_fits, slots_fit, writable, slot_kind, slot_payload, classes_long, number_type, class_in, classes_in, classed}
-use Rattle.writer.specs.Writing.{each_row, RowsAsk}
+use Rattle.writer.specs.Writing.{each_row}
 use Rattle.writer.proofs.PlainLaws.{slot_fits_lem, kind_plain}
 
 -- ---- rows that are a column, and rows that are none
@@ -186,8 +186,8 @@ module _ (rule table w : List ℕ) (rows : ℕ) where
       fit = sym is ∙ e
 
       -- lengths that do
-      pub rows_ask : RowsAsk w rows
-      rows_ask = let f = length_facts fit in record { few = f.0; room = f.1 }
+      pub lengths_tell : (rows ≤ 512) × (5632 ≤ length w) × (length rule ≤ 65536) × (length table ≤ 65536)
+      lengths_tell = length_facts fit
 
       -- then the slots tell
       pub slots_tell : (t : DataType) {c d : Bool} {code : ℕ} → c ≡ slots_fit code w rows → code ≡ type_number t → c ≡ d → writable rule table w rows t ≡ d
