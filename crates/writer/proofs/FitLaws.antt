@@ -9,7 +9,7 @@ use native.Mathlib.Decide.{dec_lt, ℕ_discrete}
 use native.Mathlib.Omega.{arith}
 use lib.Dec.{eqb, ltb, leb}
 use lib.ListN.{length, get_or}
-use borrow.Author.Tests.{ltb-true, ltb-false, leb-true, eqb-true, lt-ltb, le-ltb, le-leb, lt-leb, eq-eqb, ne_eqb}
+use borrow.Author.Tests.{ltb-true, ltb-false, leb-true, eqb-true, lt-ltb, le-ltb, le-leb, eq-eqb}
 use Rattle.layout.specs.Bytes.{Bytes}
 use Rattle.layout.specs.Result.{Result}
 use Rattle.layout.proofs.TestLaws.{both_hold}
@@ -154,20 +154,6 @@ number_fits DataType.Utf8 a b = refl
 -- ---- the slots
 
 module _ (rule table w : List ℕ) (rows : ℕ) where
-  module _ (few : rows ≤ 512) where
-    -- too short a frame
-    pub frame_short : length w < 5632 → false ≡ lengths_fit rule table w rows
-    frame_short h = rw (le-leb rows 512 few, lt-leb 5632 (length w) h)
-
-    module _ (room : 5632 ≤ length w) where
-      -- too long a rule
-      pub rule_long : 65536 < length rule → false ≡ lengths_fit rule table w rows
-      rule_long h = rw (le-leb rows 512 few, le-leb 5632 (length w) room, lt-leb (length rule) 65536 h)
-
-      -- or a table
-      pub table_last : length rule ≤ 65536 → leb (length table) 65536 ≡ lengths_fit rule table w rows
-      table_last h = rw (le-leb rows 512 few, le-leb 5632 (length w) room, le-leb (length rule) 65536 h)
-
   -- what the lengths tell
   length_facts : lengths_fit rule table w rows ≡ true → (rows ≤ 512) × (5632 ≤ length w) × (length rule ≤ 65536) × (length table ≤ 65536)
   length_facts e =
@@ -176,28 +162,19 @@ module _ (rule table w : List ℕ) (rows : ℕ) where
       let r = both_hold (leb rows 512) (leb 5632 (length w)) q.0 in
       (leb-true rows 512 r.0, leb-true 5632 (length w) r.1, leb-true (length rule) 65536 q.1, leb-true (length table) 65536 p.1)
 
-  module _ {b : Bool} (is : b ≡ lengths_fit rule table w rows) where
-    -- lengths that don't fit
-    pub lengths_refused : (t : DataType) → b ≡ false → writable rule table w rows t ≡ false
-    lengths_refused t e = rw (sym is ∙ e)
+  module _ {b : Bool} (is : b ≡ lengths_fit rule table w rows) (e : b ≡ true) where
+    fit : lengths_fit rule table w rows ≡ true
+    fit = sym is ∙ e
 
-    module _ (e : b ≡ true) where
-      fit : lengths_fit rule table w rows ≡ true
-      fit = sym is ∙ e
+    -- where they fit, the slots tell
+    pub slots_tell : (t : DataType) {c d : Bool} {code : ℕ} → c ≡ slots_fit code w rows → code ≡ type_number t → c ≡ d → writable rule table w rows t ≡ d
+    slots_tell t p q z = ap₂ ◌&&◌ fit (sym (p ∙ ap (λ (k : ℕ). slots_fit k w rows) q) ∙ z)
 
-      -- lengths that do
-      pub lengths_tell : (rows ≤ 512) × (5632 ≤ length w) × (length rule ≤ 65536) × (length table ≤ 65536)
-      lengths_tell = length_facts fit
-
-      -- then the slots tell
-      pub slots_tell : (t : DataType) {c d : Bool} {code : ℕ} → c ≡ slots_fit code w rows → code ≡ type_number t → c ≡ d → writable rule table w rows t ≡ d
-      slots_tell t p q z = ap₂ ◌&&◌ fit (sym (p ∙ ap (λ (k : ℕ). slots_fit k w rows) q) ∙ z)
-
-      -- plain rows do
-      pub plain_written : {t : DataType} → Bytes w → PlainRows (slot_kind w) rows t → writable rule table w rows t ≡ true
-      plain_written {t} bytes plain =
-          ap₂ ◌&&◌ fit (each_all (slot_fits (type_number t) w) rows
-          (λ i h. ap (kind_fits (type_number t)) (kind_plain plain (slot_payload w) (slot_fits_lem w bytes) i h) ∙ number_fits t plain.number.0 plain.number.1))
+    -- plain rows do
+    pub plain_written : {t : DataType} → Bytes w → PlainRows (slot_kind w) rows t → writable rule table w rows t ≡ true
+    plain_written {t} bytes plain =
+        ap₂ ◌&&◌ fit (each_all (slot_fits (type_number t) w) rows
+        (λ i h. ap (kind_fits (type_number t)) (kind_plain plain (slot_payload w) (slot_fits_lem w bytes) i h) ∙ number_fits t plain.number.0 plain.number.1))
 
   -- slots that can be written, fact by fact
   pub write_asks : (t : DataType) → writable rule table w rows t ≡ true → WriteAsks rule table w rows t
@@ -251,39 +228,12 @@ module _ {classes : List ℕ} {i most : ℕ} (s : MostSoFar classes i most) wher
       go false e (inr (j, l, p)) = each_fails (class_in classes) rows j (omega arith) (le-ltb (get_or classes j 0) 258 (let m = ltb-false most 258 e in omega arith))
 
 module _ (rows : ℕ) (classes payloads : List ℕ) where
-  module _ (few : rows ≤ 512) where
-    -- an array of another length
-    pub classes_differ : (length classes ≡ 512 → ⊥) → false ≡ classes_long rows classes payloads
-    classes_differ h = rw (le-leb rows 512 few, ne_eqb (length classes) 512 h)
-
-    pub payloads_last : length classes ≡ 512 → eqb (length payloads) 258 ≡ classes_long rows classes payloads
-    payloads_last long = rw (le-leb rows 512 few, eq-eqb (length classes) 512 long)
-
   -- what the lengths tell
   long_facts : classes_long rows classes payloads ≡ true → (rows ≤ 512) × (length classes ≡ 512) × (length payloads ≡ 258)
   long_facts e =
       let p = both_hold (leb rows 512 && eqb (length classes) 512) (eqb (length payloads) 258) e in
       let r = both_hold (leb rows 512) (eqb (length classes) 512) p.0 in
       (leb-true rows 512 r.0, eqb-true (length classes) 512 r.1, eqb-true (length payloads) 258 p.1)
-
-  module _ {b : Bool} (is : b ≡ classes_long rows classes payloads) where
-    -- lengths that don't fit
-    pub long_refused : (t : DataType) → b ≡ false → false ≡ classed rows t classes payloads
-    long_refused t e = rw (sym is ∙ e)
-
-    module _ (e : b ≡ true) where
-      -- the loop's need
-      pub classes_room : rows ≤ length classes
-      classes_room = let f = long_facts (sym is ∙ e) in omega (arith, f.0, f.1)
-
-      module _ (t : DataType) {code : ℕ} (q : code ≡ type_number t) {c : Bool} (num : c ≡ number_type code) where
-        -- a type that is none of numbers
-        pub type_refused : c ≡ false → false ≡ classed rows t classes payloads
-        type_refused z = rw (sym is ∙ e, sym (num ∙ ap number_type q) ∙ z)
-
-        -- the rest
-        pub classes_last : {d : Bool} → c ≡ true → d ≡ classes_in classes rows → d ≡ classed rows t classes payloads
-        classes_last z p = rw (sym is ∙ e, sym (num ∙ ap number_type q) ∙ z) p
 
   -- classes that can be written, fact by fact
   pub classes_ask : (t : DataType) → classed rows t classes payloads ≡ true → ClassesAsk rows t classes payloads
