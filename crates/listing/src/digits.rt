@@ -56,8 +56,7 @@ pub(crate) fn digit(d: u64) -> u8
     requires { d < 16 }
     ensures { result ≡ digitOf d }
 {
-    let b = d as u8;
-    if b < 10 { 48 + b } else { 87 + b }
+    b"0123456789abcdef"[d as usize]
 }
 
 // The last digits of a number in a base up to 16, where they fit.
