@@ -317,8 +317,8 @@ texts_alike {rule} {rule'} {table} {table'} {validity} {offsets} {texts} {w} {va
 -- ---- a column
 
 module _ {table : List ℕ} {place : ColumnPlace} {kinds keys indices : List ℕ} {size otherwise : ℕ} {w : List ℕ} {n : ℕ} where
-  pub column_refused : {values : List ℕ} → length values ≡ 512 → (rule : List ℕ) → ColumnKeyed table place kinds keys indices size otherwise w n rule false values
-  column_refused e rule = record { long = e; each = λ h. absurd (false≢true h) }
+  pub column_refused : {values : List ℕ} → (rule : List ℕ) → ColumnKeyed table place kinds keys indices size otherwise w n rule false values
+  column_refused rule = record { each = λ h. absurd (false≢true h) }
 
   pub numbers_keyed : {rows code : ℕ} {entries validity numbers hints column values : List ℕ} → code ≡ type_number place.data_type → type_number place.data_type ≤ 4 → Rows w 0 n rows
       → NumbersRead kinds keys size code numbers hints → entries ≡ (column_in table place).values → KeysAt place.data_type entries rows column
@@ -326,7 +326,6 @@ module _ {table : List ℕ} {place : ColumnPlace} {kinds keys indices : List ℕ
       → (rule : List ℕ) → ColumnKeyed table place kinds keys indices size otherwise w n rule true values
   unfolding entry_at
   numbers_keyed {rows} {code} {entries} {validity} {numbers} {hints} {column} {values} code_is small listed r entries-is xs validity_is s rule = record {
-    long = s.long;
     each = λ h q l. (s.each q l).is ∙ ap (λ (y : ℕ). y / 2 + 1) (go q (subst (λ (y : ℕ). y < rows) l.2 (listed.below l.0 l.1)));
   }
     where
@@ -352,7 +351,6 @@ module _ {table : List ℕ} {place : ColumnPlace} {kinds keys indices : List ℕ
       → ColumnKeyed table place kinds keys indices size otherwise w n rule true values
   unfolding entry_at
   texts_keyed {rule} {validity} {offsets} {texts} {values} code_is validity_is offsets_is texts-is s = record {
-    long = s.long;
     each = λ h q l. (s.each q l).is ∙ ap (λ (y : Entry). key_index rule table kinds keys indices size otherwise (entry y) / 2 + 1) (go q);
   }
     where
@@ -380,14 +378,13 @@ number_type_lem Of.Utf8 h = absurd (h refl)
 -- ---- in a table
 
 module _ {rule : List ℕ} {at end : ℕ} {table : List ℕ} {t : Table} {count : ℕ} {w : List ℕ} {n : ℕ} where
-  pub keyed_refused : {values : List ℕ} → length values ≡ 512 → KeyedGive rule at end table t count w n false values
-  keyed_refused e = record { long = e; each = λ h. absurd (false≢true h) }
+  pub keyed_refused : {values : List ℕ} → KeyedGive rule at end table t count w n false values
+  keyed_refused = record { each = λ h. absurd (false≢true h) }
 
   pub keyed_gives : {A : Type 0} (f : ColumnPlace → A) {tag c first : ℕ} {served : Bool} {values : List ℕ} → length (map f t.columns) ≡ 16 → tag ≡ byte rule at → tag ≡ 16 → c ≡ byte rule (at + 3)
       → c < min t.count 16 → EndGives rule at first → BaseGives rule first end table (get_or t.columns c no_place) count w n served values → KeyedGive rule at end table t count w n served values
   unfolding eval
   keyed_gives f {tag} {c} {first} {served} {values} long tag_is column_tag index there ends g = record {
-    long = g.long;
     each = λ h q l.
         let x = g.each h q l in
         record {

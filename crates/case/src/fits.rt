@@ -1,5 +1,5 @@
 // Whether a table fits a rule: no column that the rule names is missing, of another type, or nullable where the rule says not.
-ghost use Rattle.std.specs.Prelude.{◌≡◌, ◌==◌, ℕ, List, drop, length};
+ghost use Rattle.std.specs.Prelude.{◌≡◌, ◌==◌, ℕ, List, drop};
 ghost use Rattle.std.specs.List.{list_all};
 ghost use Rattle.std.proofs.Math.Option.{some};
 ghost use Rattle.std.proofs.Math.ListN.{get_elem?};

@@ -8,19 +8,19 @@ use Rattle.rule.proofs.WalkLaws.{end_gives}
 use Rattle.case.proofs.column_lookup.lookup_values.Goals as goal
 
 pub returns-then-byte_at-ne16 : goal.returns-then-byte_at-ne16
-returns-then-byte_at-ne16 c = keyed_refused (omega arith)
+returns-then-byte_at-ne16 c = keyed_refused
 
 pub overflow_add-at : goal.overflow_add-at
 overflow_add-at c = omega (arith, tag_inside c.args.rule.now c.args.at c.byte_at.result c.byte_at.ensures c.if-byte_at-ne16.false)
 
 pub returns-then-t-c : goal.returns-then-t-c
-returns-then-t-c c = keyed_refused (omega arith)
+returns-then-t-c c = keyed_refused
 
 pub returns-then-c-ge-COLUMNS_MOST : goal.returns-then-c-ge-COLUMNS_MOST
-returns-then-c-ge-COLUMNS_MOST c = keyed_refused (omega arith)
+returns-then-c-ge-COLUMNS_MOST c = keyed_refused
 
 pub returns-then-count-gt-BRANCHES_MOST : goal.returns-then-count-gt-BRANCHES_MOST
-returns-then-count-gt-BRANCHES_MOST c = keyed_refused (omega arith)
+returns-then-count-gt-BRANCHES_MOST c = keyed_refused
 
 pub returns : goal.returns
 returns c =

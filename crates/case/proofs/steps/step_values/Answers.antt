@@ -6,13 +6,13 @@ use Rattle.case.proofs.StepLaws.{table_refused_lem, table_gives}
 use Rattle.case.proofs.steps.step_values.Goals as goal
 
 pub returns-in_default : goal.returns-in_default
-returns-in_default c = table_refused_lem (omega arith)
+returns-in_default c = table_refused_lem
 
 pub returns-then-t-c : goal.returns-then-t-c
-returns-then-t-c c = table_refused_lem (omega arith)
+returns-then-t-c c = table_refused_lem
 
 pub returns-then-c-ge16 : goal.returns-then-c-ge16
-returns-then-c-ge16 c = table_refused_lem (omega arith)
+returns-then-c-ge16 c = table_refused_lem
 
 pub returns : goal.returns
 returns c =

@@ -6,16 +6,16 @@ use Rattle.case.proofs.StepLaws.{when_refused, when_gives}
 use Rattle.case.proofs.steps.step_when.Goals as goal
 
 pub returns-then-not-asked : goal.returns-then-not-asked
-returns-then-not-asked c = when_refused (omega arith)
+returns-then-not-asked c = when_refused
 
 pub returns-in_default : goal.returns-in_default
-returns-in_default c = when_refused (omega arith)
+returns-in_default c = when_refused
 
 pub returns-then-t-c : goal.returns-then-t-c
-returns-then-t-c c = when_refused (omega arith)
+returns-then-t-c c = when_refused
 
 pub returns-then-c-ge16 : goal.returns-then-c-ge16
-returns-then-c-ge16 c = when_refused (omega arith)
+returns-then-c-ge16 c = when_refused
 
 pub returns : goal.returns
 returns c =
