@@ -14,7 +14,6 @@ use Rattle.table.proofs.RefusalLaws.{table_refusals_lem}
 use Rattle.builder.specs.Builder.{Builder, rising_below, is_whole, some_held, add_branch_result}
 use Rattle.std.specs.Prelude.{Result as RustResult}
 use Rattle.layout.specs.declared.refusal.Refusal.{Refusal}
-use Rattle.layout.specs.Refusals.{number_of, refusal_numbered}
 use Rattle.layout.proofs.RefusalLaws.{number_kept}
 use Rattle.writer.specs.Answer.{text_length}
 use Rattle.writer.specs.Written.{entries_of, text_most, written_as, zeros, run_answer, output_after}

@@ -164,10 +164,10 @@ module _ (b : ResultBuilder) (rows values : List ℕ) (asks : PartAsks b rows va
 
       pub part_added : PartGives b rows values b'
       part_added =
-        record {
-          same_rows = g.same_rows;
-          here = λ k h. ap (λ (x : Builder ℕ). get_or x.held (get_or rows k 0) none) is ∙ hold_here rows (builder_of b).held values 0 (rising_rows (length (builder_of b).held) size) asks.same k h;
-          others = λ q n. ap (λ (x : Builder ℕ). get_or x.held q none) is ∙ hold_others rows (builder_of b).held values q n;
-          whole_is = λ p. inr (eqb-true _ _ (sym (ap (λ (x : Builder ℕ). x.whole) is) ∙ p) ∙ size);
-          part_is = λ p. inr (omega arith);
-        }
+          record {
+            same_rows = g.same_rows;
+            here = λ k h. ap (λ (x : Builder ℕ). get_or x.held (get_or rows k 0) none) is ∙ hold_here rows (builder_of b).held values 0 (rising_rows (length (builder_of b).held) size) asks.same k h;
+            others = λ q n. ap (λ (x : Builder ℕ). get_or x.held q none) is ∙ hold_others rows (builder_of b).held values q n;
+            whole_is = λ p. inr (eqb-true _ _ (sym (ap (λ (x : Builder ℕ). x.whole) is) ∙ p) ∙ size);
+            part_is = λ p. inr (omega arith);
+          }

@@ -1,6 +1,6 @@
 -- `add_part` meets none of the builder's refusals.
-use Rattle.std.proofs.Common.{ℕ, length, ◌≡◌, rules, sym, ◌∙◌, eqb-true}
-use Rattle.case.proofs.PartLaws.{part_none, part_taken, part_added}
+use Rattle.std.proofs.Common.{rules}
+use Rattle.case.proofs.PartLaws.{part_taken, part_added}
 use Rattle.case.proofs.settle.add_part.Goals as goal
 
 pub unwrap-requires : goal.unwrap-requires
