@@ -1,5 +1,5 @@
 -- A column searched in a lookup table: hints, the numbers of the keys, and that a row's index is that of its entry. Assumes nothing.
-use Rattle.std.proofs.Common.{◌≡◌, ℕ, zero, suc, ◌+◌, ◌-◌, ◌*◌, ◌/◌, ◌%◌, ◌^◌, ◌<◌, ◌≤◌, min, Bool, true, false, cond, eqb, List, [], ◌∷◌, map, length, get_or, set, sym, refl, ap, ◌∙◌, subst, ap₂, add-one, arith, length-set, get_or-set_other, get_or-set_same, eq-eqb, ne_eqb}
+use Rattle.std.proofs.Common.{◌≡◌, ℕ, zero, suc, ◌+◌, ◌-◌, ◌*◌, ◌/◌, ◌%◌, ◌^◌, ◌<◌, ◌≤◌, Bool, true, false, cond, eqb, List, [], ◌∷◌, length, get_or, set, sym, refl, ap, ◌∙◌, subst, ap₂, add-one, arith, length-set, get_or-set_other, get_or-set_same, eq-eqb, ne_eqb}
 use mathlib.Core.Bool.{false≢true}
 use native.Mathlib.Decide.{ℕ_discrete}
 use lib.Ieee.{binary64, nan_bits, of_bits, to_bits}
@@ -26,7 +26,8 @@ use Rattle.table.specs.declared.places.ColumnPlace.{ColumnPlace}
 use Rattle.table.specs.declared.places.Table.{Table}
 use Rattle.table.specs.Column as columns
 use Rattle.table.specs.Column.{valid_in, entry_at}
-use Rattle.table.specs.Places.{column_in, no_place}
+use Rattle.std.specs.Prelude.{Some}
+use Rattle.table.specs.Places.{column_in, column_of}
 use Rattle.case.specs.declared.when_literal_index_map.WhenLiteralIndexMap.{WhenLiteralIndexMap}
 use Rattle.case.specs.ColumnSlots.{text_entry}
 use Rattle.case.specs.Evaluation.{row_in}
@@ -381,10 +382,10 @@ module _ {rule : List ℕ} {at end : ℕ} {table : List ℕ} {t : Table} {count 
   pub keyed_refused : {values : List ℕ} → KeyedGive rule at end table t count w n false values
   keyed_refused = record { each = λ h. absurd (false≢true h) }
 
-  pub keyed_gives : {A : Type 0} (f : ColumnPlace → A) {tag c first : ℕ} {served : Bool} {values : List ℕ} → length (map f t.columns) ≡ 16 → tag ≡ byte rule at → tag ≡ 16 → c ≡ byte rule (at + 3)
-      → c < min t.count 16 → EndGives rule at first → BaseGives rule first end table (get_or t.columns c no_place) count w n served values → KeyedGive rule at end table t count w n served values
+  pub keyed_gives : {tag c first : ℕ} {p : ColumnPlace} {served : Bool} {values : List ℕ} → tag ≡ byte rule at → tag ≡ 16 → c ≡ byte rule (at + 3)
+      → Some p ≡ column_of t c → EndGives rule at first → BaseGives rule first end table p count w n served values → KeyedGive rule at end table t count w n served values
   unfolding eval
-  keyed_gives f {tag} {c} {first} {served} {values} long tag_is column_tag index there ends g = record {
+  keyed_gives {tag} {c} {first} {p} {served} {values} tag_is column_tag index there ends g = record {
     each = λ h q l.
         let x = g.each h q l in
         record {
@@ -397,5 +398,5 @@ module _ {rule : List ℕ} {at end : ℕ} {table : List ℕ} {t : Table} {count 
         };
   }
     where
-      base_is : {depth : ℕ} (q : ℕ) (e : Expr) → NodeAt rule at first e depth → Tagged 16 e → eval e (row_in table t q) ≡ entry (entry_at (column_in table (get_or t.columns c no_place)) q)
-      base_is q e node (of_column x) = ap (row_in table t q) (sym (index ∙ node_byte 0 (at + 3) node (omega arith) (omega arith))) ∙ cell_found f table t long c there q
+      base_is : {depth : ℕ} (q : ℕ) (e : Expr) → NodeAt rule at first e depth → Tagged 16 e → eval e (row_in table t q) ≡ entry (entry_at (column_in table p) q)
+      base_is q e node (of_column x) = ap (row_in table t q) (sym (index ∙ node_byte 0 (at + 3) node (omega arith) (omega arith))) ∙ cell_found table t c there q

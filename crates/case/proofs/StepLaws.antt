@@ -1,5 +1,5 @@
 -- WHENs that compare one column with literals: how they are read, and that a row's index by its number is that of its branch. Assumes nothing.
-use Rattle.std.proofs.Common.{◌≡◌, ℕ, zero, suc, ◌+◌, ◌-◌, ◌*◌, ◌<◌, ◌≤◌, min, Bool, true, false, cond, eqb, ltb, ◌⊎◌, List, [], ◌∷◌, ◌++◌, map, length, get_or, set, Option, Some, None, IfSome, sym, refl, ap, ◌∙◌, subst, ap₂, inl, inr, arith, length-set, get_or-set_other, get_or-set_same}
+use Rattle.std.proofs.Common.{◌≡◌, ℕ, zero, suc, ◌+◌, ◌-◌, ◌*◌, ◌<◌, ◌≤◌, Bool, true, false, cond, eqb, ltb, ◌⊎◌, List, [], ◌∷◌, ◌++◌, length, get_or, set, Option, Some, None, IfSome, sym, refl, ap, ◌∙◌, subst, ap₂, inl, inr, arith, length-set, get_or-set_other, get_or-set_same}
 use mathlib.Core.Bool.{false≢true}
 use native.Mathlib.Decide.{ℕ_discrete}
 use Rattle.layout.specs.Bytes.{byte}
@@ -23,7 +23,7 @@ use Rattle.rule.proofs.WalkLaws.{node_of_tag, first_tree}
 use Rattle.table.specs.declared.places.ColumnPlace.{ColumnPlace}
 use Rattle.table.specs.declared.places.Table.{Table}
 use Rattle.table.specs.Column.{valid_in, value_at, entry_at}
-use Rattle.table.specs.Places.{column_in, no_place}
+use Rattle.table.specs.Places.{column_in, column_of}
 use Rattle.case.specs.declared.steps.Step.{Step}
 use Rattle.case.specs.declared.steps.Comparison.{Comparison}
 use Rattle.case.specs.Frame.{row_at, Rows, Listed}
@@ -379,12 +379,12 @@ module _ {rule : List ℕ} {at : ℕ} {table : List ℕ} {t : Table} {count : �
   pub table_refused_lem : {values : List ℕ} → StepsGive rule at table t count w n false values
   table_refused_lem = record { each = λ h. absurd (false≢true h) }
 
-  pub table_gives : {A : Type 0} (f : ColumnPlace → A) {c : ℕ} {served : Bool} {values : List ℕ} → length (map f t.columns) ≡ 16 → c < min t.count 16
-      → ColumnGives rule at table c (get_or t.columns c no_place) count w n served values → StepsGive rule at table t count w n served values
-  table_gives f {c} long there g = record {
+  pub table_gives : {c : ℕ} {p : ColumnPlace} {served : Bool} {values : List ℕ} → Some p ≡ column_of t c
+      → ColumnGives rule at table c p count w n served values → StepsGive rule at table t count w n served values
+  table_gives {c} there g = record {
     each = λ h q l.
         let x = g.each h q l in
-        record { some = x.some; few = x.few; is = λ bs rest end depth els trees counted. x.is bs rest end depth (row_in table t q) els trees counted (cell_found f table t long c there q) };
+        record { some = x.some; few = x.few; is = λ bs rest end depth els trees counted. x.is bs rest end depth (row_in table t q) els trees counted (cell_found table t c there q) };
   }
 
 -- ---- one WHEN
@@ -419,9 +419,9 @@ module _ {rule : List ℕ} {start end : ℕ} {table : List ℕ} {t : Table} {w :
   pub when_refused : {asked : Bool} {values : List ℕ} → WhenGives asked rule start end table t w at n false values
   when_refused = record { wanted = λ h. absurd (false≢true h); each = λ h. absurd (false≢true h) }
 
-  pub when_gives : {A : Type 0} (f : ColumnPlace → A) {asked : Bool} {s : Step} {served : Bool} {values : List ℕ} → asked ≡ true → StepGives rule start end s → length (map f t.columns) ≡ 16
-      → s.column < min t.count 16 → StepRows s table (get_or t.columns s.column no_place) w at n served values → WhenGives asked rule start end table t w at n served values
-  when_gives f {s = s} yes-asked step long there g = record {
+  pub when_gives : {asked : Bool} {s : Step} {p : ColumnPlace} {served : Bool} {values : List ℕ} → asked ≡ true → StepGives rule start end s
+      → Some p ≡ column_of t s.column → StepRows s table p w at n served values → WhenGives asked rule start end table t w at n served values
+  when_gives {s = s} yes-asked step there g = record {
     wanted = λ h. yes-asked;
-    each = λ h q l e depth node. (g.each h q l).is e (row_in table t q) (step.is e depth node) (cell_found f table t long s.column there q);
+    each = λ h q l e depth node. (g.each h q l).is e (row_in table t q) (step.is e depth node) (cell_found table t s.column there q);
   }
