@@ -37,30 +37,29 @@ module _ {table : List ℕ} {t : Table} {w : List ℕ} {n : ℕ} (f : Framed tab
 module _ {rule table : List ℕ} {t : Table} {w : List ℕ} {n : ℕ} {values : List ℕ} where
   -- the steps that were read, or none
   pub steps_found : {at count : ℕ} {served : Bool} → StepsGive rule at table t count w n served values → served ≡ true → CaseSteps rule at count table t w n values (Some at)
-  steps_found {at} {count} steps all = record { long = steps.long; steps = (refl, subst (λ (b : Bool). StepsGive rule at table t count w n b values) all steps) }
+  steps_found {at} {count} steps all = record { steps = (refl, subst (λ (b : Bool). StepsGive rule at table t count w n b values) all steps) }
 
-  pub steps_missed : {at count : ℕ} → length values ≡ 512 → CaseSteps rule at count table t w n values None
-  steps_missed e = record { long = e; steps = tt }
+  pub steps_missed : {at count : ℕ} → CaseSteps rule at count table t w n values None
+  steps_missed = record { steps = tt }
 
   -- the keys that were found, or none
   pub keys_found : {at end count place : ℕ} {served : Bool} → KeyedGive rule at end table t count w n served values → served ≡ true → EndGives rule at place → CaseKeys rule at end count table t w n values (Some place)
-  keys_found {at} {end} {count} keys all ends = record { long = keys.long; keys = (ends, subst (λ (b : Bool). KeyedGive rule at end table t count w n b values) all keys) }
+  keys_found {at} {end} {count} keys all ends = record { keys = (ends, subst (λ (b : Bool). KeyedGive rule at end table t count w n b values) all keys) }
 
-  pub keys_missed : {at end count : ℕ} → length values ≡ 512 → CaseKeys rule at end count table t w n values None
-  keys_missed e = record { long = e; keys = tt }
+  pub keys_missed : {at end count : ℕ} → CaseKeys rule at end count table t w n values None
+  keys_missed = record { keys = tt }
 
 module _ {rule : List ℕ} {start end : ℕ} {table : List ℕ} {t : Table} {w : List ℕ} {n : ℕ} {values : List ℕ} where
-  pub values_none : length values ≡ 512 → CaseValues rule start end table t w n values None
-  values_none e = record { long = e; each = tt }
+  pub values_none : CaseValues rule start end table t w n values None
+  values_none = record { each = tt }
 
   -- by steps, of a CASE without a base
   pub by_steps : {at count : ℕ} {found : Option ℕ} {g s : Strategy} {served : Optional → Branches → Optional → Type 0} → byte rule start ≡ 25 → count ≡ byte rule (start + 4) → StrategyGives rule start end g → g ≡ s
       → ((b : Optional) (bs : Branches) (els : Optional) → s ≡ strategy_of b bs els → served b bs els) → ((b : Optional) (bs : Branches) (els : Optional) → served b bs els → b ≡ absent)
       → ChildrenGives rule start at → CaseSteps rule at count table t w n values found → CaseValues rule start end table t w n values found
   unfolding eval type_of strategy
-  by_steps {found = None} tag counted gives is shape without children steps = record { long = steps.long; each = tt }
+  by_steps {found = None} tag counted gives is shape without children steps = record { each = tt }
   by_steps {at} {count} {found = Some place} tag counted gives is shape without children steps = record {
-    long = steps.long;
     each = λ q l.
         let x = steps.steps.1.each refl q l in
         subst (λ (y : ℕ). CaseIndex rule start end table t y q (get_or values q 0)) (sym steps.steps.0)
@@ -90,9 +89,8 @@ module _ {rule : List ℕ} {start end : ℕ} {table : List ℕ} {t : Table} {w :
   pub by_keys : {at count : ℕ} {found : Option ℕ} {g : Strategy} → byte rule start ≡ 25 → count ≡ byte rule (start + 4) → StrategyGives rule start end g → g ≡ WithExprScalarLookupTable → ChildrenGives rule start at
       → CaseKeys rule at end count table t w n values found → CaseValues rule start end table t w n values found
   unfolding eval type_of strategy
-  by_keys {found = None} tag counted gives is children keys = record { long = keys.long; each = tt }
+  by_keys {found = None} tag counted gives is children keys = record { each = tt }
   by_keys {at} {count} {found = Some place} tag counted gives is children keys = record {
-    long = keys.long;
     each = λ q l.
         let x = keys.keys.1.each refl q l in
         record { some = x.some; few = omega (arith, x.few, counted); is = λ e depth node. go q l e depth node (node_of_tag node tag) };

@@ -1,5 +1,5 @@
 -- Columns and literals that a rule names, in the slots. Assumes nothing.
-use Rattle.std.proofs.Common.{◌≡◌, ℕ, ◌+◌, ◌<◌, ◌≤◌, min, List, map, length, get_or, sym, ap, ◌∙◌, ap₂, arith}
+use Rattle.std.proofs.Common.{◌≡◌, ℕ, ◌+◌, ◌≤◌, List, length, sym, ap, ◌∙◌, ap₂, arith}
 use mathlib.Core.Option.{Option}
 use Rattle.layout.specs.Bytes.{byte}
 use Rattle.scalar.specs.declared.value.Value.{Value}
@@ -18,8 +18,9 @@ use Rattle.rule.proofs.WalkLaws.{nothing_behind, first_tree}
 use Rattle.table.specs.declared.places.ColumnPlace.{ColumnPlace}
 use Rattle.table.specs.declared.places.Table.{Table}
 use Rattle.table.specs.Column.{TableColumn, entry_at}
-use Rattle.table.specs.Places.{column_in, no_place}
-use Rattle.table.proofs.EntryLaws.{column_missing, column_there}
+use Rattle.table.specs.Places.{column_in, column_of}
+use Rattle.std.specs.Prelude.{Some, None}
+use Rattle.table.proofs.EntryLaws.{column_is}
 use Rattle.case.specs.Fits.{entry_in}
 use Rattle.case.specs.Frame.{slot_at, Filled}
 use Rattle.case.specs.Taking.{EntryRight, ScalarRight, ColumnRight}
@@ -30,37 +31,38 @@ pub use Rattle.case.proofs.RowsLaws.{filled_as}
 index_is : {rule : List ℕ} {at c : ℕ} → c ≡ byte rule (at + 3) → (end depth : ℕ) (x : Column) → NodeAt rule at end (column x) depth → x.index ≡ c
 index_is {at = at} i end depth x node = sym (i ∙ node_byte 0 (at + 3) node (omega arith) (omega arith))
 
-module _ {A : Type 0} (f : ColumnPlace → A) (table : List ℕ) (t : Table) (long : length (map f t.columns) ≡ 16) (c : ℕ) where
+module _ (table : List ℕ) (t : Table) (c : ℕ) where
   -- a column that the table doesn't have is null
-  missing : min t.count 16 ≤ c → (r : ℕ) → row_in table t r c ≡ entry null
-  missing h r = ap (λ (o : Option TableColumn). entry (entry_in o r)) (column_missing f table t long c r h)
+  missing : None ≡ column_of t c → (r : ℕ) → row_in table t r c ≡ entry null
+  missing h r = ap (λ (o : Option TableColumn). entry (entry_in o r)) (column_is table t c h)
 
-  pub cell_found : c < min t.count 16 → (r : ℕ) → row_in table t r c ≡ entry (entry_at (column_in table (get_or t.columns c no_place)) r)
-  cell_found a r = ap (λ (o : Option TableColumn). entry (entry_in o r)) (column_there f table t long c r a)
+  pub cell_found : {p : ColumnPlace} → Some p ≡ column_of t c → (r : ℕ) → row_in table t r c ≡ entry (entry_at (column_in table p) r)
+  cell_found a r = ap (λ (o : Option TableColumn). entry (entry_in o r)) (column_is table t c a)
 
-  pub cells_none : {w w' : List ℕ} {n : ℕ} → min t.count 16 ≤ c → Filled (λ r v. v ≡ Null) w n w' → Filled (CellRight table t c) w n w'
+  pub cells_none : {w w' : List ℕ} {n : ℕ} → None ≡ column_of t c → Filled (λ r v. v ≡ Null) w n w' → Filled (CellRight table t c) w n w'
   cells_none h d = filled_as d (λ r v e. record { is = λ rule. ap (meaning rule table) e ∙ sym (missing h r) })
 
-  pub cells_some : {w w' : List ℕ} {n : ℕ} → c < min t.count 16 → Filled (EntryRight table (get_or t.columns c no_place)) w n w' → Filled (CellRight table t c) w n w'
+  pub cells_some : {w w' : List ℕ} {n : ℕ} {p : ColumnPlace} → Some p ≡ column_of t c → Filled (EntryRight table p) w n w' → Filled (CellRight table t c) w n w'
   cells_some a d = filled_as d (λ r v e. record { is = λ rule. e rule ∙ sym (cell_found a r) })
 
-  -- the column of the node at a place
-  module _ {rule : List ℕ} {at : ℕ} {w w' : List ℕ} {n : ℕ} where
-    pub or_null_behind : {first : ℕ → Value → Type 0} → length rule ≤ at → Filled first w n w' → Filled (CellsRight rule at table t w) w n w'
-    or_null_behind h d = filled_as d (λ r v e. record { is = λ end depth x node. absurd (let k = nothing_behind node in omega arith) })
+-- the column of the node at a place
+module _ (table : List ℕ) (t : Table) {rule : List ℕ} {at : ℕ} {w w' : List ℕ} {n : ℕ} where
+  pub or_null_behind : {first : ℕ → Value → Type 0} → length rule ≤ at → Filled first w n w' → Filled (CellsRight rule at table t w) w n w'
+  or_null_behind h d = filled_as d (λ r v e. record { is = λ end depth x node. absurd (let k = nothing_behind node in omega arith) })
 
-    pub or_null_none : c ≡ byte rule (at + 3) → min t.count 16 ≤ c → Filled (ScalarRight Null Null w) w n w' → Filled (CellsRight rule at table t w) w n w'
-    or_null_none i h d = filled_as d (λ r v e. record {
+  module _ {c : ℕ} (i : c ≡ byte rule (at + 3)) where
+    pub or_null_none : None ≡ column_of t c → Filled (ScalarRight Null Null w) w n w' → Filled (CellsRight rule at table t w) w n w'
+    or_null_none h d = filled_as d (λ r v e. record {
       is = λ end depth x node.
           e rule table
-          ∙ ap (λ (o : Outcome). chosen is_true_test (meaning rule table (slot_at w r)) o (entry null)) (sym (ap (row_in table t r) (index_is i end depth x node) ∙ missing h r));
+          ∙ ap (λ (o : Outcome). chosen is_true_test (meaning rule table (slot_at w r)) o (entry null)) (sym (ap (row_in table t r) (index_is i end depth x node) ∙ missing table t c h r));
     })
 
-    pub or_null_some : c ≡ byte rule (at + 3) → c < min t.count 16 → Filled (ColumnRight table (get_or t.columns c no_place) w) w n w' → Filled (CellsRight rule at table t w) w n w'
-    or_null_some i a d = filled_as d (λ r v e. record {
+    pub or_null_some : {p : ColumnPlace} → Some p ≡ column_of t c → Filled (ColumnRight table p w) w n w' → Filled (CellsRight rule at table t w) w n w'
+    or_null_some a d = filled_as d (λ r v e. record {
       is = λ end depth x node.
           e rule
-          ∙ ap (λ (o : Outcome). chosen is_true_test (meaning rule table (slot_at w r)) o (entry null)) (sym (ap (row_in table t r) (index_is i end depth x node) ∙ cell_found a r));
+          ∙ ap (λ (o : Outcome). chosen is_true_test (meaning rule table (slot_at w r)) o (entry null)) (sym (ap (row_in table t r) (index_is i end depth x node) ∙ cell_found table t c a r));
     })
 
 -- ---- literals

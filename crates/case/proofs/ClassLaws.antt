@@ -1,5 +1,5 @@
 -- The index with which a row leaves the open list, by the slots and the order that it hangs on. Assumes nothing.
-use Rattle.std.proofs.Common.{◌≡◌, ℕ, Bool, false, List, [], length, get_or, sym, refl, ap, ◌∙◌}
+use Rattle.std.proofs.Common.{◌≡◌, ℕ, Bool, false, List, [], get_or, sym, refl, ap, ◌∙◌}
 use mathlib.Core.Bool.{false≢true}
 use Rattle.scalar.specs.declared.order.Order.{Order}
 use Rattle.scalar.specs.declared.order.Order.TheVariants.{Less}
@@ -16,10 +16,10 @@ use Rattle.case.proofs.CompareLaws.{order_gives}
 -- the orders where they are asked for, and where they are not
 module _ {how : Leave} {rule table w : List ℕ} {left : ℕ} {orders : List Order} where
   pub orders_asked : RowsOrdered (λ r o. OrderRight rule table (slot_at w r) (next_slot w r) o) w 5632 left orders → OrdersFor how rule table w left orders
-  orders_asked s = record { long = s.long; right = λ e. s.each }
+  orders_asked s = record { right = λ e. s.each }
 
-  pub orders_unasked : {b : Bool} → length orders ≡ 512 → b ≡ asks_equal how → b ≡ false → OrdersFor how rule table w left orders
-  orders_unasked l p q = record { long = l; right = λ e. absurd (false≢true (sym q ∙ p ∙ e)) }
+  pub orders_unasked : {b : Bool} → b ≡ asks_equal how → b ≡ false → OrdersFor how rule table w left orders
+  orders_unasked p q = record { right = λ e. absurd (false≢true (sym q ∙ p ∙ e)) }
 
 module _ (rule table : List ℕ) (index failed : ℕ) where
   -- whether a value is null, or true, is told without any bytes

@@ -1,5 +1,5 @@
 -- The orders of rows, and the slots that are filled by them. Assumes nothing.
-use Rattle.std.proofs.Common.{◌≡◌, ℕ, ◌+◌, ◌<◌, ◌≤◌, Bool, true, false, not, ◌&&◌, List, length, get_or, set, sym, refl, ap, ◌∙◌, subst, ap₂, arith, length-set, get_or-set_other, get_or-set_same}
+use Rattle.std.proofs.Common.{◌≡◌, ℕ, ◌+◌, ◌<◌, ◌≤◌, Bool, true, false, not, ◌&&◌, List, length, get_or, set, sym, refl, ap, ◌∙◌, subst, ap₂, arith, get_or-set_other, get_or-set_same}
 use native.Mathlib.Decide.{ℕ_discrete}
 use Rattle.scalar.specs.declared.order.Order.{Order}
 use Rattle.scalar.specs.declared.order.Order.TheVariants.{Less, Equal, Greater, SomeNull, SomeFailed, Unlike}
@@ -45,14 +45,14 @@ order_right rule table p q e = e ∙ ap₂ (λ (u v : Value). order_of (meaning 
 
 -- the order of each row of a list
 module _ {right : ℕ → Order → Type 0} {w : List ℕ} {at : ℕ} {orders : List Order} where
-  pub orders_none : length orders ≡ 512 → RowsOrdered right w at 0 orders
-  orders_none e = record { long = e; each = λ q l. absurd (let h = l.1 in omega arith) }
+  pub orders_none : RowsOrdered right w at 0 orders
+  orders_none = record { each = λ q l. absurd (let h = l.1 in omega arith) }
 
-  pub orders_more : {i n r : ℕ} {o : Order} → RowsOrdered right w at i orders → Rows w at n 512 → i < n → r ≡ row_at w at i → right r o → RowsOrdered right w at (i + 1) (set orders r o)
-  orders_more {i} {n} {r} {o} s rows more is here = record { long = length-set orders r o ∙ s.long; each = λ q l. go q l (ℕ_discrete q r) }
+  pub orders_more : {i n r : ℕ} {o : Order} → length orders ≡ 512 → RowsOrdered right w at i orders → Rows w at n 512 → i < n → r ≡ row_at w at i → right r o → RowsOrdered right w at (i + 1) (set orders r o)
+  orders_more {i} {n} {r} {o} long s rows more is here = record { each = λ q l. go q l (ℕ_discrete q r) }
     where
       room : r < length orders
-      room = omega (arith, rows.below i more, s.long)
+      room = omega (arith, rows.below i more)
 
       go : (q : ℕ) → Listed w at (i + 1) q → Dec (q ≡ r) → right q (get_or (set orders r o) q Less)
       go q l (yes e) = subst (λ (y : ℕ). right y (get_or (set orders r o) y Less)) (sym e) (subst (right r) (sym (get_or-set_same orders r o Less room)) here)
@@ -62,11 +62,8 @@ module _ {right : ℕ → Order → Type 0} {w : List ℕ} {at : ℕ} {orders : 
           earlier (yes e) = absurd (d (sym p ∙ ap (row_at w at) e ∙ sym is))
           earlier (no f) = omega arith
 
-  pub orders_room : {i n r : ℕ} → RowsOrdered right w at i orders → Rows w at n 512 → i < n → r ≡ row_at w at i → r < length orders
-  orders_room {i} s rows more is = omega (arith, rows.below i more, s.long)
-
   pub orders_all : {i n : ℕ} → RowsOrdered right w at i orders → n ≤ i → RowsOrdered right w at n orders
-  orders_all s h = record { long = s.long; each = λ q l. s.each q (l.0, (let k = l.1 in omega arith), l.2) }
+  orders_all s h = record { each = λ q l. s.each q (l.0, (let k = l.1 in omega arith), l.2) }
 
 -- slots that are filled by right orders are right
 pub orders_filled : (less : Bool) {rule table : List ℕ} {a b : ℕ → Value} {w : List ℕ} {n : ℕ} {orders : List Order} {w' : List ℕ} → RowsOrdered (λ r o. OrderRight rule table (a r) (b r) o) w 0 n orders

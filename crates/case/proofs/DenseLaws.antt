@@ -101,7 +101,7 @@ module _ {numbers indices : List ℕ} {size otherwise least k : ℕ} {answers : 
 
 pub rows_dense : {validity column numbers indices answers w values : List ℕ} {size otherwise behind least n : ℕ} → DenseFilled numbers indices size otherwise least answers → behind ≡ otherwise
     → RowsIndexed (λ r c. c ≡ dense_row validity column least answers behind r) w 0 n values → RowsIndexed (NumberRow validity column numbers indices size otherwise) w 0 n values
-rows_dense {validity} {column} {numbers} {indices} {answers} {size = size} {otherwise} {least = least} t e s = record { long = s.long; each = λ q l. record { is = s.each q l ∙ ap (λ (x : ℕ). dense_row validity column least answers x q) e ∙ by q (valid_in validity q) } }
+rows_dense {validity} {column} {numbers} {indices} {answers} {size = size} {otherwise} {least = least} t e s = record { each = λ q l. record { is = s.each q l ∙ ap (λ (x : ℕ). dense_row validity column least answers x q) e ∙ by q (valid_in validity q) } }
   where
     value : (x : ℕ) → cond (ltb x least) (otherwise / 2 + 1) (cond (ltb 255 (x - least)) (otherwise / 2 + 1) (get_or answers (x - least) 0)) ≡ number_found numbers indices size otherwise x / 2 + 1
     value x = go (ltb x least) refl (ltb 255 (x - least)) refl

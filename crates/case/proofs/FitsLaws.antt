@@ -1,12 +1,12 @@
 -- Whether a table fits a rule, by the marks of the rule's columns. Assumes nothing.
-use Rattle.std.proofs.Common.{◌≡◌, ℕ, zero, suc, ◌-◌, drop, ◌+◌, ◌*◌, ◌%◌, ◌<◌, ◌≤◌, min, Bool, true, false, cond, not, ◌&&◌, ◌||◌, eqb, leb, ◌⊎◌, List, [], ◌∷◌, map, reverse, length, get_or, sym, refl, ap, ◌∙◌, ap₂, ⊎_elim, arith, eq-eqb, ne_eqb, eqb-true, le-leb}
+use Rattle.std.proofs.Common.{◌≡◌, ℕ, zero, suc, ◌-◌, drop, ◌+◌, ◌*◌, ◌%◌, ◌<◌, ◌≤◌, Bool, true, false, cond, not, ◌&&◌, ◌||◌, eqb, leb, ◌⊎◌, List, [], ◌∷◌, reverse, length, get_or, sym, refl, ap, ◌∙◌, ap₂, ⊎_elim, arith, eq-eqb, ne_eqb, eqb-true, le-leb}
 use Rattle.std.specs.List.{list_all}
 use Rattle.std.proofs.lemmas.List.{get_or-drop}
 use mathlib.Core.Bool.{and-true, and-false, false≢true}
 use mathlib.Core.List.{reverse_aux}
 use mathlib.Core.Option.{Option, some, none}
 use native.Mathlib.Decide.{dec_lt, ℕ_discrete}
-use lib.ListN.{get_elem?, get_or-eq_default}
+use lib.ListN.{get_elem?, get_or-eq_default, length-take}
 use borrow.Author.Tests.{eqb-false, lt-leb, not-true, not-false}
 use Rattle.layout.proofs.TestLaws.{both_hold}
 use Rattle.scalar.specs.Types.{type_number, mark_number}
@@ -20,8 +20,10 @@ use Rattle.rule.proofs.SeenLaws.{type_bounds, mark_some, unlike_marks}
 use Rattle.table.specs.declared.places.ColumnPlace.{ColumnPlace}
 use Rattle.table.specs.declared.places.Table.{Table}
 use Rattle.table.specs.Column.{TableColumn}
-use Rattle.table.specs.Places.{column_in, table_in, no_place}
-use Rattle.table.proofs.EntryLaws.{column_missing, column_there}
+use Rattle.std.specs.Prelude.{Some, None, take}
+use Rattle.std.proofs.lemmas.Option.{slice_get_past}
+use Rattle.table.specs.Places.{column_in, table_in, column_of}
+use Rattle.table.proofs.EntryLaws.{column_is}
 use Rattle.case.specs.Fits.{column_fits, columns_fit}
 use Rattle.case.specs.Fitting.{mark_fits, FitsGives}
 
@@ -180,13 +182,13 @@ module _ (seen : Seen) (t : Table) where
 
 -- ---- one column: the table doesn't have it, or has it
 
-module _ {A : Type 0} (f : ColumnPlace → A) (t : Table) (long : length (map f t.columns) ≡ 16) (m index : ℕ) where
-  pub index_missing : min t.count 16 ≤ index → (bytes : List ℕ) → false ≡ mark_fits m (get_elem? (table_in bytes t).columns index)
-  index_missing h bytes = sym (ap (mark_fits m) (column_missing f bytes t long index 0 h))
+module _ (t : Table) (m index : ℕ) where
+  pub index_missing : None ≡ column_of t index → (bytes : List ℕ) → false ≡ mark_fits m (get_elem? (table_in bytes t).columns index)
+  index_missing h bytes = sym (ap (mark_fits m) (column_is bytes t index h))
 
-  pub index_there : index < min t.count 16 → (r : Bool) → ((bytes : List ℕ) → r ≡ mark_fits m (some (column_in bytes (get_or t.columns index no_place))))
+  pub index_there : {p : ColumnPlace} → Some p ≡ column_of t index → (r : Bool) → ((bytes : List ℕ) → r ≡ mark_fits m (some (column_in bytes p)))
       → (bytes : List ℕ) → r ≡ mark_fits m (get_elem? (table_in bytes t).columns index)
-  index_there h r g bytes = g bytes ∙ sym (ap (mark_fits m) (column_there f bytes t long index 0 h))
+  index_there h r g bytes = g bytes ∙ sym (ap (mark_fits m) (column_is bytes t index h))
 
 -- ---- the marks beyond a table's columns
 
@@ -206,12 +208,12 @@ some_mark (m ∷ marks) f = go (eqb m 0) refl (some_mark marks)
     go false e later = (0, eqb-false m 0 e)
 
 -- all marks below 16 fit: the table does where there is none beyond
-pub beyond_fits : {A : Type 0} (f : ColumnPlace → A) (seen : Seen) (t : Table) → length (map f t.columns) ≡ 16 → {i : ℕ} → Fitted seen.marks t i → 16 ≤ i
+pub beyond_fits : (seen : Seen) (t : Table) → length t.columns ≡ 16 → {i : ℕ} → Fitted seen.marks t i → 16 ≤ i
     → (r : Bool) → r ≡ list_all (λ (m : ℕ). eqb m 0) (drop 16 seen.marks) → FitsGives seen t r
-beyond_fits f seen t long {i} all last true e =
+beyond_fits seen t long {i} all last true e =
     table_fits seen t all last (λ j h l. let at : 16 + (j - 16) ≡ j = omega arith in
     ap (λ (k : ℕ). get_or seen.marks k 0) (sym at) ∙ sym (get_or-drop 16 seen.marks (j - 16) 0) ∙ no_mark (drop 16 seen.marks) (sym e) (j - 16))
-beyond_fits f seen t long {i} all last false e =
+beyond_fits seen t long {i} all last false e =
     let w = some_mark (drop 16 seen.marks) (sym e) in
     let at : get_or (drop 16 seen.marks) w.0 0 ≡ get_or seen.marks (16 + w.0) 0 = get_or-drop 16 seen.marks w.0 0 in
-    table_misfits seen t (16 + w.0) (λ z. w.1 (at ∙ z)) (index_missing f t long (get_or seen.marks (16 + w.0) 0) (16 + w.0) (omega arith))
+    table_misfits seen t (16 + w.0) (λ z. w.1 (at ∙ z)) (index_missing t (get_or seen.marks (16 + w.0) 0) (16 + w.0) (sym (slice_get_past (take t.count t.columns) (16 + w.0) (omega (arith, length-take t.count t.columns, long)))))

@@ -1,5 +1,5 @@
 -- The numbers by which the values of a column are compared, row by row. Assumes nothing.
-use Rattle.std.proofs.Common.{◌≡◌, ℕ, suc, ◌+◌, ◌-◌, ◌*◌, ◌%◌, ◌^◌, ◌<◌, ◌≤◌, Bool, true, false, cond, ltb, List, length, get_or, set, sym, refl, ap, ◌∙◌, subst, mod-eq_of_lt, pow-suc, arith, length-set, get_or-set_other, get_or-set_same, ltb-false, ltb-true}
+use Rattle.std.proofs.Common.{◌≡◌, ℕ, suc, ◌+◌, ◌-◌, ◌*◌, ◌%◌, ◌^◌, ◌<◌, ◌≤◌, Bool, true, false, cond, ltb, List, length, get_or, set, sym, refl, ap, ◌∙◌, subst, mod-eq_of_lt, pow-suc, arith, get_or-set_other, get_or-set_same, ltb-false, ltb-true}
 use native.Mathlib.Nat.{add-mod_right}
 use native.Mathlib.Decide.{ℕ_discrete}
 use Rattle.layout.specs.Bytes.{bit_at, number_at}
@@ -52,22 +52,22 @@ turned_wraps h n b = go (ltb n (2 ^ h)) refl
 
 -- ---- row by row
 
-pub keys_none : {kind : DataType} {values keys : List ℕ} → length keys ≡ 512 → KeysAt kind values 0 keys
-keys_none e = record { long = e; each = λ r h. absurd (omega arith) }
+pub keys_none : {kind : DataType} {values keys : List ℕ} → KeysAt kind values 0 keys
+keys_none = record { each = λ r h. absurd (omega arith) }
 
 module _ {kind : DataType} {values keys : List ℕ} {i : ℕ} (s : KeysAt kind values i keys) where
-  pub keys_more : {x rows : ℕ} → i < rows → rows ≤ 512 → KeyAt kind values i x → KeysAt kind values (i + 1) (set keys i x)
-  keys_more {x} more few here = record { long = length-set keys i x ∙ s.long; each = λ r h. go r h (ℕ_discrete r i) }
+  pub keys_more : {x rows : ℕ} → length keys ≡ 512 → i < rows → rows ≤ 512 → KeyAt kind values i x → KeysAt kind values (i + 1) (set keys i x)
+  keys_more {x} long more few here = record { each = λ r h. go r h (ℕ_discrete r i) }
     where
       room : i < length keys
-      room = omega (arith, s.long)
+      room = omega arith
 
       go : (r : ℕ) → r < i + 1 → Dec (r ≡ i) → KeyAt kind values r (get_or (set keys i x) r 0)
       go r h (yes e) = subst (λ (y : ℕ). KeyAt kind values y (get_or (set keys i x) y 0)) (sym e) (subst (KeyAt kind values i) (sym (get_or-set_same keys i x 0 room)) here)
       go r h (no d) = subst (KeyAt kind values r) (sym (get_or-set_other keys i r x 0 d)) (s.each r (omega arith))
 
   pub keys_all : {rows : ℕ} → rows ≤ i → KeysAt kind values rows keys
-  keys_all h = record { long = s.long; each = λ r l. s.each r (omega arith) }
+  keys_all h = record { each = λ r l. s.each r (omega arith) }
 
 -- of a type that is told
 pub keys_as : {kind d : DataType} {values keys : List ℕ} {rows : ℕ} → kind ≡ d → KeysAt d values rows keys → KeysAt kind values rows keys

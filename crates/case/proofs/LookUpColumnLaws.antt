@@ -1,5 +1,5 @@
 -- A column searched in a lookup table: hints, the numbers of the keys, and that a row's index is that of its entry. Assumes nothing.
-use Rattle.std.proofs.Common.{◌≡◌, ℕ, zero, suc, ◌+◌, ◌-◌, ◌*◌, ◌/◌, ◌%◌, ◌^◌, ◌<◌, ◌≤◌, min, Bool, true, false, cond, eqb, List, [], ◌∷◌, map, length, get_or, set, sym, refl, ap, ◌∙◌, subst, ap₂, add-one, arith, length-set, get_or-set_other, get_or-set_same, eq-eqb, ne_eqb}
+use Rattle.std.proofs.Common.{◌≡◌, ℕ, zero, suc, ◌+◌, ◌-◌, ◌*◌, ◌/◌, ◌%◌, ◌^◌, ◌<◌, ◌≤◌, Bool, true, false, cond, eqb, List, [], ◌∷◌, length, get_or, set, sym, refl, ap, ◌∙◌, subst, ap₂, add-one, arith, length-set, get_or-set_other, get_or-set_same, eq-eqb, ne_eqb}
 use mathlib.Core.Bool.{false≢true}
 use native.Mathlib.Decide.{ℕ_discrete}
 use lib.Ieee.{binary64, nan_bits, of_bits, to_bits}
@@ -26,7 +26,8 @@ use Rattle.table.specs.declared.places.ColumnPlace.{ColumnPlace}
 use Rattle.table.specs.declared.places.Table.{Table}
 use Rattle.table.specs.Column as columns
 use Rattle.table.specs.Column.{valid_in, entry_at}
-use Rattle.table.specs.Places.{column_in, no_place}
+use Rattle.std.specs.Prelude.{Some}
+use Rattle.table.specs.Places.{column_in, column_of}
 use Rattle.case.specs.declared.when_literal_index_map.WhenLiteralIndexMap.{WhenLiteralIndexMap}
 use Rattle.case.specs.ColumnSlots.{text_entry}
 use Rattle.case.specs.Evaluation.{row_in}
@@ -317,8 +318,8 @@ texts_alike {rule} {rule'} {table} {table'} {validity} {offsets} {texts} {w} {va
 -- ---- a column
 
 module _ {table : List ℕ} {place : ColumnPlace} {kinds keys indices : List ℕ} {size otherwise : ℕ} {w : List ℕ} {n : ℕ} where
-  pub column_refused : {values : List ℕ} → length values ≡ 512 → (rule : List ℕ) → ColumnKeyed table place kinds keys indices size otherwise w n rule false values
-  column_refused e rule = record { long = e; each = λ h. absurd (false≢true h) }
+  pub column_refused : {values : List ℕ} → (rule : List ℕ) → ColumnKeyed table place kinds keys indices size otherwise w n rule false values
+  column_refused rule = record { each = λ h. absurd (false≢true h) }
 
   pub numbers_keyed : {rows code : ℕ} {entries validity numbers hints column values : List ℕ} → code ≡ type_number place.data_type → type_number place.data_type ≤ 4 → Rows w 0 n rows
       → NumbersRead kinds keys size code numbers hints → entries ≡ (column_in table place).values → KeysAt place.data_type entries rows column
@@ -326,7 +327,6 @@ module _ {table : List ℕ} {place : ColumnPlace} {kinds keys indices : List ℕ
       → (rule : List ℕ) → ColumnKeyed table place kinds keys indices size otherwise w n rule true values
   unfolding entry_at
   numbers_keyed {rows} {code} {entries} {validity} {numbers} {hints} {column} {values} code_is small listed r entries-is xs validity_is s rule = record {
-    long = s.long;
     each = λ h q l. (s.each q l).is ∙ ap (λ (y : ℕ). y / 2 + 1) (go q (subst (λ (y : ℕ). y < rows) l.2 (listed.below l.0 l.1)));
   }
     where
@@ -352,7 +352,6 @@ module _ {table : List ℕ} {place : ColumnPlace} {kinds keys indices : List ℕ
       → ColumnKeyed table place kinds keys indices size otherwise w n rule true values
   unfolding entry_at
   texts_keyed {rule} {validity} {offsets} {texts} {values} code_is validity_is offsets_is texts-is s = record {
-    long = s.long;
     each = λ h q l. (s.each q l).is ∙ ap (λ (y : Entry). key_index rule table kinds keys indices size otherwise (entry y) / 2 + 1) (go q);
   }
     where
@@ -380,14 +379,13 @@ number_type_lem Of.Utf8 h = absurd (h refl)
 -- ---- in a table
 
 module _ {rule : List ℕ} {at end : ℕ} {table : List ℕ} {t : Table} {count : ℕ} {w : List ℕ} {n : ℕ} where
-  pub keyed_refused : {values : List ℕ} → length values ≡ 512 → KeyedGive rule at end table t count w n false values
-  keyed_refused e = record { long = e; each = λ h. absurd (false≢true h) }
+  pub keyed_refused : {values : List ℕ} → KeyedGive rule at end table t count w n false values
+  keyed_refused = record { each = λ h. absurd (false≢true h) }
 
-  pub keyed_gives : {A : Type 0} (f : ColumnPlace → A) {tag c first : ℕ} {served : Bool} {values : List ℕ} → length (map f t.columns) ≡ 16 → tag ≡ byte rule at → tag ≡ 16 → c ≡ byte rule (at + 3)
-      → c < min t.count 16 → EndGives rule at first → BaseGives rule first end table (get_or t.columns c no_place) count w n served values → KeyedGive rule at end table t count w n served values
+  pub keyed_gives : {tag c first : ℕ} {p : ColumnPlace} {served : Bool} {values : List ℕ} → tag ≡ byte rule at → tag ≡ 16 → c ≡ byte rule (at + 3)
+      → Some p ≡ column_of t c → EndGives rule at first → BaseGives rule first end table p count w n served values → KeyedGive rule at end table t count w n served values
   unfolding eval
-  keyed_gives f {tag} {c} {first} {served} {values} long tag_is column_tag index there ends g = record {
-    long = g.long;
+  keyed_gives {tag} {c} {first} {p} {served} {values} tag_is column_tag index there ends g = record {
     each = λ h q l.
         let x = g.each h q l in
         record {
@@ -400,5 +398,5 @@ module _ {rule : List ℕ} {at end : ℕ} {table : List ℕ} {t : Table} {count 
         };
   }
     where
-      base_is : {depth : ℕ} (q : ℕ) (e : Expr) → NodeAt rule at first e depth → Tagged 16 e → eval e (row_in table t q) ≡ entry (entry_at (column_in table (get_or t.columns c no_place)) q)
-      base_is q e node (of_column x) = ap (row_in table t q) (sym (index ∙ node_byte 0 (at + 3) node (omega arith) (omega arith))) ∙ cell_found f table t long c there q
+      base_is : {depth : ℕ} (q : ℕ) (e : Expr) → NodeAt rule at first e depth → Tagged 16 e → eval e (row_in table t q) ≡ entry (entry_at (column_in table p) q)
+      base_is q e node (of_column x) = ap (row_in table t q) (sym (index ∙ node_byte 0 (at + 3) node (omega arith) (omega arith))) ∙ cell_found table t c there q

@@ -457,7 +457,6 @@ module _ {rule : List ℕ} (table : List ℕ) {kinds payloads : List ℕ} {at en
     pub based_by : {w : List ℕ} {n otherwise : ℕ} {served : Bool} {values : List ℕ} → otherwise ≡ 2 * count → ColumnKeyed table place ks ps is size otherwise w n rule served values
         → BaseGives rule at end table place count w n served values
     based_by {values = values} behind g = record {
-      long = g.long;
       each = λ s q l. keyed_base q (get_or values q 0) (subst (λ (x : ℕ). KeyedRow rule table place ks ps is size x q (get_or values q 0)) behind (g.each s q l));
     }
 

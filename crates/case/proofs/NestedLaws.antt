@@ -1,5 +1,5 @@
 -- The classes of rows by a CASE of literals that is a THEN of the root. Assumes nothing.
-use Rattle.std.proofs.Common.{◌≡◌, ℕ, zero, suc, ◌+◌, ◌-◌, ◌*◌, ◌<◌, ◌≤◌, Bool, true, false, cond, eqb, ◌⊎◌, List, length, get_or, set, sym, refl, ap, ◌∙◌, subst, ap₂, inl, inr, arith, length-set, get_or-set_other, get_or-set_same, eqb-true, Option, Some, ◌&&◌, take, drop, length-drop}
+use Rattle.std.proofs.Common.{◌≡◌, ℕ, zero, suc, ◌+◌, ◌-◌, ◌*◌, ◌<◌, ◌≤◌, Bool, true, false, cond, eqb, ◌⊎◌, List, length, get_or, set, sym, refl, ap, ◌∙◌, subst, ap₂, inl, inr, arith, get_or-set_other, get_or-set_same, eqb-true, Option, Some, ◌&&◌, take, drop, length-drop}
 use Rattle.std.specs.List.{list_all}
 use Rattle.std.proofs.lemmas.List.{get_or-drop}
 use Rattle.std.proofs.lemmas.List.Folds.{list_all_more}
@@ -82,15 +82,14 @@ pub record NumberedSoFar (w : List ℕ) (n : ℕ) (values : List ℕ) (from : �
   pub numbered : Numbered w i values from classes classes'
 
 module _ {w : List ℕ} {n : ℕ} {values : List ℕ} {from : ℕ} {classes classes' : List ℕ} {i : ℕ} (s : NumberedSoFar w n values from classes classes' i) where
-  module _ (ok : Rows w 0 n 512) (more : i < n) {r : ℕ} (e : r ≡ row_at w 0 i) where
-    pub number_in : r < 512
+  module _ (long : length classes' ≡ 512) (ok : Rows w 0 n 512) (more : i < n) {r : ℕ} (e : r ≡ row_at w 0 i) where
+    number_in : r < 512
     number_in = let b = ok.below i more in omega arith
 
     pub numbered_next : NumberedSoFar w n values from classes (set classes' r (from + get_or values r 0)) (i + 1)
     numbered_next = record {
       few = omega arith;
       numbered = record {
-        long = length-set classes' r (from + get_or values r 0) ∙ s.numbered.long;
         here = λ q l. here_at q l (ℕ_discrete q r);
         others = λ q none_left.
             get_or-set_other classes' r q (from + get_or values r 0) 0 (λ d. none_left (i, omega arith, sym e ∙ sym d))
@@ -101,7 +100,7 @@ module _ {w : List ℕ} {n : ℕ} {values : List ℕ} {from : ℕ} {classes clas
         here_at : (q : ℕ) → Listed w 0 (i + 1) q → Dec (q ≡ r) → get_or (set classes' r (from + get_or values r 0)) q 0 ≡ from + get_or values q 0
         here_at q l (yes d) =
             ap (λ (x : ℕ). get_or (set classes' r (from + get_or values r 0)) x 0) d
-            ∙ get_or-set_same classes' r (from + get_or values r 0) 0 (let b = number_in in let k = s.numbered.long in omega arith) ∙ ap (λ (x : ℕ). from + get_or values x 0) (sym d)
+            ∙ get_or-set_same classes' r (from + get_or values r 0) 0 (let b = number_in in omega arith) ∙ ap (λ (x : ℕ). from + get_or values x 0) (sym d)
         here_at q l (no d) =
             get_or-set_other classes' r q (from + get_or values r 0) 0 d
             ∙ s.numbered.here q (l.0, (let h = l.1 in let k = earlier in omega arith), l.2)
@@ -112,10 +111,9 @@ module _ {w : List ℕ} {n : ℕ} {values : List ℕ} {from : ℕ} {classes clas
 -- ---- the rows of a CASE
 
 -- no classes were found
-pub case_none : {wanted : ℕ → Type 0} {rule : List ℕ} {start end : ℕ} {table : List ℕ} {t : Table} {code from : ℕ} {classes kinds payloads kinds' payloads' : List ℕ} → length classes ≡ 512
+pub case_none : {wanted : ℕ → Type 0} {rule : List ℕ} {start end : ℕ} {table : List ℕ} {t : Table} {code from : ℕ} {classes kinds payloads kinds' payloads' : List ℕ}
     → Grown from kinds payloads kinds' payloads' → CaseClassed wanted rule start end table t code from classes kinds payloads 0 classes kinds' payloads'
-case_none long grown = record {
-  classes_long_lem = long;
+case_none grown = record {
   grown = grown;
   few = omega arith;
   onward = λ n. absurd (n refl);
@@ -152,7 +150,6 @@ module _ {rule : List ℕ} {start end : ℕ} {table : List ℕ} {t : Table} {cod
   pub case_classed : {classes classes' : List ℕ} {count : ℕ} → count ≡ byte rule (start + 4) → 0 < code → Numbered w n values from classes classes'
       → CaseClassed (Listed w 0 n) rule start end table t code from classes kinds payloads (from + count + 3) classes' kinds' payloads'
   case_classed {classes' = classes'} {count} counted some numbered = record {
-    classes_long_lem = numbered.long;
     grown = results.grown;
     few = room;
     onward = λ m. omega arith;
@@ -202,7 +199,6 @@ then_case {w₁ = w₁} {m = m} other p c = record {
   low = p.low;
   same = λ e. absurd (other e);
   found = λ d. record {
-    classes_long_lem = c.classes_long_lem;
     grown = c.grown;
     few = c.few;
     onward = c.onward;
@@ -226,7 +222,6 @@ pub record ClassedSoFar (rule : List ℕ) (at : ℕ) (table : List ℕ) (t : Tab
   pub behind : BehindGives rule at (2 * (k - 1)) place
   pub long : length w' ≡ length w
   pub low : (j : ℕ) → j < 6656 → byte w' j ≡ byte w j
-  pub classes_long_lem : length classes' ≡ 512
   pub used_from : count + 3 ≤ used
   pub used_to : used ≤ 258
   pub grown : Grown (count + 2) kinds payloads kinds' payloads'
@@ -241,7 +236,6 @@ classed_none a = record {
   behind = behind_none (2 * (1 - 1)) refl;
   long = refl;
   low = λ j h. refl;
-  classes_long_lem = a.classes_long_lem;
   used_from = omega arith;
   used_to = (let f = a.few in omega arith);
   grown = grown_none a.arrays;
@@ -249,15 +243,15 @@ classed_none a = record {
   left = λ q l h. refl;
 }
 
--- the lengths, whatever was done
-pub then_long : {rule : List ℕ} {start end : ℕ} {table : List ℕ} {t : Table} {code : ℕ} {w : List ℕ} {n class from : ℕ} {classes kinds payloads : List ℕ} {used : ℕ} {w' classes' kinds' payloads' : List ℕ}
-    → ThenClassed rule start end table t code w n class from classes kinds payloads used w' classes' kinds' payloads' → length classes ≡ 512 → Arrays kinds payloads
-    → (length classes' ≡ 512) × Arrays kinds' payloads'
-then_long {code = code} {class = class} {kinds = kinds} {classes' = classes'} {kinds'} {payloads'} s long arrays = go (ℕ_discrete (get_or kinds class 0) code)
+-- the room of the literals, whatever was done
+then_arrays : {rule : List ℕ} {start end : ℕ} {table : List ℕ} {t : Table} {code : ℕ} {w : List ℕ} {n class from : ℕ} {classes kinds payloads : List ℕ} {used : ℕ} {w' classes' kinds' payloads' : List ℕ}
+    → ThenClassed rule start end table t code w n class from classes kinds payloads used w' classes' kinds' payloads' → Arrays kinds payloads
+    → Arrays kinds' payloads'
+then_arrays {code = code} {class = class} {kinds = kinds} {kinds' = kinds'} {payloads'} s arrays = go (ℕ_discrete (get_or kinds class 0) code)
   where
-    go : Dec (get_or kinds class 0 ≡ code) → (length classes' ≡ 512) × Arrays kinds' payloads'
-    go (yes e) = let (u, a, b, c) = s.same e in (ap length a ∙ long, (ap length b ∙ arrays.0, ap length c ∙ arrays.1))
-    go (no e) = ((s.found e).classes_long_lem, (s.found e).grown.arrays)
+    go : Dec (get_or kinds class 0 ≡ code) → Arrays kinds' payloads'
+    go (yes e) = let (u, a, b, c) = s.same e in (ap length b ∙ arrays.0, ap length c ∙ arrays.1)
+    go (no e) = (s.found e).grown.arrays
 
 -- a class that has the literal of its result from before
 result_kept : {rule : List ℕ} {at : ℕ} {table : List ℕ} {t : Table} {code count : ℕ} {kinds payloads kinds' payloads' : List ℕ} {q : ℕ} (j : ℕ) → count ≤ 255 → 1 ≤ j → j ≤ count + 1
@@ -287,7 +281,6 @@ module _ {rule : List ℕ} {at : ℕ} {table : List ℕ} {t : Table} {code count
   classed_all all = record {
     long = s.long;
     low = s.low;
-    classes_long_lem = s.classes_long_lem;
     arrays = s.grown.arrays;
     here = λ h q l. go q l (dec_lt (get_or classes q 0) k);
   }
@@ -304,16 +297,15 @@ module _ {rule : List ℕ} {at : ℕ} {table : List ℕ} {t : Table} {code count
 
   -- the THEN of the class k is done
   module _ {then next used' : ℕ} {w₂ classes₂ kinds₂ payloads₂ : List ℕ} (d : ThenClassed rule then next table t code w₁ n k used classes₁ kinds₁ payloads₁ used' w₂ classes₂ kinds₂ payloads₂) where
-    pub then_longs : (length classes₂ ≡ 512) × Arrays kinds₂ payloads₂
-    then_longs = then_long d s.classes_long_lem s.grown.arrays
+    arrays_kept : Arrays kinds₂ payloads₂
+    arrays_kept = then_arrays d s.grown.arrays
 
     -- where no classes were found
     pub classed_not : ThensClassed rule at table t code count w n classes kinds payloads false w₂ classes₂ kinds₂ payloads₂
     classed_not = record {
       long = d.long ∙ s.long;
       low = λ j h. d.low j h ∙ s.low j h;
-      classes_long_lem = then_longs.0;
-      arrays = then_longs.1;
+      arrays = arrays_kept;
       here = λ h. absurd (false≢true h);
     }
 
@@ -341,7 +333,7 @@ module _ {rule : List ℕ} {at : ℕ} {table : List ℕ} {t : Table} {code count
                 onward = omega arith;
                 few = (let f = s.used_to in omega arith);
                 grown = record {
-                  arrays = then_longs.1;
+                  arrays = arrays_kept;
                   kinds_same = λ i h. ap (λ (x : List ℕ). get_or x i 0) b;
                   payloads_same = λ i h. ap (λ (x : List ℕ). get_or x i 0) c;
                 };
@@ -409,11 +401,10 @@ module _ {rule : List ℕ} {at : ℕ} {table : List ℕ} {t : Table} {code count
         behind = behind_two (2 * (k - 1)) (2 * (k + 1 - 1)) (let f = s.first in omega arith) s.behind to-then to-next;
         long = d.long ∙ s.long;
         low = λ j h. d.low j h ∙ s.low j h;
-        classes_long_lem = then_longs.0;
         used_from = (let a = s.used_from in let b = stepped.onward in omega arith);
         used_to = stepped.few;
         grown = record {
-          arrays = then_longs.1;
+          arrays = arrays_kept;
           kinds_same = λ c h. stepped.grown.kinds_same c (let f = s.used_from in omega arith) ∙ s.grown.kinds_same c h;
           payloads_same = λ c h. stepped.grown.payloads_same c (let f = s.used_from in omega arith) ∙ s.grown.payloads_same c h;
         };

@@ -35,12 +35,11 @@ module _ {t : Table} {w table : List ℕ} (a : RootAsks t w table) where
 
 -- ---- the classes
 
-pub classes_none : {rule table : List ℕ} {t : Table} {result : DataType} {w classes kinds payloads : List ℕ} → length classes ≡ 512 → length kinds ≡ 258 → length payloads ≡ 258
+pub classes_none : {rule table : List ℕ} {t : Table} {result : DataType} {w classes kinds payloads : List ℕ} → length kinds ≡ 258 → length payloads ≡ 258
     → ClassesGive rule table t result w false w classes kinds payloads
-classes_none a b c = record {
+classes_none b c = record {
   long = refl;
   low = λ j h. refl;
-  classes_long_lem = a;
   kinds_long = b;
   payloads_long = c;
   asks = λ h. absurd (false≢true h);
@@ -83,7 +82,6 @@ module _ {rule table : List ℕ} {t : Table} {w classes kinds payloads : List �
 
   pub thens_ask : ThensAsk code count w t.rows classes kinds payloads
   thens_ask = record {
-    classes_long_lem = values.long;
     arrays = (results.kinds_long, results.payloads_long);
     some_kind = omega arith;
     few = small;
@@ -91,19 +89,18 @@ module _ {rule table : List ℕ} {t : Table} {w classes kinds payloads : List �
     else_kind = subst (λ (n : ℕ). get_or kinds (n + 1) 0 ≡ code) (sym counted) (results.else_kind there);
   }
 
-  pub classes_give : {result : DataType} {given : Bool} {w' classes' kinds' payloads' : List ℕ} → RootAsks t w table → code ≡ type_number result → code ≤ 4
+  pub classes_give : {result : DataType} {given : Bool} {w' classes' kinds' payloads' : List ℕ} → length classes' ≡ 512 → RootAsks t w table → code ≡ type_number result → code ≤ 4
       → ThensClassed rule place table t code count w t.rows classes kinds payloads given w' classes' kinds' payloads' → ClassesGive rule table t result w given w' classes' kinds' payloads'
-  classes_give {result} {given} {classes' = classes'} {kinds'} {payloads'} asks code_is high thens = record {
+  classes_give {result} {given} {classes' = classes'} {kinds'} {payloads'} long asks code_is high thens = record {
     long = thens.long;
     low = thens.low;
-    classes_long_lem = thens.classes_long_lem;
     kinds_long = thens.arrays.0;
     payloads_long = thens.arrays.1;
     asks = λ h. record {
       number = (omega arith, omega arith);
       inside = record {
         few = asks.few;
-        classes_full = thens.classes_long_lem;
+        classes_full = long;
         payloads_long = thens.arrays.1;
         below = λ i l. (thens.here h i (root_listed asks i l)).below;
       };

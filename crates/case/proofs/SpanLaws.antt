@@ -171,7 +171,7 @@ module _ {rule : List ℕ} {at count column kind place i : ℕ} {lows highs : Li
 pub rows_one : (numbers validity lows highs : List ℕ) {w indices : List ℕ} {count at n : ℕ} → count ≡ 1 → RowsIndexed (λ r c. c ≡ one_span numbers validity (get_or lows 0 0) (get_or highs 0 0) r) w at n indices
     → RowsIndexed (λ r c. c ≡ row_span numbers validity lows highs count r) w at n indices
 unfolding found
-rows_one numbers validity lows highs one s = record { long = s.long; each = λ q l. s.each q l ∙ sym (ap (λ (k : ℕ). row_span numbers validity lows highs k q) one) }
+rows_one numbers validity lows highs one s = record { each = λ q l. s.each q l ∙ sym (ap (λ (k : ℕ). row_span numbers validity lows highs k q) one) }
 
 -- the number of a key
 abbrev number_in : Key → ℕ
@@ -224,10 +224,7 @@ module _ {tags keys lows highs : List ℕ} {count : ℕ} (spans : SpansOf tags k
   -- of each row of a list
   pub rows_spans : {kind : DataType} {values validity numbers w indices : List ℕ} {at n : ℕ} → KeysAt kind values 512 numbers → Rows w at n 512
       → RowsIndexed (λ r c. c ≡ row_span numbers validity lows highs count r) w at n indices → RowsIndexed (RowIndex kind values validity tags keys count) w at n indices
-  rows_spans at rows s = record {
-    long = s.long;
-    each = λ q l. row_spans at (subst (λ (y : ℕ). y < 512) l.2 (rows.below l.0 l.1)) (s.each q l);
-  }
+  rows_spans at rows s = record { each = λ q l. row_spans at (subst (λ (y : ℕ). y < 512) l.2 (rows.below l.0 l.1)) (s.each q l) }
 
 -- by the parts of a column
 pub rows_of : {kind : DataType} {values values' validity validity' tags keys w indices : List ℕ} {count at n : ℕ} → values ≡ values' → validity ≡ validity'

@@ -1,5 +1,5 @@
 -- WHENs that compare one column with literals: how they are read, and that a row's index by its number is that of its branch. Assumes nothing.
-use Rattle.std.proofs.Common.{◌≡◌, ℕ, zero, suc, ◌+◌, ◌-◌, ◌*◌, ◌<◌, ◌≤◌, min, Bool, true, false, cond, eqb, ltb, ◌⊎◌, List, [], ◌∷◌, ◌++◌, map, length, get_or, set, Option, Some, None, IfSome, sym, refl, ap, ◌∙◌, subst, ap₂, inl, inr, arith, length-set, get_or-set_other, get_or-set_same}
+use Rattle.std.proofs.Common.{◌≡◌, ℕ, zero, suc, ◌+◌, ◌-◌, ◌*◌, ◌<◌, ◌≤◌, Bool, true, false, cond, eqb, ltb, ◌⊎◌, List, [], ◌∷◌, ◌++◌, length, get_or, set, Option, Some, None, IfSome, sym, refl, ap, ◌∙◌, subst, ap₂, inl, inr, arith, length-set, get_or-set_other, get_or-set_same}
 use mathlib.Core.Bool.{false≢true}
 use native.Mathlib.Decide.{ℕ_discrete}
 use Rattle.layout.specs.Bytes.{byte}
@@ -23,7 +23,7 @@ use Rattle.rule.proofs.WalkLaws.{node_of_tag, first_tree}
 use Rattle.table.specs.declared.places.ColumnPlace.{ColumnPlace}
 use Rattle.table.specs.declared.places.Table.{Table}
 use Rattle.table.specs.Column.{valid_in, value_at, entry_at}
-use Rattle.table.specs.Places.{column_in, no_place}
+use Rattle.table.specs.Places.{column_in, column_of}
 use Rattle.case.specs.declared.steps.Step.{Step}
 use Rattle.case.specs.declared.steps.Comparison.{Comparison}
 use Rattle.case.specs.Frame.{row_at, Rows, Listed}
@@ -224,14 +224,14 @@ module _ {kind : DataType} {values : List ℕ} {row : ℕ} where
 
 -- the index of each row of a list
 module _ {right : ℕ → ℕ → Type 0} {w : List ℕ} {at : ℕ} {indices : List ℕ} where
-  pub indices_none : length indices ≡ 512 → RowsIndexed right w at 0 indices
-  indices_none e = record { long = e; each = λ q l. absurd (let h = l.1 in omega arith) }
+  pub indices_none : RowsIndexed right w at 0 indices
+  indices_none = record { each = λ q l. absurd (let h = l.1 in omega arith) }
 
-  pub indices_more : {i n r c : ℕ} → RowsIndexed right w at i indices → Rows w at n 512 → i < n → r ≡ row_at w at i → right r c → RowsIndexed right w at (i + 1) (set indices r c)
-  indices_more {i} {n} {r} {c} s rows more is here = record { long = length-set indices r c ∙ s.long; each = λ q l. go q l (ℕ_discrete q r) }
+  pub indices_more : {i n r c : ℕ} → length indices ≡ 512 → RowsIndexed right w at i indices → Rows w at n 512 → i < n → r ≡ row_at w at i → right r c → RowsIndexed right w at (i + 1) (set indices r c)
+  indices_more {i} {n} {r} {c} long s rows more is here = record { each = λ q l. go q l (ℕ_discrete q r) }
     where
       room : r < length indices
-      room = omega (arith, rows.below i more, s.long)
+      room = omega (arith, rows.below i more)
 
       go : (q : ℕ) → Listed w at (i + 1) q → Dec (q ≡ r) → right q (get_or (set indices r c) q 0)
       go q l (yes e) = subst (λ (y : ℕ). right y (get_or (set indices r c) y 0)) (sym e) (subst (right r) (sym (get_or-set_same indices r c 0 room)) here)
@@ -241,11 +241,8 @@ module _ {right : ℕ → ℕ → Type 0} {w : List ℕ} {at : ℕ} {indices : L
           earlier (yes e) = absurd (d (sym p ∙ ap (row_at w at) e ∙ sym is))
           earlier (no f) = omega arith
 
-  pub indices_room : {i n r : ℕ} → RowsIndexed right w at i indices → Rows w at n 512 → i < n → r ≡ row_at w at i → r < length indices
-  indices_room {i} s rows more is = omega (arith, rows.below i more, s.long)
-
   pub indices_all : {i n : ℕ} → RowsIndexed right w at i indices → n ≤ i → RowsIndexed right w at n indices
-  indices_all s h = record { long = s.long; each = λ q l. s.each q (l.0, (let k = l.1 in omega arith), l.2) }
+  indices_all s h = record { each = λ q l. s.each q (l.0, (let k = l.1 in omega arith), l.2) }
 
 -- ---- the branch of an index
 
@@ -356,15 +353,14 @@ module _ {rule : List ℕ} {at count column kind : ℕ} {tags keys : List ℕ} (
 -- ---- a column
 
 module _ {rule : List ℕ} {at : ℕ} {table : List ℕ} {column : ℕ} {place : ColumnPlace} {count : ℕ} {w : List ℕ} {n : ℕ} where
-  pub column_refused : {values : List ℕ} → length values ≡ 512 → ColumnGives rule at table column place count w n false values
-  column_refused e = record { long = e; each = λ h. absurd (false≢true h) }
+  pub column_refused : {values : List ℕ} → ColumnGives rule at table column place count w n false values
+  column_refused = record { each = λ h. absurd (false≢true h) }
 
   pub column_gives : {code : ℕ} {tags keys indices : List ℕ} → code ≡ type_number place.data_type → code ≤ 4
       → StepsAt rule at count column code tags keys
       → RowsIndexed (RowIndex place.data_type (column_in table place).values (column_in table place).validity tags keys count) w 0 n indices → ColumnGives rule at table column place count w n true indices
   unfolding entry_at
   column_gives {code} {tags} {keys} {indices} code_is small steps rows = record {
-    long = rows.long;
     each = λ h q l.
         let right = rows.each q l in
         let index : EntryIndex tags keys count (type_number place.data_type) (entry_at (column_in table place) q) (get_or indices q 0) =
@@ -380,16 +376,15 @@ module _ {rule : List ℕ} {at : ℕ} {table : List ℕ} {column : ℕ} {place :
 -- ---- in a table
 
 module _ {rule : List ℕ} {at : ℕ} {table : List ℕ} {t : Table} {count : ℕ} {w : List ℕ} {n : ℕ} where
-  pub table_refused_lem : {values : List ℕ} → length values ≡ 512 → StepsGive rule at table t count w n false values
-  table_refused_lem e = record { long = e; each = λ h. absurd (false≢true h) }
+  pub table_refused_lem : {values : List ℕ} → StepsGive rule at table t count w n false values
+  table_refused_lem = record { each = λ h. absurd (false≢true h) }
 
-  pub table_gives : {A : Type 0} (f : ColumnPlace → A) {c : ℕ} {served : Bool} {values : List ℕ} → length (map f t.columns) ≡ 16 → c < min t.count 16
-      → ColumnGives rule at table c (get_or t.columns c no_place) count w n served values → StepsGive rule at table t count w n served values
-  table_gives f {c} long there g = record {
-    long = g.long;
+  pub table_gives : {c : ℕ} {p : ColumnPlace} {served : Bool} {values : List ℕ} → Some p ≡ column_of t c
+      → ColumnGives rule at table c p count w n served values → StepsGive rule at table t count w n served values
+  table_gives {c} there g = record {
     each = λ h q l.
         let x = g.each h q l in
-        record { some = x.some; few = x.few; is = λ bs rest end depth els trees counted. x.is bs rest end depth (row_in table t q) els trees counted (cell_found f table t long c there q) };
+        record { some = x.some; few = x.few; is = λ bs rest end depth els trees counted. x.is bs rest end depth (row_in table t q) els trees counted (cell_found table t c there q) };
   }
 
 -- ---- one WHEN
@@ -406,14 +401,13 @@ one_step tags keys s tag_is key_is row x c p (inr (n, numbered, c-is)) =
     record { value = y.value; is = y.is; index = c-is ∙ ap₂ (λ (a b : ℕ). cond (step_passes a b n) 1 2) tag_is key_is ∙ sym (ap (λ (b : Bool). cond b 1 2) y.truth) }
 
 module _ {s : Step} {table : List ℕ} {place : ColumnPlace} {w : List ℕ} {at n : ℕ} where
-  pub step_refused : {values : List ℕ} → length values ≡ 512 → StepRows s table place w at n false values
-  step_refused e = record { long = e; each = λ h. absurd (false≢true h) }
+  pub step_refused : {values : List ℕ} → StepRows s table place w at n false values
+  step_refused = record { each = λ h. absurd (false≢true h) }
 
   pub step_gives : {code : ℕ} {tags keys indices : List ℕ} → code ≡ type_number place.data_type → code ≤ 4 → s.kind ≡ code → get_or tags 0 0 ≡ comparison_tag s.comparison → get_or keys 0 0 ≡ s.key
       → RowsIndexed (RowIndex place.data_type (column_in table place).values (column_in table place).validity tags keys 1) w at n indices → StepRows s table place w at n true indices
   unfolding entry_at
   step_gives {code} {tags} {keys} {indices} code_is small kind_is tag_is key_is rows = record {
-    long = rows.long;
     each = λ h q l.
         let right = rows.each q l in
         let index : EntryIndex tags keys 1 s.kind (entry_at (column_in table place) q) (get_or indices q 0) =
@@ -422,13 +416,12 @@ module _ {s : Step} {table : List ℕ} {place : ColumnPlace} {w : List ℕ} {at 
   }
 
 module _ {rule : List ℕ} {start end : ℕ} {table : List ℕ} {t : Table} {w : List ℕ} {at n : ℕ} where
-  pub when_refused : {asked : Bool} {values : List ℕ} → length values ≡ 512 → WhenGives asked rule start end table t w at n false values
-  when_refused e = record { long = e; wanted = λ h. absurd (false≢true h); each = λ h. absurd (false≢true h) }
+  pub when_refused : {asked : Bool} {values : List ℕ} → WhenGives asked rule start end table t w at n false values
+  when_refused = record { wanted = λ h. absurd (false≢true h); each = λ h. absurd (false≢true h) }
 
-  pub when_gives : {A : Type 0} (f : ColumnPlace → A) {asked : Bool} {s : Step} {served : Bool} {values : List ℕ} → asked ≡ true → StepGives rule start end s → length (map f t.columns) ≡ 16
-      → s.column < min t.count 16 → StepRows s table (get_or t.columns s.column no_place) w at n served values → WhenGives asked rule start end table t w at n served values
-  when_gives f {s = s} yes-asked step long there g = record {
-    long = g.long;
+  pub when_gives : {asked : Bool} {s : Step} {p : ColumnPlace} {served : Bool} {values : List ℕ} → asked ≡ true → StepGives rule start end s
+      → Some p ≡ column_of t s.column → StepRows s table p w at n served values → WhenGives asked rule start end table t w at n served values
+  when_gives {s = s} yes-asked step there g = record {
     wanted = λ h. yes-asked;
-    each = λ h q l e depth node. (g.each h q l).is e (row_in table t q) (step.is e depth node) (cell_found f table t long s.column there q);
+    each = λ h q l e depth node. (g.each h q l).is e (row_in table t q) (step.is e depth node) (cell_found table t s.column there q);
   }

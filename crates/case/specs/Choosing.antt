@@ -76,7 +76,6 @@ asks_equal Rest = false
 
 -- the order of each open row's base and WHEN, where a way of leaving asks for it
 pub record OrdersFor (how : Leave) (rule table w : List ℕ) (left : ℕ) (orders : List Order) : Type 0 where
-  pub long : length orders ≡ 512
   pub right : asks_equal how ≡ true → (q : ℕ) → Listed w 5632 left q → OrderRight rule table (slot_at w q) (next_slot w q) (slice_index_or orders q Less)
 
 -- what a builder holds for a row

@@ -51,17 +51,14 @@ pub record CaseIndex (rule : List ℕ) (start end : ℕ) (table : List ℕ) (t :
 
 -- of each listed row, where a place is found
 pub record CaseValues (rule : List ℕ) (start end : ℕ) (table : List ℕ) (t : Table) (w : List ℕ) (n : ℕ) (values : List ℕ) (found : Option ℕ) : Type 0 where
-  pub long : length values ≡ 512
   pub each : IfSome found (λ place. (q : ℕ) → Listed w 0 n q → CaseIndex rule start end table t place q (slice_index values q))
 
 -- the index of each listed row by steps at a place, where that is found
 pub record CaseSteps (rule : List ℕ) (at count : ℕ) (table : List ℕ) (t : Table) (w : List ℕ) (n : ℕ) (values : List ℕ) (found : Option ℕ) : Type 0 where
-  pub long : length values ≡ 512
   pub steps : IfSome found (λ place. (place ≡ at) × StepsGive rule at table t count w n true values)
 
 -- the index of each listed row by the keys behind a base at a place, where the place behind that is found
 pub record CaseKeys (rule : List ℕ) (at end count : ℕ) (table : List ℕ) (t : Table) (w : List ℕ) (n : ℕ) (values : List ℕ) (found : Option ℕ) : Type 0 where
-  pub long : length values ≡ 512
   pub keys : IfSome found (λ place. EndGives rule at place × KeyedGive rule at end table t count w n true values)
 
 -- ---- the literals of the classes
@@ -110,7 +107,6 @@ pub record NestedResults (rule : List ℕ) (start end code from : ℕ) (kinds pa
 
 -- the class of each listed row is its index behind a class, any other is unchanged
 pub record Numbered (w : List ℕ) (n : ℕ) (values : List ℕ) (from : ℕ) (classes classes' : List ℕ) : Type 0 where
-  pub long : length classes' ≡ 512
   pub here : (q : ℕ) → Listed w 0 n q → slice_index classes' q ≡ from + slice_index values q
   pub others : (q : ℕ) → (Listed w 0 n q → ⊥) → slice_index classes' q ≡ slice_index classes q
 
@@ -123,7 +119,6 @@ pub record ClassRight (rule : List ℕ) (start end : ℕ) (table : List ℕ) (t 
 
 -- the wanted rows have such classes where those are found (`used`, behind the last, is not 0), and the others are unchanged
 pub record CaseClassed (wanted : ℕ → Type 0) (rule : List ℕ) (start end : ℕ) (table : List ℕ) (t : Table) (code from : ℕ) (classes kinds payloads : List ℕ) (used : ℕ) (classes' kinds' payloads' : List ℕ) : Type 0 where
-  pub classes_long_lem : length classes' ≡ 512
   pub grown : Grown from kinds payloads kinds' payloads'
   pub few : used ≤ 258
   pub onward : (used ≢ 0) → from ≤ used
@@ -143,7 +138,6 @@ pub record ThenClassed (rule : List ℕ) (start end : ℕ) (table : List ℕ) (t
 
 -- what the THENs of the root CASE ask: each listed row has the class of a result, from 1, and that of ELSE is of the kind
 pub record ThensAsk (code count : ℕ) (w : List ℕ) (n : ℕ) (classes kinds payloads : List ℕ) : Type 0 where
-  pub classes_long_lem : length classes ≡ 512
   pub arrays : Arrays kinds payloads
   pub some_kind : 0 < code
   pub few : count ≤ 255
@@ -162,7 +156,6 @@ pub record ResultClass (rule : List ℕ) (at : ℕ) (table : List ℕ) (t : Tabl
 pub record ThensClassed (rule : List ℕ) (at : ℕ) (table : List ℕ) (t : Table) (code count : ℕ) (w : List ℕ) (n : ℕ) (classes kinds payloads : List ℕ) (found : Bool) (w' classes' kinds' payloads' : List ℕ) : Type 0 where
   pub long : length w' ≡ length w
   pub low : (j : ℕ) → j < 6656 → byte w' j ≡ byte w j
-  pub classes_long_lem : length classes' ≡ 512
   pub arrays : Arrays kinds' payloads'
   pub here : found ≡ true → (q : ℕ) → Listed w 0 n q → ResultClass rule at table t code count kinds payloads kinds' payloads' q (slice_index classes q) (slice_index classes' q)
 
@@ -170,7 +163,6 @@ pub record ThensClassed (rule : List ℕ) (at : ℕ) (table : List ℕ) (t : Tab
 pub record ClassesGive (rule table : List ℕ) (t : Table) (result : DataType) (w : List ℕ) (found : Bool) (w' classes kinds payloads : List ℕ) : Type 0 where
   pub long : length w' ≡ length w
   pub low : (j : ℕ) → j < 6656 → byte w' j ≡ byte w j
-  pub classes_long_lem : length classes ≡ 512
   pub kinds_long : length kinds ≡ 258
   pub payloads_long : length payloads ≡ 258
   pub asks : found ≡ true → ClassesAsk t.rows result classes payloads

@@ -1,5 +1,5 @@
 -- What looking up the rows' bases promises (01, Strategies: 6).
-use Rattle.std.specs.Prelude.{◌≡◌, ℕ, ◌+◌, ◌<◌, ◌≤◌, Bool, true, List, ◌∷◌, ◌++◌, length, slice_index}
+use Rattle.std.specs.Prelude.{◌≡◌, ℕ, ◌+◌, ◌<◌, ◌≤◌, Bool, true, List, ◌∷◌, ◌++◌, slice_index}
 use Rattle.scalar.specs.declared.types.DataType.{DataType}
 use Rattle.scalar.specs.declared.value.Value.{Value}
 use Rattle.scalar.specs.Entry.{Outcome}
@@ -30,5 +30,4 @@ pub record KeyedIndex (rule : List ℕ) (at end : ℕ) (table : List ℕ) (t : T
 
 -- of each listed row, where it serves
 pub record KeyedGive (rule : List ℕ) (at end : ℕ) (table : List ℕ) (t : Table) (count : ℕ) (w : List ℕ) (n : ℕ) (served : Bool) (values : List ℕ) : Type 0 where
-  pub long : length values ≡ 512
   pub each : served ≡ true → (q : ℕ) → Listed w 0 n q → KeyedIndex rule at end table t count q (slice_index values q)

@@ -147,7 +147,6 @@ KeyedRow rule table place kinds keys indices size otherwise q c =
 
 -- of each listed row, where it serves
 pub record ColumnKeyed (table : List ℕ) (place : ColumnPlace) (kinds keys indices : List ℕ) (size otherwise : ℕ) (w : List ℕ) (n : ℕ) (rule : List ℕ) (served : Bool) (values : List ℕ) : Type 0 where
-  pub long : length values ≡ 512
   pub each : served ≡ true → (q : ℕ) → Listed w 0 n q → KeyedRow rule table place kinds keys indices size otherwise q (slice_index values q)
 
 -- the index that whatever branches and ELSE stand at a place give a row, behind a base that is what a column has there
@@ -160,5 +159,4 @@ pub record BaseIndex (rule : List ℕ) (at end : ℕ) (table : List ℕ) (place 
 
 -- of each listed row, where it serves
 pub record BaseGives (rule : List ℕ) (at end : ℕ) (table : List ℕ) (place : ColumnPlace) (count : ℕ) (w : List ℕ) (n : ℕ) (served : Bool) (values : List ℕ) : Type 0 where
-  pub long : length values ≡ 512
   pub each : served ≡ true → (q : ℕ) → Listed w 0 n q → BaseIndex rule at end table place count q (slice_index values q)

@@ -33,7 +33,6 @@ pub record StepIndex (rule : List ℕ) (at : ℕ) (table : List ℕ) (t : Table)
 
 -- the index of each listed row, where every WHEN is a step on one column
 pub record StepsGive (rule : List ℕ) (at : ℕ) (table : List ℕ) (t : Table) (count : ℕ) (w : List ℕ) (n : ℕ) (served : Bool) (values : List ℕ) : Type 0 where
-  pub long : length values ≡ 512
   pub each : served ≡ true → (q : ℕ) → Listed w 0 n q → StepIndex rule at table t count q (slice_index values q)
 
 -- ---- one step
@@ -110,7 +109,6 @@ pub record KeyAt (kind : DataType) (values : List ℕ) (row x : ℕ) : Type 0 wh
 
 -- of each of the first rows
 pub record KeysAt (kind : DataType) (values : List ℕ) (rows : ℕ) (keys : List ℕ) : Type 0 where
-  pub long : length keys ≡ 512
   pub each : (r : ℕ) → r < rows → KeyAt kind values r (slice_index keys r)
 
 -- the greatest number of 64 bits
@@ -161,7 +159,6 @@ pub record RowIndex (kind : DataType) (values validity tags keys : List ℕ) (co
 
 -- the index of each row of the list at a place is right
 pub record RowsIndexed (right : ℕ → ℕ → Type 0) (w : List ℕ) (at n : ℕ) (indices : List ℕ) : Type 0 where
-  pub long : length indices ≡ 512
   pub each : (q : ℕ) → Listed w at n q → right q (slice_index indices q)
 
 -- the index that whatever branches stand at a place give a row that has in a column what the table has there
@@ -173,7 +170,6 @@ pub record ColumnIndex (rule : List ℕ) (at : ℕ) (table : List ℕ) (column :
 
 -- the index of each listed row, where every WHEN is a step on the column
 pub record ColumnGives (rule : List ℕ) (at : ℕ) (table : List ℕ) (column : ℕ) (place : ColumnPlace) (count : ℕ) (w : List ℕ) (n : ℕ) (served : Bool) (values : List ℕ) : Type 0 where
-  pub long : length values ≡ 512
   pub each : served ≡ true → (q : ℕ) → Listed w 0 n q → ColumnIndex rule at table column place count q (slice_index values q)
 
 -- ---- one WHEN
@@ -190,11 +186,9 @@ pub record StepRow (s : Step) (table : List ℕ) (place : ColumnPlace) (q c : �
 
 -- at each row of a list
 pub record StepRows (s : Step) (table : List ℕ) (place : ColumnPlace) (w : List ℕ) (at n : ℕ) (served : Bool) (indices : List ℕ) : Type 0 where
-  pub long : length indices ≡ 512
   pub each : served ≡ true → (q : ℕ) → Listed w at n q → StepRow s table place q (slice_index indices q)
 
 -- by whatever WHEN stands at a place of the rule, at each row of a list, where that is asked
 pub record WhenGives (asked : Bool) (rule : List ℕ) (start end : ℕ) (table : List ℕ) (t : Table) (w : List ℕ) (at n : ℕ) (served : Bool) (values : List ℕ) : Type 0 where
-  pub long : length values ≡ 512
   pub wanted : served ≡ true → asked ≡ true
   pub each : served ≡ true → (q : ℕ) → Listed w at n q → (e : Expr) (depth : ℕ) → NodeAt rule start end e depth → WhenIndex e (row_in table t q) (slice_index values q)

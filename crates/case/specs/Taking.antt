@@ -52,7 +52,6 @@ OrderRight rule table a b o = o ≡ order_of (meaning rule table a) (meaning rul
 
 -- the order of each listed row
 pub record RowsOrdered (right : ℕ → Order → Type 0) (w : List ℕ) (at n : ℕ) (orders : List Order) : Type 0 where
-  pub long : length orders ≡ 512
   pub each : (q : ℕ) → Listed w at n q → right q (slice_index_or orders q Less)
 
 -- the one value where the slot is true, else the other; where it failed, it stays so

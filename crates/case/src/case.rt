@@ -1,6 +1,6 @@
 // Expressions and CASEs over a list of rows, in the lent work buffer. `depth` is how deep a node, or what is below a CASE, may nest; the frame
 // of a call is at the front of `work`, and what it calls for other rows works in the part beyond.
-ghost use Rattle.std.specs.Prelude.{◌+◌, ◌<◌, ◌≤◌, length};
+ghost use Rattle.std.specs.Prelude.{◌+◌, ◌<◌};
 ghost use Rattle.case.specs.Choosing.{Open};
 ghost use Rattle.case.specs.Evaluation.{Framed, Done, ExprRight, UnaryRight, BinaryRight, AgainstRight, CaseRight, BasedRight, Ahead, any_case, without_base_case, with_base_case, column_case, scalar_case, single_case, table_case, Sifts, WhenRight, BranchesIndex, MergedRight, Takes, TakeRight};
 ghost use Rattle.case.specs.Results.{ThenRight, ElseRight};

@@ -1,5 +1,5 @@
 // The index of each listed row by a CASE, without slots: where every WHEN is a step on one column, or a table of keys serves a column.
-ghost use Rattle.std.specs.Prelude.{◌≡◌, ◌+◌, ◌%◌, length, ◌≢◌};
+ghost use Rattle.std.specs.Prelude.{◌≡◌, ◌+◌, ◌%◌, ◌≢◌};
 ghost use Rattle.layout.specs.Bytes.{byte};
 ghost use Rattle.rule.specs.Walks.{EndGives};
 ghost use Rattle.case.specs.Evaluation.{Framed};

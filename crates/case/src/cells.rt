@@ -17,17 +17,10 @@ pub(crate) fn fill_cells(table: &[u8], t: Table, column: u8, work: &mut [u8], n:
     requires { Fillable work.old n × (length table.now < 2 ^ 32) }
     ensures { Filled (CellRight table.now t column) work.old n work.new }
 {
-    let c = column as usize;
-    if t.count <= c {
-        fill_value(work, n, Value::Null);
-        return;
+    match t.column(column as usize) {
+        None => fill_value(work, n, Value::Null),
+        Some(place) => fill_column(table, place, work, n),
     }
-    if 16 <= c {
-        fill_value(work, n, Value::Null);
-        return;
-    }
-    let place = t.columns[c];
-    fill_column(table, place, work, n);
 }
 
 // Where a row's slot is true, the entry of the column whose node stands at a place of the rule, else null.
@@ -46,15 +39,8 @@ pub(crate) fn cells_or_null(
         fill_value(work, n, Value::Null);
         return;
     }
-    let c = byte_at(rule, at + 3) as usize;
-    if t.count <= c {
-        choose_scalar(work, n, Value::Null, Value::Null);
-        return;
+    match t.column(byte_at(rule, at + 3) as usize) {
+        None => choose_scalar(work, n, Value::Null, Value::Null),
+        Some(place) => column_or_null(table, place, work, n),
     }
-    if 16 <= c {
-        choose_scalar(work, n, Value::Null, Value::Null);
-        return;
-    }
-    let place = t.columns[c];
-    column_or_null(table, place, work, n);
 }

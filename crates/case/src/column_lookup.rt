@@ -22,9 +22,6 @@ use scalar::types::DataType;
 use table::entry::{row_u32, valid_at};
 use table::places::{ColumnPlace, Table};
 
-// Most columns of a table.
-const COLUMNS_MOST: usize = 16;
-
 // The index of a row, from 1, by the number of its value: of a null the ELSE index.
 fn number_row(
     validity: &[u8],
@@ -261,17 +258,13 @@ pub(crate) fn lookup_values(
     if byte_at(rule, at) != 16 {
         return false;
     }
-    let c = byte_at(rule, at + 3) as usize;
-    if t.count <= c {
+    let column = byte_at(rule, at + 3) as usize;
+    let Some(place) = t.column(column) else {
         return false;
-    }
-    if COLUMNS_MOST <= c {
-        return false;
-    }
+    };
     if BRANCHES_MOST < count {
         return false;
     }
-    let place = t.columns[c];
     let first = field_end(rule, at);
     base_values(
         rule, first, end, count, table, place, t.rows, work, n, values,

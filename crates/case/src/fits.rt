@@ -1,5 +1,5 @@
 // Whether a table fits a rule: no column that the rule names is missing, of another type, or nullable where the rule says not.
-ghost use Rattle.std.specs.Prelude.{◌≡◌, ◌==◌, ℕ, List, drop, length};
+ghost use Rattle.std.specs.Prelude.{◌≡◌, ◌==◌, ℕ, List, drop};
 ghost use Rattle.std.specs.List.{list_all};
 ghost use Rattle.std.proofs.Math.Option.{some};
 ghost use Rattle.std.proofs.Math.ListN.{get_elem?};
@@ -27,14 +27,10 @@ fn column_fits(mark: u8, place: ColumnPlace) -> bool
 fn index_fits(mark: u8, index: usize, t: Table) -> bool
     ensures { (bytes : List ℕ) → result ≡ mark_fits mark (get_elem? (table_in bytes t).columns index) }
 {
-    if t.count <= index {
-        return false;
+    match t.column(index) {
+        None => false,
+        Some(place) => column_fits(mark, place),
     }
-    if 16 <= index {
-        return false;
-    }
-    let place = t.columns[index];
-    column_fits(mark, place)
 }
 
 // Whether there is no mark from 16 on, which no table has a column for.

@@ -1,5 +1,5 @@
 // The numbers by which the values of a column are compared.
-ghost use Rattle.std.specs.Prelude.{◌≡◌, ◌*◌, ◌≤◌, length};
+ghost use Rattle.std.specs.Prelude.{◌*◌, ◌≤◌, length};
 ghost use Rattle.scalar.specs.declared.types.DataType.TheVariants.{Int32, Int64, Float64};
 ghost use Rattle.case.specs.Steps.{KeyAt, KeysAt};
 

@@ -1,7 +1,7 @@
 // The literals among a CASE's THENs and its ELSE, put into the slots of the rows by their indices. Literals are arrays of kinds and payloads: of THEN at its
 // index, of ELSE, cast, behind the THENs, and behind that a failure; null at 0 and where there is no literal. The arrays have room for as many branches as a
 // byte counts.
-ghost use Rattle.std.specs.Prelude.{◌≡◌, ◌≤◌, length};
+ghost use Rattle.std.specs.Prelude.{◌≡◌, length};
 ghost use Rattle.case.specs.Frame.{Fillable, Filled};
 ghost use Rattle.case.specs.Results.{StartRight, EmptyArrays, ThensRead, ResultsRead, PutBy};
 

@@ -352,14 +352,9 @@ pub(crate) fn step_values(
     let Some(first) = step_at(rule, at, field_end(rule, at)) else {
         return false;
     };
-    let c = first.column as usize;
-    if t.count <= c {
+    let Some(place) = t.column(first.column as usize) else {
         return false;
-    }
-    if 16 <= c {
-        return false;
-    }
-    let place = t.columns[c];
+    };
     column_steps(rule, at, count, table, first.column, place, work, n, values)
 }
 
@@ -411,13 +406,8 @@ pub(crate) fn step_when(
     let Some(s) = step_at(rule, start, end) else {
         return false;
     };
-    let c = s.column as usize;
-    if t.count <= c {
+    let Some(place) = t.column(s.column as usize) else {
         return false;
-    }
-    if 16 <= c {
-        return false;
-    }
-    let place = t.columns[c];
+    };
     column_step(s, table, place, work, at, n, values)
 }

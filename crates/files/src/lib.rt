@@ -73,6 +73,7 @@ pub fn read_full<R: Read>(file: &mut R, buffer: &mut [u8]) -> usize
     ensures in_bounds { result ≤ length buffer.new }
     ensures bytes { Consumes (R.remaining file.old) (R.remaining file.new) (take result buffer.new) }
 {
+    // Not a `for`: each read says how far it came.
     let mut done = 0;
     while done < buffer.len() {
         match file.read(&mut buffer[done..]) {

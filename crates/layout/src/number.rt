@@ -30,7 +30,8 @@ fn whole_u32(s: &[u8], at: usize) -> u32
     u32::from_le_bytes([s[at], s[at + 1], s[at + 2], s[at + 3]])
 }
 
-// The number in the four bytes at a place, where some may be behind the end; those count as 0.
+// The number in the four bytes at a place, where some may be behind the end; those count as 0. The widths stay functions of their own: each gives
+// its own type, which no const parameter can name.
 fn cut_u32(s: &[u8], at: usize) -> u32
     ensures { result ≡ number_at 4 s.now at }
 {

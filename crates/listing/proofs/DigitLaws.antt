@@ -113,7 +113,7 @@ digits_more {out} {base} {k} {n} {at} {i} {rest} {m} j d s e q =
       spells = s.spells ∙ ap₂ (λ (a : ℕ) (b : List ℕ). digits base a rest ++ b) e refl
           ∙ ap (λ (b : ℕ). digits base j (rest / base) ++ (b ∷ []) ++ s.tail) (sym q)
           ∙ append_snoc (digits base j (rest / base)) d s.tail;
-      done = wrote_before (omega arith) s.done (wrote_sets (d ∷ []) (omega (arith, s.done.fits)) refl refl);
+      done = wrote_before (omega arith) s.done (wrote_sets (d ∷ []) (omega (arith, s.done.fits, wrote_long s.done)) refl refl);
     }
 
 pub digits_all : {out : List ℕ} {base k n at i rest : ℕ} {m : List ℕ} → DigitsSoFar out base k n at i rest m → i ≡ 0 → Wrote out at (digits base k n) (at + k) m
@@ -122,10 +122,6 @@ digits_all {out} {base} {k} {n} {at} {i} {rest} {m} s e =
     let same : s.tail ≡ digits base k n = sym (s.spells ∙ ap (λ (a : ℕ). digits base a rest ++ s.tail) e) in
     let front : at + i ≡ at = omega arith in
     subst (λ (a : ℕ). Wrote out a (digits base k n) (at + k) m) front (wrote_as same s.done)
-
--- the buffer keeps its length
-pub digits_long : {out : List ℕ} {base k n at i rest : ℕ} {m : List ℕ} → DigitsSoFar out base k n at i rest m → length m ≡ length out
-digits_long s = wrote_long s.done
 
 -- ---- a text in hex
 

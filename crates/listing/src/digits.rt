@@ -32,6 +32,7 @@ pub fn put_hex(n: u64, k: usize, at: usize, out: &mut [u8]) -> Option<usize>
 pub(crate) fn decimal_places(n: u64) -> usize
     ensures { (result ≡ places n) × (result ≤ 20) }
 {
+    // Not a `for`: the digits are counted by dividing them away.
     let mut k = 1;
     let mut rest = n;
     while 10 <= rest {
@@ -55,8 +56,7 @@ pub(crate) fn digit(d: u64) -> u8
     requires { d < 16 }
     ensures { result ≡ digitOf d }
 {
-    let b = d as u8;
-    if b < 10 { 48 + b } else { 87 + b }
+    b"0123456789abcdef"[d as usize]
 }
 
 // The last digits of a number in a base up to 16, where they fit.

@@ -1,12 +1,16 @@
 -- What a CASE is, worked out without reading a column: its base, its branches in turn, its ELSE. Assumes nothing.
 use mathlib.Core.Path.{◌≡◌, refl, ap, ap₂, sym, subst, ◌∙◌}
-use mathlib.Core.Bool.{Bool, true, false, cond}
-use mathlib.Core.List.{List, ◌++◌}
+use mathlib.Core.Bool.{Bool, true, false, cond, false≢true}
+use mathlib.Core.List.{List, [], ◌∷◌, ◌++◌}
 use Prim.Native.Nat.{ℕ, suc, ◌+◌, ◌-◌, ◌*◌, ◌%◌, ◌<◌, ◌≤◌}
 use native.Mathlib.Omega.{arith}
 use lib.Dec.{eqb}
 use lib.ListN.{length}
-use borrow.Author.Tests.{ne_eqb}
+use borrow.Author.Tests.{eq-eqb, ne_eqb}
+use types.Run.{OneOf, miss}
+use denote.Enum.Declared.{tag_of}
+use Rattle.scalar.specs.contracts.value.Value.{the_type}
+use Rattle.scalar.proofs.OperationLaws.{NotFailed, not_failed as held}
 use Rattle.layout.specs.Bytes.{byte}
 use Rattle.scalar.specs.declared.types.DataType.{DataType}
 use Rattle.scalar.specs.declared.value.Value.{Value}
@@ -246,3 +250,19 @@ case_gives {rule} {target} {start} {end} {at} {first} {flags} {count} {depth} {b
 
 pub case_behind : {rule target : List ℕ} {start end depth : ℕ} {r : Value} → length rule ≤ start → CaseGives rule start end target depth r
 case_behind none = record { means = λ b bs els n. absurd (let k = nothing_behind n in omega arith) }
+
+-- a value that is neither null nor failed
+pub some_value : (v : Value) → OneOf (1 ∷ 2 ∷ 3 ∷ 4 ∷ 5 ∷ 6 ∷ 7 ∷ []) (tag_of the_type v) → (kind_of v ≡ 0 → ⊥) × (kind_of v ≡ 7 → ⊥)
+some_value Null h = absurd (miss (1 ∷ 2 ∷ 3 ∷ 4 ∷ 5 ∷ 6 ∷ 7 ∷ []) 0 tt h)
+some_value (Boolean b) h = (λ p. omega arith, λ p. omega arith)
+some_value (Int32 n) h = (λ p. omega arith, λ p. omega arith)
+some_value (Int64 n) h = (λ p. omega arith, λ p. omega arith)
+some_value (Float64 f) h = (λ p. omega arith, λ p. omega arith)
+some_value (Nan n) h = (λ p. omega arith, λ p. omega arith)
+some_value (RuleText start size) h = (λ p. omega arith, λ p. omega arith)
+some_value (TableText start size) h = (λ p. omega arith, λ p. omega arith)
+some_value Failed h = absurd (miss (1 ∷ 2 ∷ 3 ∷ 4 ∷ 5 ∷ 6 ∷ 7 ∷ []) 8 tt h)
+
+-- one that has not failed
+pub fit_value : (v : Value) → NotFailed v → kind_of v ≡ 7 → ⊥
+fit_value v h p = false≢true (sym (held v h) ∙ eq-eqb (kind_of v) 7 p)

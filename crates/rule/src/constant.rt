@@ -16,7 +16,7 @@ use scalar::not::not_value;
 use scalar::text::same_bytes;
 use scalar::try_cast::try_cast;
 use scalar::types::DataType;
-use scalar::value::{Value, kind};
+use scalar::value::Value;
 
 // A rule whose parts that equal the target's bytes are null.
 #[derive(Clone, Copy)]
@@ -152,15 +152,14 @@ fn constant_base(masked: Masked, at: usize, end: usize, depth: usize) -> Value
 fn constant_with(masked: Masked, branches: BranchesAt, base: Value, depth: usize) -> Value
     ensures { WithBaseGives masked.entry.rule.now branches.at branches.end branches.count base branches.to masked.entry.target.now depth result }
 {
-    let k = kind(base);
-    if k == 7 {
-        return Value::Failed;
+    match base {
+        Value::Failed => Value::Failed,
+        Value::Null => {
+            let place = behind_fields(masked.rule, branches.at, 2 * (branches.count as usize));
+            constant_else(masked, place, branches, depth)
+        }
+        _ => constant_branches(masked, branches, base, depth),
     }
-    if k == 0 {
-        let place = behind_fields(masked.rule, branches.at, 2 * (branches.count as usize));
-        return constant_else(masked, place, branches, depth);
-    }
-    constant_branches(masked, branches, base, depth)
 }
 
 // The THEN of the first branch whose WHEN equals the base, else ELSE.
@@ -177,7 +176,7 @@ fn constant_branches(masked: Masked, branches: BranchesAt, base: Value, depth: u
         let test = equal(rule, rule, base, when);
         let passed = may_pass(test);
         if passed {
-            if kind(test) == 7 {
+            if let Value::Failed = test {
                 return Value::Failed;
             }
             return constant(masked, then, next, depth);

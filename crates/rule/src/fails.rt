@@ -6,7 +6,7 @@ use crate::limits::MOST_DEPTH;
 use crate::tag;
 use crate::walk::{children_at, field_end};
 use layout::part::part_of;
-use scalar::value::kind;
+use scalar::value::Value;
 
 // Whether the node at a place is a column or has one under it.
 fn names_column(rule: &[u8], start: usize, end: usize) -> bool
@@ -44,8 +44,7 @@ fn fails_here(rule: &[u8], start: usize) -> bool
         rule,
         target: part_of(rule, 0, 0),
     };
-    let v = constant(masked, start, end, MOST_DEPTH);
-    kind(v) == 7
+    matches!(constant(masked, start, end, MOST_DEPTH), Value::Failed)
 }
 
 // Whether a cast with no column under it fails, anywhere in the rule.

@@ -8,7 +8,7 @@ ghost use Rattle.scalar.specs.Value.{meaning, on_value};
 
 use crate::value::{Value, float_bits, float_value};
 
-// The bits of the negated Int32.
+// The bits of the negated Int32. One call of its type's method, as for Int64: a trait over both would be longer.
 pub fn negated_int32(n: u32) -> u32
     ensures { result ≡ negated 31 n }
 {

@@ -20,7 +20,7 @@ pub enum Order {
     Unlike,
 }
 
-// A value as it is compared: by a number of 64 bits among those of its type, or as text.
+// A value as it is compared: by a number of 64 bits among those of its type, by the type's number as slots hold it (fixed memory), or as text.
 #[derive(Clone, Copy, Debug, PartialEq, Eq)]
 pub enum Key {
     Null,

@@ -38,7 +38,7 @@ pub fn float_bits(f: f64) -> u64
     }
 }
 
-// The number of a value's kind.
+// The number of a value's kind. Fixed memory: a row's slot in the lent work buffer is a byte of kind and eight of payload.
 pub fn kind(v: Value) -> u8
     ensures { result ≡ kind_of v }
 {

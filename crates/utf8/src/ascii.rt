@@ -37,6 +37,7 @@ fn ascii_stretch(bytes: &[u8], at: usize) -> bool
 fn stretches_end(bytes: &[u8], at: usize) -> usize
     ensures { result ≡ stretches_end bytes.now at }
 {
+    // Not a `for`: the steps are of 32 bytes from any place, and stop where fewer are left.
     let mut i = at;
     while i < bytes.len() {
         if bytes.len() - i < 32 {
@@ -54,6 +55,7 @@ fn stretches_end(bytes: &[u8], at: usize) -> usize
 pub fn ascii_end(bytes: &[u8], at: usize) -> usize
     ensures { result ≡ ascii_end bytes.now at }
 {
+    // Not a `for`: the steps are of eight bytes or of one.
     let mut i = stretches_end(bytes, at);
     while i < bytes.len() {
         if 8 <= bytes.len() - i {

@@ -16,6 +16,7 @@ pub struct IllFormed {
 pub fn validate(text: &[u8]) -> Result<(), IllFormed>
     ensures { result ≡ validation (ill_formed text.now) }
 {
+    // Not a `for`: the next sequence starts where this one ends.
     let mut at = 0;
     while at < text.len() {
         if text[at] < 0x80 {

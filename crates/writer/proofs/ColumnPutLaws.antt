@@ -15,7 +15,7 @@ use Rattle.scalar.specs.declared.value.Value.{Value}
 use Rattle.scalar.specs.Types.{type_number, mark_number}
 use Rattle.scalar.specs.Value.{kind_of}
 use Rattle.writer.specs.Slots.{slot_at}
-use Rattle.writer.specs.Writing.{BitsWrote, BitFieldWrote, ValidityWrote, RowsAsk, row_bytes, some_of_kind, number_of, width_of, row_nulls, row_numbers, row_text, row_offset, row_validity, row_values, row_column, validity_size, values_size}
+use Rattle.writer.specs.Writing.{BitsWrote, BitFieldWrote, ValidityWrote, row_bytes, some_of_kind, number_of, width_of, row_nulls, row_numbers, row_text, row_offset, row_validity, row_values, row_column, validity_size, values_size}
 use Rattle.layout.proofs.FieldLaws.{length_field}
 use Rattle.layout.proofs.PutLaws.{wrote_as, wrote_to, wrote_then, wrote_before, wrote_long}
 use Rattle.writer.proofs.WroteLaws.{length_rows, wrote_field}
@@ -50,22 +50,14 @@ pub empty_field : {out : List ℕ} {at tag p : ℕ} {m : List ℕ} → Wrote out
 unfolding field_bytes
 empty_field {out} {at} {tag} o = wrote_as (sym (append-nil (tag ∷ number_bytes 2 0))) o
 
--- the values of a type that is known
-pub values_as : {out : List ℕ} {at p : ℕ} {m : List ℕ} (rule table : List ℕ) (v : ℕ → Value) (rows : ℕ) {t s : DataType} → t ≡ s → Wrote out at (row_values rule table v rows s) p m
-    → Wrote out at (row_values rule table v rows t) p m
-values_as rule table v rows e o = wrote_as (ap (row_values rule table v rows) (sym e)) o
-
 pub values_room : (at rows text n : ℕ) {t s : DataType} → t ≡ s → at + values_size t rows text ≤ n → at + values_size s rows text ≤ n
 values_room at rows text n e h = rw e at h
 
 -- the numbers of a column, what their field asks
-pub numbers_ask : (wide : Bool) (w : List ℕ) (rows at size n : ℕ) → RowsAsk w rows → size ≡ width_of wide * rows → at + (3 + size) ≤ n
-    → RowsAsk w rows × (size ≡ length (row_bytes (row_numbers wide (slot_at w)) rows)) × (size < 65536) × (at + 3 + size ≤ n)
-numbers_ask wide w rows at size n ask e h = (ask, e ∙ sym (numbers_size wide (slot_at w) rows), small wide e, omega arith)
+pub numbers_ask : (wide : Bool) (w : List ℕ) (rows at size n : ℕ) → rows ≤ 512 → size ≡ width_of wide * rows → at + (3 + size) ≤ n
+    → (size ≡ length (row_bytes (row_numbers wide (slot_at w)) rows)) × (size < 65536) × (at + 3 + size ≤ n)
+numbers_ask wide w rows at size n few e h = (e ∙ sym (numbers_size wide (slot_at w) rows), small wide e, omega arith)
   where
-    few : rows ≤ 512
-    few = ask.few
-
     small : (b : Bool) → size ≡ width_of b * rows → size < 65536
     small true p = omega (arith, few)
     small false p = omega (arith, few)
@@ -88,10 +80,6 @@ bit_field truth v rows {size} e a b = record {
   written = wrote_to (omega (arith, header_ends size a)) (wrote_field (e ∙ sym (bits_size truth v rows (bitmap_length rows))) a b.written);
   counted = b.counted;
 }
-
--- room for tag 3 where some row is null
-pub validity_room : (null : Bool) (at rows n : ℕ) → null ≡ true → at + 3 + validity_size rows null ≤ n → at + 3 + bitmap_length rows ≤ n
-validity_room null at rows n e h = rw e at h
 
 -- tag 3 there, and where none is
 pub validity_some : {out : List ℕ} {at r : ℕ} {m : List ℕ} (null : Bool) (v : ℕ → Value) (rows : ℕ) → null ≡ true → BitFieldWrote 3 false v rows out at r m → ValidityWrote null v rows out at (rows - r) m
@@ -163,18 +151,3 @@ module _ (rule table : List ℕ) (v : ℕ → Value) (rows : ℕ) (t : DataType)
           let said : x ++ (count ++ y) ≡ x ++ field_bytes 6 (number_bytes 2 (row_nulls v rows)) ++ y =
           sym (append_assoc x count y) ∙ ap (λ (n : ℕ). x ++ field_bytes 6 (number_bytes 2 n) ++ y) b.counted in
           wrote_then (wrote_as said (wrote_then a (wrote_to end (wrote_before next b.written c)))) d
-
--- the sizes of the fields are small
-pub sizes_small : (rows : ℕ) (null : Bool) (t : DataType) (text : ℕ) → rows ≤ 512 → text ≤ 65535 → validity_size rows null + values_size t rows text < 131072
-sizes_small rows null t text h k = omega (arith, validity null, values t)
-  where
-    validity : (b : Bool) → validity_size rows b ≤ 512
-    validity true = omega arith
-    validity false = omega arith
-
-    values : (s : DataType) → values_size s rows text ≤ 100000
-    values DataType.Boolean = omega arith
-    values DataType.Int32 = omega arith
-    values DataType.Int64 = omega arith
-    values DataType.Float64 = omega arith
-    values DataType.Utf8 = omega arith

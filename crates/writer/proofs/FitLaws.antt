@@ -9,9 +9,10 @@ use native.Mathlib.Decide.{dec_lt, ℕ_discrete}
 use native.Mathlib.Omega.{arith}
 use lib.Dec.{eqb, ltb, leb}
 use lib.ListN.{length, get_or}
-use borrow.Author.Tests.{ltb-true, ltb-false, leb-true, eqb-true, lt-ltb, le-ltb, le-leb, lt-leb, eq-eqb, ne_eqb}
+use borrow.Author.Tests.{ltb-true, ltb-false, leb-true, eqb-true, lt-ltb, le-ltb, le-leb, eq-eqb}
 use Rattle.layout.specs.Bytes.{Bytes}
 use Rattle.layout.specs.Result.{Result}
+use Rattle.layout.proofs.TestLaws.{both_hold}
 use Rattle.scalar.specs.declared.types.DataType.{DataType}
 use Rattle.scalar.specs.declared.value.Value.{Value}
 use Rattle.scalar.specs.declared.value.Value.TheVariants.{Null, Boolean, Int32, Int64, Float64, Nan, RuleText, TableText, Failed}
@@ -25,7 +26,7 @@ use Rattle.writer.specs.declared.WriteError.TheVariants.{NoColumn}
 use Rattle.writer.specs.Written.{run_answer}
 use Rattle.writer.specs.Slots.{slot_at}
 use Rattle.writer.specs.Write.{RunGives, ColumnGives, said, WriteAsks, ClassesAsk, PlainRows, kind_fits, lengths_fit, slot_fits, slots_fit, writable, slot_kind, slot_payload, classes_long, number_type, class_in, classes_in, classed}
-use Rattle.writer.specs.Writing.{each_row, RowsAsk}
+use Rattle.writer.specs.Writing.{each_row}
 use Rattle.writer.proofs.PlainLaws.{slot_fits_lem, kind_plain}
 
 -- ---- rows that are a column, and rows that are none
@@ -54,11 +55,6 @@ gives_rows {run = run} r e g is = record { says = same r (run_answer run) (sym i
     same (Err e) (Ok m) p = let z : ◌≡◌ {A = ℕ} 0 1 = cc in absurd (omega arith)
     same (Err e) (Err f) p = ap Err cc
 
--- two tests that both passed
-both : (a b : Bool) → (a && b) ≡ true → (a ≡ true) × (b ≡ true)
-both true b e = (refl, e)
-both false b e = absurd (false≢true e)
-
 -- ---- each row passes
 
 -- where the loop stands: i rows have passed
@@ -73,9 +69,6 @@ each_none = record { few = omega arith; each = refl }
 pub each_more : {f : ℕ → Bool} {n i : ℕ} → EachSoFar f n i → i < n → f i ≡ true → EachSoFar f n (i + 1)
 unfolding each_row
 each_more {f} {n} {i} s h e = record { few = omega arith; each = rw (add-one i, e) s.each }
-
-pub each_ends : {f : ℕ → Bool} {n i : ℕ} → EachSoFar f n i → n ≤ i → true ≡ each_row f n
-each_ends {f} {n} {i} s h = let few = s.few in let e : i ≡ n = omega arith in sym s.each ∙ ap (each_row f) e
 
 -- all of them
 each_all : (f : ℕ → Bool) (n : ℕ) → ((i : ℕ) → i < n → f i ≡ true) → each_row f n ≡ true
@@ -103,23 +96,6 @@ each_fails f n i h e = go (each_row f n) refl
     go true p = sym e ∙ each_at f n i p h
 
 -- ---- the slots' kinds
-
-module _ (code k : ℕ) where
-  -- null's
-  pub null_fits : k ≡ 0 → true ≡ kind_fits code k
-  null_fits e = rw e
-
-  -- failed's
-  pub failed_fits : k ≡ 7 → true ≡ kind_fits code k
-  failed_fits e = rw e
-
-  -- that of a text in the table
-  pub table_fits : k ≡ 6 → eqb code 5 ≡ kind_fits code k
-  table_fits e = rw e
-
-  -- any other
-  pub own_fits : (k ≡ 0 → ⊥) → (k ≡ 7 → ⊥) → (k ≡ 6 → ⊥) → eqb k code ≡ kind_fits code k
-  own_fits n m o = rw (ne_eqb k 0 n, ne_eqb k 7 m, ne_eqb k 6 o)
 
 -- a row's kind by its value
 module _ (w : List ℕ) (code i : ℕ) {kd : ℕ} {x : Value} {b : Bool} (fits : b ≡ kind_fits code kd) (p : kd ≡ kind_of x) (q : x ≡ slot_at w i) where
@@ -178,59 +154,32 @@ number_fits DataType.Utf8 a b = refl
 -- ---- the slots
 
 module _ (rule table w : List ℕ) (rows : ℕ) where
-  -- too many rows
-  pub rows_many : 512 < rows → false ≡ lengths_fit rule table w rows
-  rows_many h = rw (lt-leb rows 512 h)
-
-  module _ (few : rows ≤ 512) where
-    -- too short a frame
-    pub frame_short : length w < 5632 → false ≡ lengths_fit rule table w rows
-    frame_short h = rw (le-leb rows 512 few, lt-leb 5632 (length w) h)
-
-    module _ (room : 5632 ≤ length w) where
-      -- too long a rule
-      pub rule_long : 65536 < length rule → false ≡ lengths_fit rule table w rows
-      rule_long h = rw (le-leb rows 512 few, le-leb 5632 (length w) room, lt-leb (length rule) 65536 h)
-
-      -- or a table
-      pub table_last : length rule ≤ 65536 → leb (length table) 65536 ≡ lengths_fit rule table w rows
-      table_last h = rw (le-leb rows 512 few, le-leb 5632 (length w) room, le-leb (length rule) 65536 h)
-
   -- what the lengths tell
   length_facts : lengths_fit rule table w rows ≡ true → (rows ≤ 512) × (5632 ≤ length w) × (length rule ≤ 65536) × (length table ≤ 65536)
   length_facts e =
-      let p = both (leb rows 512 && leb 5632 (length w) && leb (length rule) 65536) (leb (length table) 65536) e in
-      let q = both (leb rows 512 && leb 5632 (length w)) (leb (length rule) 65536) p.0 in
-      let r = both (leb rows 512) (leb 5632 (length w)) q.0 in
+      let p = both_hold (leb rows 512 && leb 5632 (length w) && leb (length rule) 65536) (leb (length table) 65536) e in
+      let q = both_hold (leb rows 512 && leb 5632 (length w)) (leb (length rule) 65536) p.0 in
+      let r = both_hold (leb rows 512) (leb 5632 (length w)) q.0 in
       (leb-true rows 512 r.0, leb-true 5632 (length w) r.1, leb-true (length rule) 65536 q.1, leb-true (length table) 65536 p.1)
 
-  module _ {b : Bool} (is : b ≡ lengths_fit rule table w rows) where
-    -- lengths that don't fit
-    pub lengths_refused : (t : DataType) → b ≡ false → writable rule table w rows t ≡ false
-    lengths_refused t e = rw (sym is ∙ e)
+  module _ {b : Bool} (is : b ≡ lengths_fit rule table w rows) (e : b ≡ true) where
+    fit : lengths_fit rule table w rows ≡ true
+    fit = sym is ∙ e
 
-    module _ (e : b ≡ true) where
-      fit : lengths_fit rule table w rows ≡ true
-      fit = sym is ∙ e
+    -- where they fit, the slots tell
+    pub slots_tell : (t : DataType) {c d : Bool} {code : ℕ} → c ≡ slots_fit code w rows → code ≡ type_number t → c ≡ d → writable rule table w rows t ≡ d
+    slots_tell t p q z = ap₂ ◌&&◌ fit (sym (p ∙ ap (λ (k : ℕ). slots_fit k w rows) q) ∙ z)
 
-      -- lengths that do
-      pub rows_ask : RowsAsk w rows
-      rows_ask = let f = length_facts fit in record { few = f.0; room = f.1 }
-
-      -- then the slots tell
-      pub slots_tell : (t : DataType) {c d : Bool} {code : ℕ} → c ≡ slots_fit code w rows → code ≡ type_number t → c ≡ d → writable rule table w rows t ≡ d
-      slots_tell t p q z = ap₂ ◌&&◌ fit (sym (p ∙ ap (λ (k : ℕ). slots_fit k w rows) q) ∙ z)
-
-      -- plain rows do
-      pub plain_written : {t : DataType} → Bytes w → PlainRows (slot_kind w) rows t → writable rule table w rows t ≡ true
-      plain_written {t} bytes plain =
-          ap₂ ◌&&◌ fit (each_all (slot_fits (type_number t) w) rows
-          (λ i h. ap (kind_fits (type_number t)) (kind_plain plain (slot_payload w) (slot_fits_lem w bytes) i h) ∙ number_fits t plain.number.0 plain.number.1))
+    -- plain rows do
+    pub plain_written : {t : DataType} → Bytes w → PlainRows (slot_kind w) rows t → writable rule table w rows t ≡ true
+    plain_written {t} bytes plain =
+        ap₂ ◌&&◌ fit (each_all (slot_fits (type_number t) w) rows
+        (λ i h. ap (kind_fits (type_number t)) (kind_plain plain (slot_payload w) (slot_fits_lem w bytes) i h) ∙ number_fits t plain.number.0 plain.number.1))
 
   -- slots that can be written, fact by fact
   pub write_asks : (t : DataType) → writable rule table w rows t ≡ true → WriteAsks rule table w rows t
   write_asks t e =
-      let a = both (lengths_fit rule table w rows) (slots_fit (type_number t) w rows) e in
+      let a = both_hold (lengths_fit rule table w rows) (slots_fit (type_number t) w rows) e in
       let f = length_facts a.0 in
       record {
         few = f.0;
@@ -248,21 +197,10 @@ module _ (rule table w : List ℕ) (rows : ℕ) where
 
 -- ---- the classes
 
--- a type's number below those of numbers
-pub number_below : (code : ℕ) → code < 2 → false ≡ number_type code
-number_below code h = rw (lt-leb 2 code h)
-
--- or not
-pub number_last : (code : ℕ) → 2 ≤ code → leb code 4 ≡ number_type code
-number_last code h = rw (le-leb 2 code h)
-
 -- the greatest of the first rows' classes
 pub record MostSoFar (classes : List ℕ) (i most : ℕ) : Type 0 where
   pub below : (j : ℕ) → j < i → get_or classes j 0 ≤ most
   pub some : (most ≡ 0) ⊎ ((j : ℕ) × (j < i) × (get_or classes j 0 ≡ most))
-
-pub most_none : {classes : List ℕ} → MostSoFar classes 0 0
-most_none = record { below = λ j h. absurd (omega arith); some = inl refl }
 
 module _ {classes : List ℕ} {i most : ℕ} (s : MostSoFar classes i most) where
   -- one more
@@ -290,50 +228,19 @@ module _ {classes : List ℕ} {i most : ℕ} (s : MostSoFar classes i most) wher
       go false e (inr (j, l, p)) = each_fails (class_in classes) rows j (omega arith) (le-ltb (get_or classes j 0) 258 (let m = ltb-false most 258 e in omega arith))
 
 module _ (rows : ℕ) (classes payloads : List ℕ) where
-  -- too many rows
-  pub many_classes : 512 < rows → false ≡ classes_long rows classes payloads
-  many_classes h = rw (lt-leb rows 512 h)
-
-  module _ (few : rows ≤ 512) where
-    -- an array of another length
-    pub classes_differ : (length classes ≡ 512 → ⊥) → false ≡ classes_long rows classes payloads
-    classes_differ h = rw (le-leb rows 512 few, ne_eqb (length classes) 512 h)
-
-    pub payloads_last : length classes ≡ 512 → eqb (length payloads) 258 ≡ classes_long rows classes payloads
-    payloads_last long = rw (le-leb rows 512 few, eq-eqb (length classes) 512 long)
-
   -- what the lengths tell
   long_facts : classes_long rows classes payloads ≡ true → (rows ≤ 512) × (length classes ≡ 512) × (length payloads ≡ 258)
   long_facts e =
-      let p = both (leb rows 512 && eqb (length classes) 512) (eqb (length payloads) 258) e in
-      let r = both (leb rows 512) (eqb (length classes) 512) p.0 in
+      let p = both_hold (leb rows 512 && eqb (length classes) 512) (eqb (length payloads) 258) e in
+      let r = both_hold (leb rows 512) (eqb (length classes) 512) p.0 in
       (leb-true rows 512 r.0, eqb-true (length classes) 512 r.1, eqb-true (length payloads) 258 p.1)
-
-  module _ {b : Bool} (is : b ≡ classes_long rows classes payloads) where
-    -- lengths that don't fit
-    pub long_refused : (t : DataType) → b ≡ false → false ≡ classed rows t classes payloads
-    long_refused t e = rw (sym is ∙ e)
-
-    module _ (e : b ≡ true) where
-      -- the loop's need
-      pub classes_room : rows ≤ length classes
-      classes_room = let f = long_facts (sym is ∙ e) in omega (arith, f.0, f.1)
-
-      module _ (t : DataType) {code : ℕ} (q : code ≡ type_number t) {c : Bool} (num : c ≡ number_type code) where
-        -- a type that is none of numbers
-        pub type_refused : c ≡ false → false ≡ classed rows t classes payloads
-        type_refused z = rw (sym is ∙ e, sym (num ∙ ap number_type q) ∙ z)
-
-        -- the rest
-        pub classes_last : {d : Bool} → c ≡ true → d ≡ classes_in classes rows → d ≡ classed rows t classes payloads
-        classes_last z p = rw (sym is ∙ e, sym (num ∙ ap number_type q) ∙ z) p
 
   -- classes that can be written, fact by fact
   pub classes_ask : (t : DataType) → classed rows t classes payloads ≡ true → ClassesAsk rows t classes payloads
   classes_ask t e =
-      let a = both (classes_long rows classes payloads && number_type (type_number t)) (classes_in classes rows) e in
-      let b = both (classes_long rows classes payloads) (number_type (type_number t)) a.0 in
-      let n = both (leb 2 (type_number t)) (leb (type_number t) 4) b.1 in
+      let a = both_hold (classes_long rows classes payloads && number_type (type_number t)) (classes_in classes rows) e in
+      let b = both_hold (classes_long rows classes payloads) (number_type (type_number t)) a.0 in
+      let n = both_hold (leb 2 (type_number t)) (leb (type_number t) 4) b.1 in
       let f = long_facts b.0 in
       record {
         number = (leb-true 2 (type_number t) n.0, leb-true (type_number t) 4 n.1);

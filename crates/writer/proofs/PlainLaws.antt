@@ -1,17 +1,15 @@
 -- Rows that each have a number of the answer's type: their payloads are its column. Assumes nothing.
 use mathlib.Core.Path.{◌≡◌, refl, sym, ap, ap₂, ◌∙◌}
-use mathlib.Core.Bool.{Bool, true, false, cond, not, false≢true}
+use mathlib.Core.Bool.{Bool, true, false, cond, not}
 use mathlib.Core.List.{List, [], ◌∷◌, ◌++◌, append_assoc}
 use Prim.Native.Nat.{ℕ, zero, suc, ◌+◌, ◌-◌, ◌*◌, ◌^◌, ◌<◌, ◌≤◌}
 use native.Mathlib.Nat.{pow-le-pow_right}
-use native.Mathlib.Decide.{dec_lt}
 use native.Mathlib.Omega.{arith}
 use lib.Dec.{eqb}
 use lib.Ieee.{binary64, of_bits, nan_bits}
 use lib.ListN.{length, take, drop, get_or, length-append, length-take}
-use lib.Seq.{take-take}
 use borrow.Author.Tests.{ne_eqb}
-use Rattle.layout.specs.Bytes.{Bytes, number, number_at, number_bytes}
+use Rattle.layout.specs.Bytes.{Bytes, number, number_bytes}
 use Rattle.layout.specs.Field.{field_bytes}
 use Rattle.layout.proofs.BytesLaws.{length_number_bytes, number_below, bytes_take, bytes_drop}
 use Rattle.scalar.specs.declared.types.DataType.{DataType}
@@ -27,7 +25,7 @@ use Rattle.std.specs.Prelude.{Ok, Err}
 use Rattle.layout.specs.declared.refusal.Refusal.TheVariants.{OutputSize}
 use Rattle.layout.specs.Put.{Wrote}
 use Rattle.writer.specs.Answer.{number_in}
-use Rattle.writer.specs.Write.{WriteGives, ClassesAsk, PlainRows, RowsOfKind, Tells, slot_kind, slot_payload, class_payload}
+use Rattle.writer.specs.Write.{WriteGives, ClassesAsk, PlainRows, slot_kind, slot_payload, class_payload}
 use Rattle.writer.specs.Writing.{row_bytes, some_of_kind, number_of, width_of, row_numbers, row_text, row_values, row_column, plain_numbers, plain_front, validity_size, values_size}
 use Rattle.layout.proofs.FieldLaws.{length_field}
 use Rattle.layout.proofs.PutLaws.{wrote_as, wrote_then, wrote_long}
@@ -115,10 +113,6 @@ pub front_put : {out m m' m'' m''' : List ℕ} {p q s r size : ℕ} (rows : ℕ)
 front_put rows t nullable e a b c d = wrote_then (wrote_then (wrote_then a b) (empty_field c)) (wrote_as (ap (λ (n : ℕ). 4 ∷ number_bytes 2 (n - 3)) e) d)
 
 -- ---- the rows
-
--- the eight bytes at a place, taken out, hold the number there
-pub part_number : (w : List ℕ) (at end : ℕ) → at + 8 ≤ end → number_at 8 (take (end - at) (drop at w)) 0 ≡ number_at 8 w at
-part_number w at end h = ap number (take-take 8 (end - at) (drop at w) (omega arith))
 
 -- a row's payload is of 64 bits
 pub slot_fits_lem : (w : List ℕ) → Bytes w → (i : ℕ) → slot_payload w i < 2 ^ 64
@@ -226,40 +220,3 @@ module _ {kind : ℕ → ℕ} {rows : ℕ} {t : DataType} (plain : PlainRows kin
 pub record AllSoFar (w : List ℕ) (k n i : ℕ) : Type 0 where
   pub few : i ≤ n
   pub so_far : (j : ℕ) → j < i → slot_kind w j ≡ k
-
--- at the first row
-pub all_none : {w : List ℕ} {k n : ℕ} → AllSoFar w k n 0
-all_none = record { few = omega arith; so_far = λ j h. absurd (omega arith) }
-
--- at the next
-pub all_more : {w : List ℕ} {k n i : ℕ} → AllSoFar w k n i → i < n → slot_kind w i ≡ k → AllSoFar w k n (i + 1)
-all_more {w} {k} {n} {i} s h e = record { few = omega arith; so_far = λ j b. go j b (dec_lt j i) }
-  where
-    go : (j : ℕ) → j < i + 1 → Dec (j < i) → slot_kind w j ≡ k
-    go j b (yes p) = s.so_far j p
-    go j b (no p) = let q : j ≡ i = omega arith in ap (slot_kind w) q ∙ e
-
--- behind the last
-pub all_end : {w : List ℕ} {k n i : ℕ} → AllSoFar w k n i → n ≤ i → Tells true (RowsOfKind (slot_kind w) n k)
-all_end s h = record { holds = λ e j b. s.so_far j (omega arith); told = λ x. refl }
-
--- at a row of another kind
-pub all_differ : {w : List ℕ} {k n i : ℕ} → AllSoFar w k n i → i < n → (slot_kind w i ≡ k → ⊥) → Tells false (RowsOfKind (slot_kind w) n k)
-all_differ {w} {k} {n} {i} s h d = record { holds = λ e. absurd (false≢true e); told = λ x. absurd (d (x i h)) }
-
-module _ {kind : ℕ → ℕ} {rows : ℕ} (t : DataType) {k : ℕ} (e : k ≡ type_number t) where
-  -- a type before those of numbers
-  pub type_below : k < 2 → Tells false (PlainRows kind rows t)
-  type_below h = record { holds = λ y. absurd (false≢true y); told = λ x. absurd (omega (arith, x.number.0)) }
-
-  -- one behind them
-  pub type_above : 4 < k → Tells false (PlainRows kind rows t)
-  type_above h = record { holds = λ y. absurd (false≢true y); told = λ x. absurd (omega (arith, x.number.1)) }
-
-  -- one of them
-  pub all_plain : {answer : Bool} → rows ≤ 512 → 2 ≤ k → k ≤ 4 → Tells answer (RowsOfKind kind rows k) → Tells answer (PlainRows kind rows t)
-  all_plain few a b s =
-      record {
-        holds = λ y. record { few = few; number = (omega arith, omega arith); kind_is = λ i h. s.holds y i h ∙ e };
-        told = λ x. s.told (λ i h. x.kind_is i h ∙ sym e);
-      }

@@ -6,25 +6,14 @@ use native.Mathlib.Nat.{pow-suc}
 use native.Mathlib.Omega.{arith}
 use lib.ListN.{length}
 use lib.Pow.{pow_mono}
-use borrow.Author.Tests.{lt-ltb, le-ltb}
+use borrow.Author.Tests.{le-ltb}
 use Rattle.scalar.specs.declared.value.Value.{Value}
-use Rattle.writer.specs.Writing.{row_bytes, flag_of, flag_at, bits_from, row_bits}
+use Rattle.writer.specs.Writing.{row_bytes, flag_at, bits_from, row_bits}
 use Rattle.writer.proofs.WroteLaws.{length_rows}
-
--- the bit of a row
-pub flag_in : (truth : Bool) (v : ℕ → Value) (rows row : ℕ) {x : Value} {f b : Bool} → row < rows → x ≡ v row → f ≡ flag_of truth x → f ≡ b → flag_at truth v rows row ≡ b
-flag_in truth v rows row h e p q = rw (lt-ltb row rows h) (sym (p ∙ ap (flag_of truth) e) ∙ q)
 
 -- behind the last row
 pub flag_out : (truth : Bool) (v : ℕ → Value) (rows row : ℕ) → rows ≤ row → flag_at truth v rows row ≡ false
 flag_out truth v rows row h = rw (le-ltb row rows h)
-
--- a bit is 0 or 1
-pub bit_one : {b : Bool} → b ≡ true → ◌≡◌ {A = ℕ} 1 (cond b 1 0)
-bit_one e = rw e
-
-pub bit_zero : {b : Bool} → b ≡ false → ◌≡◌ {A = ℕ} 0 (cond b 1 0)
-bit_zero e = rw e
 
 pub bit_below : (b : Bool) → cond {A = ℕ} b 1 0 ≤ 1
 bit_below true = omega arith
@@ -64,9 +53,3 @@ bits_more {f} {a} {k} {n} {b} s h e = record { few = omega arith; small = omega 
         let r : cond (f (a + (k - 1))) 1 0 + 2 * bits_from f (a + k) (8 - k) ≡ bits_from f (a + (k - 1)) (suc (8 - k)) =
         ap (λ (x : ℕ). cond (f (a + (k - 1))) 1 0 + 2 * bits_from f x (8 - k)) (sym p) in
         ap₂ (λ (x y : ℕ). x + 2 * y) e s.bits_are ∙ r ∙ ap (bits_from f (a + (k - 1))) (sym q)
-
-pub bits_end : {f : ℕ → Bool} {a k n : ℕ} → BitsSoFar f a k n → k ≤ 0 → n ≡ bits_from f a 8
-bits_end {f} {a} {k} s h =
-    let p : a + k ≡ a = omega arith in
-    let q : 8 - k ≡ 8 = omega arith in
-    s.bits_are ∙ ap₂ (bits_from f) p q

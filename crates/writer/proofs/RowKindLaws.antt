@@ -48,9 +48,6 @@ kind_more v k {n} {i} s h p q e = record {
   none = rw (add-one i, ne_eqb (kind_of (v i)) k (λ x. e (p ∙ ap kind_of q ∙ x))) s.none;
 }
 
-pub kind_none : {f : ℕ → Bool} {n i : ℕ} → NoneSoFar f n i → n ≤ i → false ≡ any_row f n
-kind_none {f} {n} {i} s h = let few = s.few in let e : i ≡ n = omega arith in sym s.none ∙ ap (any_row f) e
-
 -- no row passes
 pub any_none : (f : ℕ → Bool) (n : ℕ) → ((i : ℕ) → i < n → f i ≡ false) → any_row f n ≡ false
 unfolding any_row

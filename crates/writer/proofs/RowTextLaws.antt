@@ -1,5 +1,5 @@
 -- The rows' texts: how long they are, and their offsets, row by row. Assumes nothing.
-use mathlib.Core.Path.{◌≡◌, refl, ap, ◌∙◌}
+use mathlib.Core.Path.{◌≡◌, refl, ap}
 use mathlib.Core.List.{List}
 use Prim.Native.Nat.{ℕ, zero, suc, ◌+◌, ◌*◌, ◌^◌, ◌<◌, ◌≤◌}
 use native.Mathlib.Omega.{arith}
@@ -49,9 +49,6 @@ length_none = record { few = omega arith; sum_is = refl }
 
 pub length_more : {f : ℕ → List ℕ} {n i sum size : ℕ} → LengthSoFar f n i sum → i < n → size ≡ length (f i) → LengthSoFar f n (i + 1) (sum + size)
 length_more {f} {n} {i} s more e = record { few = omega arith; sum_is = omega (arith, s.sum_is, length_row_more f i) }
-
-pub length_ends : {f : ℕ → List ℕ} {n i sum : ℕ} → LengthSoFar f n i sum → n ≤ i → sum ≡ length (row_bytes f n)
-length_ends {f} {n} {i} s h = let few = s.few in let e : i ≡ n = omega arith in s.sum_is ∙ ap (λ (k : ℕ). length (row_bytes f k)) e
 
 -- one text more is counted without passing 2 ^ 64
 pub text_fits : (rule table : List ℕ) (v : ℕ → Value) {n i sum size : ℕ} → LengthSoFar (row_text rule table v) n i sum → i < n → n ≤ 512 → length rule ≤ 65536 → length table ≤ 65536

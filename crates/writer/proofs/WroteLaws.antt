@@ -105,14 +105,8 @@ module _ {f : ℕ → List ℕ} {out : List ℕ} {at n i p : ℕ} {m : List ℕ}
 
 -- ---- a number, of eight bytes or of four
 
-module _ {wide b : Bool} (e : wide ≡ b) where
-  -- its room
-  pub width_room : (at n : ℕ) → at + width_of wide ≤ n → at + width_of b ≤ n
-  width_room at n h = rw e at h
-
-  -- its bytes
-  pub width_bytes : {out : List ℕ} {at p : ℕ} {m : List ℕ} (n : ℕ) → Wrote out at (number_bytes (width_of b) n) p m → Wrote out at (number_bytes (width_of wide) n) p m
-  width_bytes n w = rw e w
+pub width_bytes : {wide b : Bool} → wide ≡ b → {out : List ℕ} {at p : ℕ} {m : List ℕ} (n : ℕ) → Wrote out at (number_bytes (width_of b) n) p m → Wrote out at (number_bytes (width_of wide) n) p m
+width_bytes e n w = rw e w
 
 -- ---- room behind a run
 

@@ -1,5 +1,5 @@
 -- What the writers of the answer promise: bytes at a place of the output, one row's behind the other's.
-use Rattle.std.specs.Prelude.{◌≡◌, Bool, true, false, cond, not, List, [], ◌∷◌, ◌++◌, map, ℕ, zero, suc, ◌+◌, ◌*◌, ◌<◌, ◌≤◌, eqb, ltb, length}
+use Rattle.std.specs.Prelude.{◌≡◌, Bool, true, false, cond, not, List, [], ◌∷◌, ◌++◌, map, ℕ, zero, suc, ◌+◌, ◌*◌, ◌<◌, eqb, ltb, length}
 use Rattle.std.specs.Float.{binary64}
 use Rattle.std.specs.Float.Ieee.{to_bits}
 use Rattle.layout.specs.Bytes.{number_bytes, bitmap_length}
@@ -127,11 +127,6 @@ pub record BitsWrote (truth : Bool) (v : ℕ → Value) (rows : ℕ) (out : List
 pub record BitFieldWrote (tag : ℕ) (truth : Bool) (v : ℕ → Value) (rows : ℕ) (out : List ℕ) (at r : ℕ) (out' : List ℕ) : Type 0 where
   pub written : Wrote out at (field_bytes tag (row_bytes (row_bits truth v rows) (bitmap_length rows))) (at + 3 + bitmap_length rows) out'
   pub counted : r ≡ flag_count truth v rows
-
--- what reading the slots of the first rows asks
-pub record RowsAsk (w : List ℕ) (rows : ℕ) : Type 0 where
-  pub few : rows ≤ 512
-  pub room : 5632 ≤ length w
 
 -- how many bytes the validity of so many rows takes, where some are null and where none is
 abbrev pub validity_size : ℕ → Bool → ℕ

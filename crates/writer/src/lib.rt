@@ -9,7 +9,7 @@ pub mod classes;
 pub mod clear;
 pub(crate) mod plain;
 pub(crate) mod put;
-pub(crate) mod slot;
+pub(crate) mod rows;
 pub(crate) mod texts;
 pub mod write;
 

@@ -3,10 +3,10 @@ ghost use Rattle.std.specs.Prelude.{List, ℕ, ◌+◌, ◌-◌, ◌≤◌, leng
 ghost use Rattle.layout.specs.Put.{Wrote};
 ghost use Rattle.writer.specs.Slots.{slot_at};
 ghost use Rattle.writer.specs.Write.{PlainRows, RowsOfKind, Tells, WriteGives, slot_kind};
-ghost use Rattle.writer.specs.Writing.{RowsAsk, plain_front, values_size};
+ghost use Rattle.writer.specs.Writing.{plain_front, values_size};
 
 use crate::put::{put_count, put_header, put_numbers, put_type};
-use crate::slot::slot_payload;
+use crate::rows::Rows;
 use crate::write::{VALIDITY, VALUES, column_size, values_size};
 use layout::refusal::Refusal;
 use scalar::types::DataType;
@@ -17,9 +17,8 @@ pub(crate) const INT32: u8 = 2;
 pub(crate) const FLOAT64: u8 = 4;
 
 // Whether every row's slot has a number of the answer's type.
-pub(crate) fn plain_rows(work: &[u8], rows: usize, t: DataType) -> bool
-    requires { RowsAsk work.now rows }
-    ensures { Tells result (PlainRows (slot_kind work.now) rows t) }
+pub(crate) fn plain_rows(rows: &Rows, t: DataType) -> bool
+    ensures { Tells result (PlainRows (slot_kind rows.now.work.now) rows.now.count t) }
 {
     let k = t.number();
     if k < INT32 {
@@ -28,16 +27,15 @@ pub(crate) fn plain_rows(work: &[u8], rows: usize, t: DataType) -> bool
     if FLOAT64 < k {
         return false;
     }
-    rows_of_kind(work, rows, k)
+    rows_of_kind(rows, k)
 }
 
 // Whether every row's slot has a value of a kind.
-fn rows_of_kind(work: &[u8], rows: usize, k: u8) -> bool
-    requires { RowsAsk work.now rows }
-    ensures { Tells result (RowsOfKind (slot_kind work.now) rows k) }
+fn rows_of_kind(rows: &Rows, k: u8) -> bool
+    ensures { Tells result (RowsOfKind (slot_kind rows.now.work.now) rows.now.count k) }
 {
-    for i in 0..rows {
-        if work[1024 + 9 * i] != k {
+    for i in 0..rows.count {
+        if rows.kind(i) != k {
             return false;
         }
     }
@@ -46,22 +44,21 @@ fn rows_of_kind(work: &[u8], rows: usize, k: u8) -> bool
 
 // The answer at the front of the output, and its length, of rows whose slots have numbers of its type; or 17, and the output is unchanged.
 pub(crate) fn write_plain(
-    work: &[u8],
-    rows: usize,
+    rows: &Rows,
     t: DataType,
     nullable: bool,
     output: &mut [u8],
 ) -> Result<usize, Refusal>
-    requires { RowsAsk work.now rows × PlainRows (slot_kind work.now) rows t }
-    ensures { (rule table : List ℕ) → WriteGives rule table (slot_at work.now) rows t nullable output.old result output.new }
+    requires { PlainRows (slot_kind rows.now.work.now) rows.now.count t }
+    ensures { (rule table : List ℕ) → WriteGives rule table (slot_at rows.now.work.now) rows.now.count t nullable output.old result output.new }
 {
-    let size = column_size(rows, t, false, 0);
+    let size = column_size(rows.count, t, false, 0);
     if output.len() < size {
         return Err(Refusal::OutputSize);
     }
-    let p = plain_front(rows, t, nullable, output);
+    let p = plain_front(rows.count, t, nullable, output);
     let wide = t.number() != INT32;
-    let end = put_numbers(rows, wide, |i| slot_payload(work, i), p, output);
+    let end = put_numbers(rows.count, wide, |i| rows.payload(i), p, output);
     Ok(end)
 }
 

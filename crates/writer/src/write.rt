@@ -5,13 +5,13 @@ ghost use Rattle.layout.specs.Field.{field_bytes};
 ghost use Rattle.layout.specs.Put.{Wrote};
 ghost use Rattle.writer.specs.Slots.{slot_at};
 ghost use Rattle.writer.specs.Write.{ColumnGives, WriteGives, WriteAsks, kind_fits, lengths_fit, slots_fit, writable, rows_run};
-ghost use Rattle.writer.specs.Writing.{BitFieldWrote, ValidityWrote, RowsAsk, some_of_kind, row_bytes, number_of, row_numbers, row_bits, row_text, row_offset, row_values, row_column, validity_size, values_size};
+ghost use Rattle.writer.specs.Writing.{BitFieldWrote, ValidityWrote, some_of_kind, row_bytes, number_of, row_numbers, row_bits, row_text, row_offset, row_values, row_column, validity_size, values_size};
 
 use crate::WriteError;
 use crate::bitmap::put_bits;
 use crate::plain::{plain_rows, write_plain};
 use crate::put::{put_count, put_header, put_numbers, put_type};
-use crate::slot::get_slot;
+use crate::rows::Rows;
 use crate::texts::{put_offsets, put_texts, text_length};
 use layout::bits::bitmap_length;
 use layout::refusal::Refusal;
@@ -60,13 +60,19 @@ pub fn write_answer(
     if !lengths_fit(rule, table, work, rows) {
         return Err(WriteError::NoColumn);
     }
-    if plain_rows(work, rows, t) {
-        return Ok(write_plain(work, rows, t, nullable, output)?);
+    let all = &Rows {
+        rule,
+        table,
+        work,
+        count: rows,
+    };
+    if plain_rows(all, t) {
+        return Ok(write_plain(all, t, nullable, output)?);
     }
-    if !slots_fit(work, rows, t.number()) {
+    if !slots_fit(all, t.number()) {
         return Err(WriteError::NoColumn);
     }
-    Ok(write_rows(rule, table, work, rows, t, nullable, output)?)
+    Ok(write_rows(all, t, nullable, output)?)
 }
 
 // Whether the rows have slots, and their texts can be counted.
@@ -102,12 +108,11 @@ fn kind_fits(code: u8, k: u8) -> bool
 }
 
 // Whether every row's slot has a value that a column of the type with a number can have.
-fn slots_fit(work: &[u8], rows: usize, code: u8) -> bool
-    requires { RowsAsk work.now rows }
-    ensures { result ≡ slots_fit code work.now rows }
+fn slots_fit(rows: &Rows, code: u8) -> bool
+    ensures { result ≡ slots_fit code rows.now.work.now rows.now.count }
 {
-    for i in 0..rows {
-        if !kind_fits(code, kind(get_slot(work, i))) {
+    for i in 0..rows.count {
+        if !kind_fits(code, kind(rows.value(i))) {
             return false;
         }
     }
@@ -115,41 +120,32 @@ fn slots_fit(work: &[u8], rows: usize, code: u8) -> bool
 }
 
 // The same of slots that are a column of the type: 15, 16, 17 or the answer.
-fn write_rows(
-    rule: &[u8],
-    table: &[u8],
-    work: &[u8],
-    rows: usize,
-    t: DataType,
-    nullable: bool,
-    output: &mut [u8],
-) -> Result<usize, Refusal>
-    requires { WriteAsks rule.now table.now work.now rows t }
-    ensures { WriteGives rule.now table.now (slot_at work.now) rows t nullable output.old result output.new }
+fn write_rows(rows: &Rows, t: DataType, nullable: bool, output: &mut [u8]) -> Result<usize, Refusal>
+    requires { WriteAsks rows.now.rule.now rows.now.table.now rows.now.work.now rows.now.count t }
+    ensures { WriteGives rows.now.rule.now rows.now.table.now (slot_at rows.now.work.now) rows.now.count t nullable output.old result output.new }
 {
-    if some_of_kind(work, rows, FAILED) {
+    if some_of_kind(rows, FAILED) {
         return Err(Refusal::Cast);
     }
-    let text = answer_text(rule, table, work, rows, t);
+    let text = answer_text(rows, t);
     if TEXT_MOST < text {
         return Err(Refusal::TextSize);
     }
-    let null = some_of_kind(work, rows, NULL);
-    let size = column_size(rows, t, null, text);
+    let null = some_of_kind(rows, NULL);
+    let size = column_size(rows.count, t, null, text);
     if output.len() < size {
         return Err(Refusal::OutputSize);
     }
-    let end = put_column(rule, table, work, rows, t, nullable, null, text, output);
+    let end = put_column(rows, t, nullable, null, text, output);
     Ok(end)
 }
 
 // Whether some row's slot has a value of a kind.
-fn some_of_kind(work: &[u8], rows: usize, k: u8) -> bool
-    requires { RowsAsk work.now rows }
-    ensures { result ≡ some_of_kind (slot_at work.now) k rows }
+fn some_of_kind(rows: &Rows, k: u8) -> bool
+    ensures { result ≡ some_of_kind (slot_at rows.now.work.now) k rows.now.count }
 {
-    for i in 0..rows {
-        if kind(get_slot(work, i)) == k {
+    for i in 0..rows.count {
+        if kind(rows.value(i)) == k {
             return true;
         }
     }
@@ -157,12 +153,12 @@ fn some_of_kind(work: &[u8], rows: usize, k: u8) -> bool
 }
 
 // How long the answer's text is; only an answer of text has any.
-fn answer_text(rule: &[u8], table: &[u8], work: &[u8], rows: usize, t: DataType) -> usize
-    requires { WriteAsks rule.now table.now work.now rows t }
-    ensures { result ≡ length (row_bytes (row_text rule.now table.now (slot_at work.now)) rows) }
+fn answer_text(rows: &Rows, t: DataType) -> usize
+    requires { WriteAsks rows.now.rule.now rows.now.table.now rows.now.work.now rows.now.count t }
+    ensures { result ≡ length (row_bytes (row_text rows.now.rule.now rows.now.table.now (slot_at rows.now.work.now)) rows.now.count) }
 {
     match t {
-        DataType::Utf8 => text_length(rule, table, work, rows),
+        DataType::Utf8 => text_length(rows),
         _ => 0,
     }
 }
@@ -196,28 +192,21 @@ pub(crate) fn column_size(rows: usize, t: DataType, null: bool, text: usize) -> 
 }
 
 // A field of the rows' bits, and how many of them are set.
-fn put_bit_field(
-    work: &[u8],
-    rows: usize,
-    truth: bool,
-    tag: u8,
-    at: usize,
-    output: &mut [u8],
-) -> usize
-    requires { RowsAsk work.now rows × (at + 3 + bitmap_length rows ≤ length output.old) }
-    ensures { BitFieldWrote tag truth (slot_at work.now) rows output.old at result output.new }
+fn put_bit_field(rows: &Rows, truth: bool, tag: u8, at: usize, output: &mut [u8]) -> usize
+    requires { at + 3 + bitmap_length rows.now.count ≤ length output.old }
+    ensures { BitFieldWrote tag truth (slot_at rows.now.work.now) rows.now.count output.old at result output.new }
 {
-    let p = put_header(output, at, tag, bitmap_length(rows));
-    put_bits(work, rows, truth, p, output)
+    let p = put_header(output, at, tag, bitmap_length(rows.count));
+    put_bits(rows, truth, p, output)
 }
 
 // A field of the rows' truths.
-fn put_truth_field(work: &[u8], rows: usize, at: usize, output: &mut [u8]) -> usize
-    requires { RowsAsk work.now rows × (at + 3 + bitmap_length rows ≤ length output.old) }
-    ensures { Wrote output.old at (field_bytes 4 (row_bytes (row_bits true (slot_at work.now) rows) (bitmap_length rows))) result output.new }
+fn put_truth_field(rows: &Rows, at: usize, output: &mut [u8]) -> usize
+    requires { at + 3 + bitmap_length rows.now.count ≤ length output.old }
+    ensures { Wrote output.old at (field_bytes 4 (row_bytes (row_bits true (slot_at rows.now.work.now) rows.now.count) (bitmap_length rows.now.count))) result output.new }
 {
-    let _set = put_bit_field(work, rows, true, VALUES, at, output);
-    at + 3 + bitmap_length(rows)
+    let _set = put_bit_field(rows, true, VALUES, at, output);
+    at + 3 + bitmap_length(rows.count)
 }
 
 // The number of a value; 0 where it is none.
@@ -233,94 +222,67 @@ fn number_of(v: Value) -> u64
 }
 
 // A field of the rows' numbers.
-fn put_number_field(
-    work: &[u8],
-    rows: usize,
-    wide: bool,
-    size: usize,
-    at: usize,
-    output: &mut [u8],
-) -> usize
-    requires { RowsAsk work.now rows × (size ≡ length (row_bytes (row_numbers wide (slot_at work.now)) rows)) × (size < 65536) × (at + 3 + size ≤ length output.old) }
-    ensures { Wrote output.old at (field_bytes 4 (row_bytes (row_numbers wide (slot_at work.now)) rows)) result output.new }
+fn put_number_field(rows: &Rows, wide: bool, size: usize, at: usize, output: &mut [u8]) -> usize
+    requires { (size ≡ length (row_bytes (row_numbers wide (slot_at rows.now.work.now)) rows.now.count)) × (size < 65536) × (at + 3 + size ≤ length output.old) }
+    ensures { Wrote output.old at (field_bytes 4 (row_bytes (row_numbers wide (slot_at rows.now.work.now)) rows.now.count)) result output.new }
 {
     let p = put_header(output, at, VALUES, size);
-    put_numbers(rows, wide, |i| number_of(get_slot(work, i)), p, output)
+    put_numbers(rows.count, wide, |i| number_of(rows.value(i)), p, output)
 }
 
 // The fields of the rows' offsets and of their texts.
-fn put_text_fields(
-    rule: &[u8],
-    table: &[u8],
-    work: &[u8],
-    rows: usize,
-    text: usize,
-    at: usize,
-    output: &mut [u8],
-) -> usize
-    requires { RowsAsk work.now rows × (text ≡ length (row_bytes (row_text rule.now table.now (slot_at work.now)) rows)) × (text ≤ 65535) × (at + values_size DataType.Utf8 rows text ≤ length output.old) }
-    ensures { Wrote output.old at (field_bytes 5 (row_bytes (row_offset rule.now table.now (slot_at work.now)) (suc rows)) ++ field_bytes 4 (row_bytes (row_text rule.now table.now (slot_at work.now)) rows)) result output.new }
+fn put_text_fields(rows: &Rows, text: usize, at: usize, output: &mut [u8]) -> usize
+    requires { (text ≡ length (row_bytes (row_text rows.now.rule.now rows.now.table.now (slot_at rows.now.work.now)) rows.now.count)) × (text ≤ 65535) × (at + values_size DataType.Utf8 rows.now.count text ≤ length output.old) }
+    ensures { Wrote output.old at (field_bytes 5 (row_bytes (row_offset rows.now.rule.now rows.now.table.now (slot_at rows.now.work.now)) (suc rows.now.count)) ++ field_bytes 4 (row_bytes (row_text rows.now.rule.now rows.now.table.now (slot_at rows.now.work.now)) rows.now.count)) result output.new }
 {
-    let p = put_header(output, at, OFFSETS, 4 * rows + 4);
-    let q = put_offsets(rule, table, work, rows, p, output);
+    let p = put_header(output, at, OFFSETS, 4 * rows.count + 4);
+    let q = put_offsets(rows, p, output);
     let s = put_header(output, q, VALUES, text);
-    put_texts(rule, table, work, rows, s, output)
+    put_texts(rows, s, output)
 }
 
 // Tag 3: the bits of validity where some row is null, else nothing; and how many rows are null.
-fn put_validity(work: &[u8], rows: usize, null: bool, at: usize, output: &mut [u8]) -> usize
-    requires { RowsAsk work.now rows × (null ≡ some_of_kind (slot_at work.now) 0 rows) × (at + 3 + validity_size rows null ≤ length output.old) }
-    ensures { ValidityWrote null (slot_at work.now) rows output.old at result output.new }
+fn put_validity(rows: &Rows, null: bool, at: usize, output: &mut [u8]) -> usize
+    requires { (null ≡ some_of_kind (slot_at rows.now.work.now) 0 rows.now.count) × (at + 3 + validity_size rows.now.count null ≤ length output.old) }
+    ensures { ValidityWrote null (slot_at rows.now.work.now) rows.now.count output.old at result output.new }
 {
     if null {
-        return rows - put_bit_field(work, rows, false, VALIDITY, at, output);
+        return rows.count - put_bit_field(rows, false, VALIDITY, at, output);
     }
     let _end = put_header(output, at, VALIDITY, 0);
     0
 }
 
 // Tag 4, and before it tag 5 where the column is of text.
-fn put_values(
-    rule: &[u8],
-    table: &[u8],
-    work: &[u8],
-    rows: usize,
-    t: DataType,
-    text: usize,
-    at: usize,
-    output: &mut [u8],
-) -> usize
-    requires { RowsAsk work.now rows × (text ≡ length (row_bytes (row_text rule.now table.now (slot_at work.now)) rows)) × (text ≤ 65535) × (at + values_size t rows text ≤ length output.old) }
-    ensures { Wrote output.old at (row_values rule.now table.now (slot_at work.now) rows t) result output.new }
+fn put_values(rows: &Rows, t: DataType, text: usize, at: usize, output: &mut [u8]) -> usize
+    requires { (text ≡ length (row_bytes (row_text rows.now.rule.now rows.now.table.now (slot_at rows.now.work.now)) rows.now.count)) × (text ≤ 65535) × (at + values_size t rows.now.count text ≤ length output.old) }
+    ensures { Wrote output.old at (row_values rows.now.rule.now rows.now.table.now (slot_at rows.now.work.now) rows.now.count t) result output.new }
 {
     match t {
-        DataType::Boolean => put_truth_field(work, rows, at, output),
-        DataType::Int32 => put_number_field(work, rows, false, 4 * rows, at, output),
+        DataType::Boolean => put_truth_field(rows, at, output),
+        DataType::Int32 => put_number_field(rows, false, 4 * rows.count, at, output),
         DataType::Int64 | DataType::Float64 => {
-            put_number_field(work, rows, true, 8 * rows, at, output)
+            put_number_field(rows, true, 8 * rows.count, at, output)
         },
-        DataType::Utf8 => put_text_fields(rule, table, work, rows, text, at, output),
+        DataType::Utf8 => put_text_fields(rows, text, at, output),
     }
 }
 
 // The whole column. The null count, which stands before the validity, is known once the validity is written.
 fn put_column(
-    rule: &[u8],
-    table: &[u8],
-    work: &[u8],
-    rows: usize,
+    rows: &Rows,
     t: DataType,
     nullable: bool,
     null: bool,
     text: usize,
     output: &mut [u8],
 ) -> usize
-    requires { RowsAsk work.now rows × (text ≡ length (row_bytes (row_text rule.now table.now (slot_at work.now)) rows)) × (text ≤ 65535) × (null ≡ some_of_kind (slot_at work.now) 0 rows) × (13 + validity_size rows null + values_size t rows text ≤ length output.old) }
-    ensures { Wrote output.old 0 (row_column rule.now table.now (slot_at work.now) rows t nullable null) result output.new }
+    requires { (text ≡ length (row_bytes (row_text rows.now.rule.now rows.now.table.now (slot_at rows.now.work.now)) rows.now.count)) × (text ≤ 65535) × (null ≡ some_of_kind (slot_at rows.now.work.now) 0 rows.now.count) × (13 + validity_size rows.now.count null + values_size t rows.now.count text ≤ length output.old) }
+    ensures { Wrote output.old 0 (row_column rows.now.rule.now rows.now.table.now (slot_at rows.now.work.now) rows.now.count t nullable null) result output.new }
 {
     let p = put_type(output, 0, t, nullable);
-    let nulls = put_validity(work, rows, null, p + 5, output);
+    let nulls = put_validity(rows, null, p + 5, output);
     let q = put_count(output, p, nulls);
-    let s = q + 3 + validity_size(rows, null);
-    put_values(rule, table, work, rows, t, text, s, output)
+    let s = q + 3 + validity_size(rows.count, null);
+    put_values(rows, t, text, s, output)
 }

@@ -10,4 +10,4 @@ pub returns-then-lookup_values : goal.returns-then-lookup_values
 returns-then-lookup_values c = keys_found c.lookup_values.ensures c.if-lookup_values.true (end_gives c.field_end.ensures)
 
 pub returns : goal.returns
-returns c = keys_missed c.lookup_values.ensures.long
+returns c = keys_missed

@@ -9,4 +9,4 @@ pub returns-then-step_values : goal.returns-then-step_values
 returns-then-step_values c = steps_found c.step_values.ensures c.if-step_values.true
 
 pub returns : goal.returns
-returns c = steps_missed c.step_values.ensures.long
+returns c = steps_missed

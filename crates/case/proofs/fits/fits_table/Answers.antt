@@ -1,6 +1,4 @@
 use Rattle.std.proofs.Common.{sym, ◌∙◌, inl, inr, arith, ◌≡◌, length}
-use Rattle.std.proofs.Math.ListN.{length-map}
-use Rattle.table.specs.declared.places.ColumnPlace.{ColumnPlace}
 use Rattle.case.proofs.FitsLaws.{fitted_more, table_misfits, beyond_fits}
 use Rattle.case.proofs.fits.fits_table.Goals as goal
 use Rattle.case.proofs.fits.fits_table.Goals.{then-mark-ne0+else-not-index_fits, else-mark-ne0}
@@ -14,4 +12,4 @@ loop-i-preserved c = fitted_more c.loop-i.invariant c.loop-i-test.true (elim c.i
 pub returns : goal.returns
 returns c =
     let long : length c.args.t.columns ≡ 16 = omega arith in
-    beyond_fits (λ (p : ColumnPlace). p) c.args.seen c.args.t (length-map c.args.t.columns (λ (p : ColumnPlace). p) ∙ long) c.loop-i.invariant c.loop-i-test.false _ c.none_beyond.ensures
+    beyond_fits c.args.seen c.args.t long c.loop-i.invariant c.loop-i-test.false _ c.none_beyond.ensures

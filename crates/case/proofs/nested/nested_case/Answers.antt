@@ -8,13 +8,13 @@ pub nested_results-place-requires : goal.nested_results-place-requires
 nested_results-place-requires c = c.requires.arrays.0
 
 pub returns-then-place-eq0 : goal.returns-then-place-eq0
-returns-then-place-eq0 c = case_none (omega arith) c.nested_results-place.ensures.grown
+returns-then-place-eq0 c = case_none c.nested_results-place.ensures.grown
 
 pub case_values-requires : goal.case_values-requires
 case_values-requires c = c.requires.framed
 
 pub returns-then-ne : goal.returns-then-ne
-returns-then-ne c = case_none (omega arith) c.nested_results-place.ensures.grown
+returns-then-ne c = case_none c.nested_results-place.ensures.grown
 
 pub class_listed-requires : goal.class_listed-requires
 class_listed-requires c = record { rows = (rows_small c.requires.framed.small c.requires.framed.list_ok, omega (arith, c.requires.framed.room, c.requires.framed.list_ok.few)); below = index_in c.case_values.ensures (search rules) c.if-place-eq0.false c.nested_results-place.ensures }

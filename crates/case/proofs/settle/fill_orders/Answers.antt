@@ -1,5 +1,4 @@
 -- `fill_orders` compares the open rows where that is asked for.
-use Rattle.std.proofs.Common.{arith}
 use Rattle.case.proofs.ClassLaws.{orders_asked, orders_unasked}
 use Rattle.case.proofs.settle.fill_orders.Goals as goal
 
@@ -7,4 +6,4 @@ pub returns-then-asks_equal : goal.returns-then-asks_equal
 returns-then-asks_equal c = orders_asked c.compare_list.ensures
 
 pub returns-else-asks_equal : goal.returns-else-asks_equal
-returns-else-asks_equal c = orders_unasked (omega arith) c.asks_equal.ensures c.if-asks_equal.false
+returns-else-asks_equal c = orders_unasked c.asks_equal.ensures c.if-asks_equal.false

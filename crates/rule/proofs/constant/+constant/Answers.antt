@@ -1,11 +1,13 @@
 -- The cycle of calls that works out a node without reading a column. The measure is eight times the depth that is left, and how far a call is
 -- from the next node. The loop's invariant: the branches that are left stand at the place and give what all give.
-use mathlib.Core.Path.{refl, sym, ◌∙◌}
+use borrow.Author.Rules.{rules}
+use mathlib.Core.Path.{refl, sym, ap, ◌∙◌}
 use native.Mathlib.Omega.{arith}
 use Rattle.scalar.proofs.CompareLaws.{equal_both}
 use Rattle.scalar.proofs.OperationLaws.{try_cast_gives}
+use Rattle.scalar.specs.Value.{kind_of}
 use Rattle.rule.proofs.ConstantNode.{within_column, within_none, within_literal, within_case, within_one, within_two, constant_same, constant_other, constant_none, within_behind}
-use Rattle.rule.proofs.ConstantCase.{base_none, base_some, else_none, else_some, with_failed, with_null, with_value, branches_next, branches_failed, branches_then, branches_end, case_gives, case_behind}
+use Rattle.rule.proofs.ConstantCase.{base_none, base_some, else_none, else_some, with_failed, with_null, with_value, branches_next, branches_failed, branches_then, branches_end, case_gives, case_behind, some_value, fit_value}
 use Rattle.rule.proofs.LiteralLaws.{literal_gives}
 use Rattle.rule.proofs.WalkLaws.{behind_gives, children_gives, end_gives}
 use Rattle.rule.proofs.TypeOfLaws.{type_gives}
@@ -26,11 +28,11 @@ constant_base-returns-then-at-end t c = base_none c.if-at-end.true
 pub constant_base-returns : goal.constant_base-returns
 constant_base-returns t c = base_some c.if-at-end.false c.constant.ensures
 
-pub constant_branches-returns-then-kind-eq7 : goal.constant_branches-returns-then-kind-eq7
-constant_branches-returns-then-kind-eq7 t c = branches_failed c.loop.invariant (omega arith) (end_gives c.field_end-then.ensures) (end_gives c.field_end-next.ensures) c.constant-when.ensures (equal_both c.equal-test.ensures) (sym c.kind.ensures ∙ c.if-kind-eq7.true)
+pub constant_branches-returns-in-Failed : goal.constant_branches-returns-in-Failed
+constant_branches-returns-in-Failed t c = branches_failed c.loop.invariant (omega arith) (end_gives c.field_end-then.ensures) (end_gives c.field_end-next.ensures) c.constant-when.ensures (equal_both c.equal-test.ensures) (ap kind_of c.in-Failed.is)
 
 pub constant_branches-returns-then-passed : goal.constant_branches-returns-then-passed
-constant_branches-returns-then-passed t c = branches_then c.loop.invariant (omega arith) (end_gives c.field_end-then.ensures) (end_gives c.field_end-next.ensures) c.constant-when.ensures (equal_both c.equal-test.ensures) c.may_pass-passed.ensures c.if-passed.true (λ p. c.if-kind-eq7.false (c.kind.ensures ∙ p)) c.constant.ensures
+constant_branches-returns-then-passed t c = branches_then c.loop.invariant (omega arith) (end_gives c.field_end-then.ensures) (end_gives c.field_end-next.ensures) c.constant-when.ensures (equal_both c.equal-test.ensures) c.may_pass-passed.ensures c.if-passed.true (fit_value c.equal-test.result (search rules)) c.constant.ensures
 
 pub constant_branches-loop-preserved : goal.constant_branches-loop-preserved
 constant_branches-loop-preserved t c = branches_next c.loop.invariant (omega arith) (end_gives c.field_end-then.ensures) (end_gives c.field_end-next.ensures) c.constant-when.ensures (equal_both c.equal-test.ensures) (omega arith) c.may_pass-passed.ensures c.if-passed.false
@@ -71,11 +73,11 @@ constant_node-returns-in_default t c = within_column (omega arith)
 pub constant_node-returns-in_default-2 : goal.constant_node-returns-in_default-2
 constant_node-returns-in_default-2 t c = within_none (omega arith)
 
-pub constant_with-returns-then-k-eq7 : goal.constant_with-returns-then-k-eq7
-constant_with-returns-then-k-eq7 t c = with_failed (sym c.kind-k.ensures ∙ c.if-k-eq7.true)
+pub constant_with-returns-in-Failed : goal.constant_with-returns-in-Failed
+constant_with-returns-in-Failed t c = with_failed (ap kind_of c.in-Failed.is)
 
-pub constant_with-returns-then-k-eq0 : goal.constant_with-returns-then-k-eq0
-constant_with-returns-then-k-eq0 t c = with_null (sym c.kind-k.ensures ∙ c.if-k-eq0.true) (behind_gives c.behind_fields-place.ensures) c.constant_else.ensures
+pub constant_with-returns-in-Null : goal.constant_with-returns-in-Null
+constant_with-returns-in-Null t c = with_null (ap kind_of c.in-Null.is) (behind_gives c.behind_fields-place.ensures) c.constant_else.ensures
 
-pub constant_with-returns : goal.constant_with-returns
-constant_with-returns t c = with_value (λ p. c.if-k-eq0.false (c.kind-k.ensures ∙ p)) (λ p. c.if-k-eq7.false (c.kind-k.ensures ∙ p)) c.constant_branches.ensures
+pub constant_with-returns-in_default : goal.constant_with-returns-in_default
+constant_with-returns-in_default t c = let fits = some_value c.args.base (search rules) in with_value fits.0 fits.1 c.constant_branches.ensures

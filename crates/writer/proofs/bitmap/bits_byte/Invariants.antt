@@ -6,4 +6,4 @@ use Rattle.writer.proofs.RowBitLaws.{BitsSoFar}
 use Rattle.writer.proofs.bitmap.bits_byte.Given as goal
 
 abbrev pub invariant-loop-k : goal.invariant-loop-k
-invariant-loop-k l = BitsSoFar (flag_at l.truth (slot_at l.work) l.rows) (8 * l.j) l.k l.n
+invariant-loop-k l = BitsSoFar (flag_at l.truth (slot_at l.rows.work.now) l.rows.count) (8 * l.j) l.k l.n

@@ -4,4 +4,4 @@ use Rattle.writer.proofs.RowCountLaws.{BitsPut}
 use Rattle.writer.proofs.bitmap.put_bits.Given as goal
 
 abbrev pub invariant-loop-j : goal.invariant-loop-j
-invariant-loop-j l = BitsPut l.truth (slot_at l.work) l.rows l.initial.output l.at l.j l.p l.set l.output
+invariant-loop-j l = BitsPut l.truth (slot_at l.rows.work.now) l.rows.count l.initial.output l.at l.j l.p l.set l.output

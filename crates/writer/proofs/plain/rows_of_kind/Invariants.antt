@@ -3,4 +3,4 @@ use Rattle.writer.proofs.PlainLaws.{AllSoFar}
 use Rattle.writer.proofs.plain.rows_of_kind.Given as goal
 
 abbrev pub invariant-loop-i : goal.invariant-loop-i
-invariant-loop-i l = AllSoFar l.work l.k l.rows l.i
+invariant-loop-i l = AllSoFar l.rows.work.now l.k l.rows.count l.i

@@ -4,4 +4,4 @@ use Rattle.writer.proofs.RowTextLaws.{OffsetsSoFar}
 use Rattle.writer.proofs.texts.put_offsets.Given as goal
 
 abbrev pub invariant-loop-i : goal.invariant-loop-i
-invariant-loop-i l = OffsetsSoFar l.rule l.table (slot_at l.work) l.initial.output l.at l.rows l.i l.sum l.p l.output
+invariant-loop-i l = OffsetsSoFar l.rows.rule.now l.rows.table.now (slot_at l.rows.work.now) l.initial.output l.at l.rows.count l.i l.sum l.p l.output

@@ -5,4 +5,4 @@ use Rattle.writer.proofs.WroteLaws.{SoFar}
 use Rattle.writer.proofs.texts.put_texts.Given as goal
 
 abbrev pub invariant-loop-i : goal.invariant-loop-i
-invariant-loop-i l = SoFar (row_text l.rule l.table (slot_at l.work)) l.initial.output l.at l.rows l.i l.p l.output
+invariant-loop-i l = SoFar (row_text l.rows.rule.now l.rows.table.now (slot_at l.rows.work.now)) l.initial.output l.at l.rows.count l.i l.p l.output

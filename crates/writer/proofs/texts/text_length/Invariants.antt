@@ -5,4 +5,4 @@ use Rattle.writer.proofs.RowTextLaws.{LengthSoFar}
 use Rattle.writer.proofs.texts.text_length.Given as goal
 
 abbrev pub invariant-loop-i : goal.invariant-loop-i
-invariant-loop-i l = LengthSoFar (row_text l.rule l.table (slot_at l.work)) l.rows l.i l.sum
+invariant-loop-i l = LengthSoFar (row_text l.rows.rule.now l.rows.table.now (slot_at l.rows.work.now)) l.rows.count l.i l.sum

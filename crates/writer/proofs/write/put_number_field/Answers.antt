@@ -11,10 +11,10 @@ use Rattle.writer.proofs.write.put_number_field.Goals as goal
 
 pub put_numbers-requires-clause-room : goal.put_numbers-requires-clause-room
 put_numbers-requires-clause-room c =
-    let v = slot_at c.args.work.now in
-    omega (arith, content_room c.args.size c.args.size (row_bytes (row_numbers c.args.wide v) c.args.rows) c.put_header-p.ensures (sym c.requires.1) c.requires.3, numbers_size c.args.wide v c.args.rows)
+    let v = slot_at c.args.rows.now.work.now in
+    omega (arith, content_room c.args.size c.args.size (row_bytes (row_numbers c.args.wide v) c.args.rows.now.count) c.put_header-p.ensures (sym c.requires.0) c.requires.2, numbers_size c.args.wide v c.args.rows.now.count)
 
 pub returns : goal.returns
 returns c =
-    let put = c.put_numbers.ensures (λ (i : ℕ). number_of (slot_at c.args.work.now i)) (record { numbers_are = λ i r h p. search rules }) in
-    wrote_field c.requires.1 c.put_header-p.ensures put
+    let put = c.put_numbers.ensures (λ (i : ℕ). number_of (slot_at c.args.rows.now.work.now i)) (record { numbers_are = λ i r h p. search rules }) in
+    wrote_field c.requires.0 c.put_header-p.ensures put

@@ -8,10 +8,10 @@ use Rattle.writer.proofs.ColumnPutLaws.{validity_some, validity_none}
 use Rattle.writer.proofs.write.put_validity.Goals as goal
 
 pub overflow_sub-result : goal.overflow_sub-result
-overflow_sub-result c = omega (arith, c.put_bit_field.ensures.counted, count_le (λ i. flag_of false (slot_at c.args.work.now i)) c.args.rows)
+overflow_sub-result c = omega (arith, c.put_bit_field.ensures.counted, count_le (λ i. flag_of false (slot_at c.args.rows.now.work.now i)) c.args.rows.now.count)
 
 pub returns-then-null : goal.returns-then-null
-returns-then-null c = validity_some c.args.null (slot_at c.args.work.now) c.args.rows c.if-null.true c.put_bit_field.ensures
+returns-then-null c = validity_some c.args.null (slot_at c.args.rows.now.work.now) c.args.rows.now.count c.if-null.true c.put_bit_field.ensures
 
 pub returns : goal.returns
-returns c = validity_none c.args.null (slot_at c.args.work.now) c.args.rows c.if-null.false c.requires.1 c.put_header-end.ensures
+returns c = validity_none c.args.null (slot_at c.args.rows.now.work.now) c.args.rows.now.count c.if-null.false c.requires.0 c.put_header-end.ensures

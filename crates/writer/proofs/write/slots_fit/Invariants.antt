@@ -4,4 +4,4 @@ use Rattle.writer.proofs.FitLaws.{EachSoFar}
 use Rattle.writer.proofs.write.slots_fit.Given as goal
 
 abbrev pub invariant-loop-i : goal.invariant-loop-i
-invariant-loop-i l = EachSoFar (slot_fits l.code l.work) l.rows l.i
+invariant-loop-i l = EachSoFar (slot_fits l.code l.rows.work.now) l.rows.count l.i

@@ -6,4 +6,4 @@ use Rattle.writer.proofs.RowKindLaws.{NoneSoFar}
 use Rattle.writer.proofs.write.some_of_kind.Given as goal
 
 abbrev pub invariant-loop-i : goal.invariant-loop-i
-invariant-loop-i l = NoneSoFar (λ r. eqb (kind_of (slot_at l.work r)) l.k) l.rows l.i
+invariant-loop-i l = NoneSoFar (λ r. eqb (kind_of (slot_at l.rows.work.now r)) l.k) l.rows.count l.i
