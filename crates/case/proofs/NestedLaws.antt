@@ -19,7 +19,7 @@ use Rattle.case.specs.Taking.{Picked, HasIndex}
 use Rattle.case.specs.LookUpTables.{value_at}
 use Rattle.case.specs.Evaluation.{Framed, row_in, result_at, indexed}
 use Rattle.case.specs.Results.{ResultsRead}
-use Rattle.case.specs.Classes.{CaseTree, CaseIndex, CaseValues, all_of_kind, Arrays, Grown, BlockCopied, BlockRead, NestedResults, Numbered, ClassRight, CaseClassed, WantedRows, ThenClassed, ThensAsk, ResultClass, ThensClassed}
+use Rattle.case.specs.Classes.{CaseTree, CaseIndex, CaseValues, all_of_kind, Grown, BlockCopied, BlockRead, NestedResults, Numbered, ClassRight, CaseClassed, WantedRows, ThenClassed, ThensAsk, ResultClass, ThensClassed}
 use Rattle.case.proofs.FrameLaws.{SameRows, kept_rows, listed_to, listed_from, framed_kept, lent, lent_rows}
 use Rattle.case.proofs.BranchLaws.{branch_at, branch_stands, behind_none, behind_two}
 
@@ -58,9 +58,9 @@ kind_at kinds k from (suc n) all j h = go (eqb (get_or kinds (from + suc n) 0) k
 
 -- ---- the literals of a block
 
--- arrays that nothing was put into
-pub grown_none : {from : ℕ} {kinds payloads : List ℕ} → Arrays kinds payloads → Grown from kinds payloads kinds payloads
-grown_none a = record { arrays = a; kinds_same = λ c h. refl; payloads_same = λ c h. refl }
+-- those that nothing was put behind
+pub grown_none : {from : ℕ} {kinds payloads : List ℕ} → Grown from kinds payloads kinds payloads
+grown_none = record { kinds_same = λ c h. refl; payloads_same = λ c h. refl }
 
 -- the literals that were read, behind a class
 pub block_read : {rule : List ℕ} {at end count : ℕ} {to : DataType} {from : ℕ} {block-kinds block-payloads kinds payloads kinds' payloads' : List ℕ}
@@ -244,20 +244,20 @@ classed_none a = record {
   classes_long_lem = a.classes_long_lem;
   used_from = omega arith;
   used_to = (let f = a.few in omega arith);
-  grown = grown_none a.arrays;
+  grown = grown_none;
   done = λ q l h. absurd (let p = (a.each q l).0 in omega arith);
   left = λ q l h. refl;
 }
 
--- the lengths, whatever was done
+-- the length, whatever was done
 pub then_long : {rule : List ℕ} {start end : ℕ} {table : List ℕ} {t : Table} {code : ℕ} {w : List ℕ} {n class from : ℕ} {classes kinds payloads : List ℕ} {used : ℕ} {w' classes' kinds' payloads' : List ℕ}
-    → ThenClassed rule start end table t code w n class from classes kinds payloads used w' classes' kinds' payloads' → length classes ≡ 512 → Arrays kinds payloads
-    → (length classes' ≡ 512) × Arrays kinds' payloads'
-then_long {code = code} {class = class} {kinds = kinds} {classes' = classes'} {kinds'} {payloads'} s long arrays = go (ℕ_discrete (get_or kinds class 0) code)
+    → ThenClassed rule start end table t code w n class from classes kinds payloads used w' classes' kinds' payloads' → length classes ≡ 512
+    → length classes' ≡ 512
+then_long {code = code} {class = class} {kinds = kinds} {classes' = classes'} {kinds'} {payloads'} s long = go (ℕ_discrete (get_or kinds class 0) code)
   where
-    go : Dec (get_or kinds class 0 ≡ code) → (length classes' ≡ 512) × Arrays kinds' payloads'
-    go (yes e) = let (u, a, b, c) = s.same e in (ap length a ∙ long, (ap length b ∙ arrays.0, ap length c ∙ arrays.1))
-    go (no e) = ((s.found e).classes_long_lem, (s.found e).grown.arrays)
+    go : Dec (get_or kinds class 0 ≡ code) → length classes' ≡ 512
+    go (yes e) = let (u, a, b, c) = s.same e in ap length a ∙ long
+    go (no e) = (s.found e).classes_long_lem
 
 -- a class that has the literal of its result from before
 result_kept : {rule : List ℕ} {at : ℕ} {table : List ℕ} {t : Table} {code count : ℕ} {kinds payloads kinds' payloads' : List ℕ} {q : ℕ} (j : ℕ) → count ≤ 255 → 1 ≤ j → j ≤ count + 1
@@ -288,7 +288,6 @@ module _ {rule : List ℕ} {at : ℕ} {table : List ℕ} {t : Table} {code count
     long = s.long;
     low = s.low;
     classes_long_lem = s.classes_long_lem;
-    arrays = s.grown.arrays;
     here = λ h q l. go q l (dec_lt (get_or classes q 0) k);
   }
     where
@@ -304,16 +303,15 @@ module _ {rule : List ℕ} {at : ℕ} {table : List ℕ} {t : Table} {code count
 
   -- the THEN of the class k is done
   module _ {then next used' : ℕ} {w₂ classes₂ kinds₂ payloads₂ : List ℕ} (d : ThenClassed rule then next table t code w₁ n k used classes₁ kinds₁ payloads₁ used' w₂ classes₂ kinds₂ payloads₂) where
-    pub then_longs : (length classes₂ ≡ 512) × Arrays kinds₂ payloads₂
-    then_longs = then_long d s.classes_long_lem s.grown.arrays
+    pub then_longs : length classes₂ ≡ 512
+    then_longs = then_long d s.classes_long_lem
 
     -- where no classes were found
     pub classed_not : ThensClassed rule at table t code count w n classes kinds payloads false w₂ classes₂ kinds₂ payloads₂
     classed_not = record {
       long = d.long ∙ s.long;
       low = λ j h. d.low j h ∙ s.low j h;
-      classes_long_lem = then_longs.0;
-      arrays = then_longs.1;
+      classes_long_lem = then_longs;
       here = λ h. absurd (false≢true h);
     }
 
@@ -341,7 +339,6 @@ module _ {rule : List ℕ} {at : ℕ} {table : List ℕ} {t : Table} {code count
                 onward = omega arith;
                 few = (let f = s.used_to in omega arith);
                 grown = record {
-                  arrays = then_longs.1;
                   kinds_same = λ i h. ap (λ (x : List ℕ). get_or x i 0) b;
                   payloads_same = λ i h. ap (λ (x : List ℕ). get_or x i 0) c;
                 };
@@ -409,11 +406,10 @@ module _ {rule : List ℕ} {at : ℕ} {table : List ℕ} {t : Table} {code count
         behind = behind_two (2 * (k - 1)) (2 * (k + 1 - 1)) (let f = s.first in omega arith) s.behind to-then to-next;
         long = d.long ∙ s.long;
         low = λ j h. d.low j h ∙ s.low j h;
-        classes_long_lem = then_longs.0;
+        classes_long_lem = then_longs;
         used_from = (let a = s.used_from in let b = stepped.onward in omega arith);
         used_to = stepped.few;
         grown = record {
-          arrays = then_longs.1;
           kinds_same = λ c h. stepped.grown.kinds_same c (let f = s.used_from in omega arith) ∙ s.grown.kinds_same c h;
           payloads_same = λ c h. stepped.grown.payloads_same c (let f = s.used_from in omega arith) ∙ s.grown.payloads_same c h;
         };
