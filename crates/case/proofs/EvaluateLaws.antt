@@ -22,7 +22,7 @@ use Rattle.table.specs.Places.{table_in, table_from, table_answer, TableRead}
 use Rattle.table.specs.Reading.{read_table}
 use Rattle.table.proofs.TableInversions.{table_inv, table_few}
 use Rattle.table.proofs.RefusalLaws.{table_early}
-use Rattle.std.specs.Prelude.{Result as RustResult, Ok, Err}
+use Rattle.std.specs.Prelude.{Option, Some, Result as RustResult, Ok, Err}
 use Rattle.layout.specs.declared.refusal.Refusal.{Refusal}
 use Rattle.layout.specs.declared.refusal.Refusal.TheVariants.{Fit, WorkSize}
 use Rattle.layout.specs.Refusals.{refusal_numbered}
@@ -41,6 +41,7 @@ use Rattle.case.specs.Promise.{call_run, Evaluated}
 use Rattle.case.specs.Frame.{slot_at, AllRows}
 use Rattle.case.specs.Evaluation.{Framed, Done, ExprRight}
 use Rattle.case.specs.Readings.{ReadAsks, RowsRight, RowsOfType, AnswerAsks, AnswerGives}
+use Rattle.case.specs.declared.results.Results.{Results}
 use Rattle.case.specs.Classes.{RootAsks, ClassesGive}
 use Rattle.case.proofs.RunLaws.{run_is, run_rows, entries_refused}
 use Rattle.case.proofs.RowsTyped.{run_sound}
@@ -87,22 +88,23 @@ module _ {rule table : List ℕ} {t : Places} {result : DataType} {w w₁ : List
   pub root_asks : RootAsks t w₁ table
   root_asks = record { few = asks.few; room = (let l = all.long in let r = asks.room in omega arith); short = asks.table_short; rows_are = all.rows_are }
 
-  module _ {found : Bool} {w₂ classes kinds payloads : List ℕ} (c : ClassesGive rule table t result w₁ found w₂ classes kinds payloads) where
-    -- the rows' classes are a column
-    pub classes_column : {run : Result (List ℕ)} {output output' : List ℕ} {a : RustResult ℕ WriteError} → found ≡ true → ColumnGives (classed t.rows result classes payloads) run output a output' → a ≡ Err NoColumn → ⊥
-    classes_column is wrote = column_said (asks_classed t.rows classes payloads (c.asks is)) wrote
+  -- the rows by their classes
+  module _ {rs : Results} {w₂ classes : List ℕ} (c : ClassesGive rule table t result w₁ (Some rs) w₂ classes) (full : length rs.payloads ≡ 258) where
+    -- they are a column
+    pub classes_column : {run : Result (List ℕ)} {output output' : List ℕ} {a : RustResult ℕ WriteError} → ColumnGives (classed t.rows result classes rs.payloads) run output a output' → a ≡ Err NoColumn → ⊥
+    classes_column wrote = column_said (asks_classed t.rows classes rs.payloads (c.asks full)) wrote
 
-    -- the rows by their classes
-    pub by_classes : {n : Bool} {output output' : List ℕ} {a : RustResult ℕ WriteError} {r : RustResult ℕ Refusal} → found ≡ true
-        → ((rule table : List ℕ) → ColumnGives (classed t.rows result classes payloads) (rows_run rule table (class_value result classes payloads) t.rows result n (length output)) output a output') → a ≡ said r
+    pub by_classes : {n : Bool} {output output' : List ℕ} {a : RustResult ℕ WriteError} {r : RustResult ℕ Refusal}
+        → ((rule table : List ℕ) → ColumnGives (classed t.rows result classes rs.payloads) (rows_run rule table (class_value result classes rs.payloads) t.rows result n (length output)) output a output') → a ≡ said r
         → AnswerGives rule table t result n w output r w₂ output'
-    by_classes {r = r} is wrote run = record {
+    by_classes {r = r} wrote run = record {
       long = c.long ∙ all.long;
-      value = class_value result classes payloads;
-      right = c.right is;
-      wrote = gives_rows r (asks_classed t.rows classes payloads (c.asks is)) (wrote rule table) run;
+      value = class_value result classes rs.payloads;
+      right = c.right;
+      wrote = gives_rows r (asks_classed t.rows classes rs.payloads (c.asks full)) (wrote rule table) run;
     }
 
+  module _ {found : Option Results} {w₂ classes : List ℕ} (c : ClassesGive rule table t result w₁ found w₂ classes) where
     -- the list is still there
     kept_list : Kept 1024 w₁ w₂
     kept_list j h = c.low j (omega arith)

@@ -19,7 +19,7 @@ use Rattle.case.specs.Taking.{Picked, HasIndex}
 use Rattle.case.specs.LookUpTables.{value_at}
 use Rattle.case.specs.Evaluation.{Framed, row_in, result_at, indexed}
 use Rattle.case.specs.Results.{ResultsRead}
-use Rattle.case.specs.Classes.{CaseTree, CaseIndex, CaseValues, all_of_kind, Arrays, Grown, BlockCopied, BlockRead, NestedResults, Numbered, ClassRight, CaseClassed, WantedRows, ThenClassed, ThensAsk, ResultClass, ThensClassed}
+use Rattle.case.specs.Classes.{CaseTree, CaseIndex, CaseValues, all_of_kind, Grown, BlockCopied, BlockRead, NestedResults, Numbered, ClassRight, CaseClassed, WantedRows, ThenClassed, ThensAsk, ResultClass, ThensClassed}
 use Rattle.case.proofs.FrameLaws.{SameRows, kept_rows, listed_to, listed_from, framed_kept, lent, lent_rows}
 use Rattle.case.proofs.BranchLaws.{branch_at, branch_stands, behind_none, behind_two}
 
@@ -58,9 +58,9 @@ kind_at kinds k from (suc n) all j h = go (eqb (get_or kinds (from + suc n) 0) k
 
 -- ---- the literals of a block
 
--- arrays that nothing was put into
-pub grown_none : {from : ℕ} {kinds payloads : List ℕ} → Arrays kinds payloads → Grown from kinds payloads kinds payloads
-grown_none a = record { arrays = a; kinds_same = λ c h. refl; payloads_same = λ c h. refl }
+-- those that nothing was put behind
+pub grown_none : {from : ℕ} {kinds payloads : List ℕ} → Grown from kinds payloads kinds payloads
+grown_none = record { kinds_same = λ c h. refl; payloads_same = λ c h. refl }
 
 -- the literals that were read, behind a class
 pub block_read : {rule : List ℕ} {at end count : ℕ} {to : DataType} {from : ℕ} {block-kinds block-payloads kinds payloads kinds' payloads' : List ℕ}
@@ -238,20 +238,10 @@ classed_none a = record {
   low = λ j h. refl;
   used_from = omega arith;
   used_to = (let f = a.few in omega arith);
-  grown = grown_none a.arrays;
+  grown = grown_none;
   done = λ q l h. absurd (let p = (a.each q l).0 in omega arith);
   left = λ q l h. refl;
 }
-
--- the room of the literals, whatever was done
-then_arrays : {rule : List ℕ} {start end : ℕ} {table : List ℕ} {t : Table} {code : ℕ} {w : List ℕ} {n class from : ℕ} {classes kinds payloads : List ℕ} {used : ℕ} {w' classes' kinds' payloads' : List ℕ}
-    → ThenClassed rule start end table t code w n class from classes kinds payloads used w' classes' kinds' payloads' → Arrays kinds payloads
-    → Arrays kinds' payloads'
-then_arrays {code = code} {class = class} {kinds = kinds} {kinds' = kinds'} {payloads'} s arrays = go (ℕ_discrete (get_or kinds class 0) code)
-  where
-    go : Dec (get_or kinds class 0 ≡ code) → Arrays kinds' payloads'
-    go (yes e) = let (u, a, b, c) = s.same e in (ap length b ∙ arrays.0, ap length c ∙ arrays.1)
-    go (no e) = (s.found e).grown.arrays
 
 -- a class that has the literal of its result from before
 result_kept : {rule : List ℕ} {at : ℕ} {table : List ℕ} {t : Table} {code count : ℕ} {kinds payloads kinds' payloads' : List ℕ} {q : ℕ} (j : ℕ) → count ≤ 255 → 1 ≤ j → j ≤ count + 1
@@ -281,7 +271,6 @@ module _ {rule : List ℕ} {at : ℕ} {table : List ℕ} {t : Table} {code count
   classed_all all = record {
     long = s.long;
     low = s.low;
-    arrays = s.grown.arrays;
     here = λ h q l. go q l (dec_lt (get_or classes q 0) k);
   }
     where
@@ -297,15 +286,11 @@ module _ {rule : List ℕ} {at : ℕ} {table : List ℕ} {t : Table} {code count
 
   -- the THEN of the class k is done
   module _ {then next used' : ℕ} {w₂ classes₂ kinds₂ payloads₂ : List ℕ} (d : ThenClassed rule then next table t code w₁ n k used classes₁ kinds₁ payloads₁ used' w₂ classes₂ kinds₂ payloads₂) where
-    arrays_kept : Arrays kinds₂ payloads₂
-    arrays_kept = then_arrays d s.grown.arrays
-
     -- where no classes were found
     pub classed_not : ThensClassed rule at table t code count w n classes kinds payloads false w₂ classes₂ kinds₂ payloads₂
     classed_not = record {
       long = d.long ∙ s.long;
       low = λ j h. d.low j h ∙ s.low j h;
-      arrays = arrays_kept;
       here = λ h. absurd (false≢true h);
     }
 
@@ -333,7 +318,6 @@ module _ {rule : List ℕ} {at : ℕ} {table : List ℕ} {t : Table} {code count
                 onward = omega arith;
                 few = (let f = s.used_to in omega arith);
                 grown = record {
-                  arrays = arrays_kept;
                   kinds_same = λ i h. ap (λ (x : List ℕ). get_or x i 0) b;
                   payloads_same = λ i h. ap (λ (x : List ℕ). get_or x i 0) c;
                 };
@@ -401,10 +385,9 @@ module _ {rule : List ℕ} {at : ℕ} {table : List ℕ} {t : Table} {code count
         behind = behind_two (2 * (k - 1)) (2 * (k + 1 - 1)) (let f = s.first in omega arith) s.behind to-then to-next;
         long = d.long ∙ s.long;
         low = λ j h. d.low j h ∙ s.low j h;
-        used_from = (let a = s.used_from in let b = stepped.onward in omega arith);
+          used_from = (let a = s.used_from in let b = stepped.onward in omega arith);
         used_to = stepped.few;
         grown = record {
-          arrays = arrays_kept;
           kinds_same = λ c h. stepped.grown.kinds_same c (let f = s.used_from in omega arith) ∙ s.grown.kinds_same c h;
           payloads_same = λ c h. stepped.grown.payloads_same c (let f = s.used_from in omega arith) ∙ s.grown.payloads_same c h;
         };

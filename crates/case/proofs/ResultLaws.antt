@@ -23,7 +23,7 @@ use Rattle.case.specs.Results.{else_known, result_known, index_known, StartRight
 use Rattle.case.proofs.CaseLaws.{is_literal_lem, result_else, result_failed}
 use Rattle.case.proofs.RowsLaws.{filled_as}
 use Rattle.case.proofs.RowsLaws.{FilledSoFar, next}
-use Rattle.case.proofs.BranchLaws.{BranchAt, branch_at, branch_stands, behind_two, known_then, known_else}
+use Rattle.case.proofs.BranchLaws.{BranchAt, branch_at, branch_stands, behind_none, behind_two, known_then, known_else}
 
 -- ---- what is known without the row
 
@@ -67,6 +67,22 @@ pub record ThensSoFar (rule : List ℕ) (at count : ℕ) (kinds payloads : List 
   pub few : k ≤ count + 1
   pub small : count ≤ 255
   pub read : ThensRead rule at count (k - 1) kinds payloads place
+
+-- nothing is read yet
+pub thens_none : {rule : List ℕ} {at count : ℕ} {kinds payloads : List ℕ} → count ≤ 255 → length kinds ≡ 258 → length payloads ≡ 258 → ((i : ℕ) → get_or kinds i 0 ≡ 0) → ThensSoFar rule at count kinds payloads at 1
+thens_none small a b zeros = record {
+  first = omega arith;
+  few = omega arith;
+  small = small;
+  read = record {
+    kinds_long = a;
+    payloads_long = b;
+    null_first = zeros 0;
+    unread = λ j h. zeros j;
+    behind = behind_none (2 * (1 - 1)) refl;
+    held = λ bs els rest end depth row o table trees n j h. absurd (omega arith);
+  };
+}
 
 module _ {rule : List ℕ} {at count : ℕ} {kinds payloads : List ℕ} {place k : ℕ} (s : ThensSoFar rule at count kinds payloads place k) where
   module _ (more : k ≤ count) where

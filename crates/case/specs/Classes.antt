@@ -11,6 +11,7 @@ use Rattle.rule.specs.Node.{NodeAt}
 use Rattle.rule.specs.Walks.{branch_trees, optional_trees, TreesAt, EndGives, TypeGives}
 use Rattle.table.specs.declared.places.Table.{Table}
 use Rattle.writer.specs.Write.{class_value, ClassesAsk}
+use Rattle.case.specs.declared.results.Results.{Results}
 use Rattle.case.specs.Frame.{row_at, Listed}
 use Rattle.case.specs.LookUpTables.{value_at}
 use Rattle.case.specs.Evaluation.{row_in, result_at, indexed}
@@ -26,14 +27,12 @@ pub record RootAsks (t : Table) (w table : List ℕ) : Type 0 where
   pub short : length table ≤ 65536
   pub rows_are : (i : ℕ) → i < t.rows → row_at w 0 i ≡ i
 
--- the literals among the root CASE's results, ELSE's of a kind, and where its branches stand; place 0 is none
-pub record RootResults (rule : List ℕ) (code place : ℕ) (kinds payloads : List ℕ) : Type 0 where
-  pub kinds_long : length kinds ≡ 258
-  pub payloads_long : length payloads ≡ 258
+-- the literals among the root CASE's results, ELSE's of a kind, and where its branches stand
+pub record RootRead (rule : List ℕ) (code place : ℕ) (kinds payloads : List ℕ) : Type 0 where
   pub type : DataType
   pub type_is : TypeGives rule 0 type
-  pub read : (place ≢ 0) → ResultsRead rule place (length rule) (byte rule 4) type kinds payloads
-  pub else_kind : (place ≢ 0) → slice_index kinds (byte rule 4 + 1) ≡ code
+  pub read : ResultsRead rule place (length rule) (byte rule 4) type kinds payloads
+  pub else_kind : slice_index kinds (byte rule 4 + 1) ≡ code
 
 -- the branches and ELSE of a CASE, which stand at a place, and the outcome of a row by an index of them
 pub record CaseTree (rule : List ℕ) (start end : ℕ) (table : List ℕ) (t : Table) (place depth q c : ℕ) (e : Expr) : Type 0 where
@@ -63,18 +62,13 @@ pub record CaseKeys (rule : List ℕ) (at end count : ℕ) (table : List ℕ) (t
 
 -- ---- the literals of the classes
 
--- room for kinds and payloads
-abbrev pub Arrays : List ℕ → List ℕ → Type 0
-Arrays kinds payloads = (length kinds ≡ 258) × (length payloads ≡ 258)
-
 -- so many classes behind a class are all of a kind
 unfoldable pub all_of_kind : List ℕ → ℕ → ℕ → ℕ → Bool
 all_of_kind kinds k from zero = true
 all_of_kind kinds k from (suc n) = cond (slice_index kinds (from + suc n) == k) (all_of_kind kinds k from n) false
 
--- the arrays go on: what they have up to a class is unchanged
+-- the literals go on: what they have up to a class is unchanged
 pub record Grown (from : ℕ) (kinds payloads kinds' payloads' : List ℕ) : Type 0 where
-  pub arrays : Arrays kinds' payloads'
   pub kinds_same : (c : ℕ) → c ≤ from → slice_index kinds' c ≡ slice_index kinds c
   pub payloads_same : (c : ℕ) → c ≤ from → slice_index payloads' c ≡ slice_index payloads c
 
@@ -138,7 +132,6 @@ pub record ThenClassed (rule : List ℕ) (start end : ℕ) (table : List ℕ) (t
 
 -- what the THENs of the root CASE ask: each listed row has the class of a result, from 1, and that of ELSE is of the kind
 pub record ThensAsk (code count : ℕ) (w : List ℕ) (n : ℕ) (classes kinds payloads : List ℕ) : Type 0 where
-  pub arrays : Arrays kinds payloads
   pub some_kind : 0 < code
   pub few : count ≤ 255
   pub each : (q : ℕ) → Listed w 0 n q → (0 < slice_index classes q) × (slice_index classes q ≤ count + 1)
@@ -156,14 +149,11 @@ pub record ResultClass (rule : List ℕ) (at : ℕ) (table : List ℕ) (t : Tabl
 pub record ThensClassed (rule : List ℕ) (at : ℕ) (table : List ℕ) (t : Table) (code count : ℕ) (w : List ℕ) (n : ℕ) (classes kinds payloads : List ℕ) (found : Bool) (w' classes' kinds' payloads' : List ℕ) : Type 0 where
   pub long : length w' ≡ length w
   pub low : (j : ℕ) → j < 6656 → byte w' j ≡ byte w j
-  pub arrays : Arrays kinds' payloads'
   pub here : found ≡ true → (q : ℕ) → Listed w 0 n q → ResultClass rule at table t code count kinds payloads kinds' payloads' q (slice_index classes q) (slice_index classes' q)
 
--- the classes are numbers of the type, and mean the rule's outcomes, where they are found
-pub record ClassesGive (rule table : List ℕ) (t : Table) (result : DataType) (w : List ℕ) (found : Bool) (w' classes kinds payloads : List ℕ) : Type 0 where
+-- the classes are numbers of the type, and mean the rule's outcomes, where they are found; how many payloads there are, the array's type says
+pub record ClassesGive (rule table : List ℕ) (t : Table) (result : DataType) (w : List ℕ) (found : Option Results) (w' classes : List ℕ) : Type 0 where
   pub long : length w' ≡ length w
   pub low : (j : ℕ) → j < 6656 → byte w' j ≡ byte w j
-  pub kinds_long : length kinds ≡ 258
-  pub payloads_long : length payloads ≡ 258
-  pub asks : found ≡ true → ClassesAsk t.rows result classes payloads
-  pub right : found ≡ true → RowsRight rule table t (class_value result classes payloads)
+  pub asks : IfSome found (λ r. length r.payloads ≡ 258 → ClassesAsk t.rows result classes r.payloads)
+  pub right : IfSome found (λ r. RowsRight rule table t (class_value result classes r.payloads))

@@ -41,13 +41,6 @@ pub record StartRight (rule : List ℕ) (at end count : ℕ) (to : DataType) (va
 abbrev pub Held : Bool → ℕ → Type 0
 Held known kind = (known ≡ true) ⊎ (kind ≢ 0)
 
--- what the reading asks: room, and nothing in it
-pub record EmptyArrays (count : ℕ) (kinds payloads : List ℕ) : Type 0 where
-  pub kinds_long : length kinds ≡ 258
-  pub payloads_long : length payloads ≡ 258
-  pub few : count ≤ 255
-  pub empty : (i : ℕ) → slice_index kinds i ≡ 0
-
 -- the literals among the first i of so many THENs at a place, and where what is behind those stands
 pub record ThensRead (rule : List ℕ) (at count i : ℕ) (kinds payloads : List ℕ) (place : ℕ) : Type 0 where
   pub kinds_long : length kinds ≡ 258

@@ -78,19 +78,8 @@ fn answer_rows(
     let rows = t.rows;
     all_rows(work, rows);
     let mut classes = [0u16; ROWS_MOST];
-    let mut kinds = [0u8; 258];
-    let mut payloads = [0u64; 258];
-    if class_rows(
-        rule,
-        table,
-        t,
-        res,
-        work,
-        &mut classes,
-        &mut kinds,
-        &mut payloads,
-    ) {
-        return run_of(write_classes(rows, res, nullable, &classes, &payloads, output));
+    if let Some(results) = class_rows(rule, table, t, res, work, &mut classes) {
+        return run_of(write_classes(rows, res, nullable, &classes, &results.payloads, output));
     }
     expr(rule, 0, rule.len(), table, t, work, rows, 8);
     run_of(write_answer(rule, table, work, rows, res, nullable, output))

@@ -2,11 +2,11 @@
 ghost use Rattle.std.specs.Prelude.{◌≡◌, ℕ, ◌+◌, ◌*◌, ◌<◌, ◌≤◌, length, slice_index};
 ghost use Rattle.case.specs.Frame.{Rows, Listed};
 ghost use Rattle.case.specs.Evaluation.{Framed};
-ghost use Rattle.case.specs.Classes.{all_of_kind, Arrays, BlockCopied, BlockRead, NestedResults, Grown, Numbered, CaseClassed, ThenClassed, ThensAsk, ThensClassed};
+ghost use Rattle.case.specs.Classes.{all_of_kind, BlockCopied, BlockRead, NestedResults, Grown, Numbered, CaseClassed, ThenClassed, ThensAsk, ThensClassed};
 
 use crate::case_values::{CASE, branches_at, case_values};
 use crate::literal::LITERAL;
-use crate::results::read_results;
+use crate::results::Results;
 use crate::rows::{ROWS_MOST, row_at};
 use crate::taking::pick;
 use layout::number::byte_at;
@@ -18,56 +18,42 @@ use table::places::Table;
 // Room for classes.
 const CLASSES_MOST: usize = 258;
 
-// Whether so many classes behind a class are all of a kind.
-fn all_of_kind(kinds: &[u8], from: usize, count: usize, kind: u8) -> bool
-    requires { (length kinds.now ≡ 258) × (from + count < 258) }
-    ensures { result ≡ all_of_kind kinds.now kind from count }
-{
-    kinds[from + 1..from + count + 1].iter().all(|k| *k == kind)
-}
+impl Results {
+    // Whether so many classes behind a class are all of a kind.
+    fn all_of_kind(&self, from: usize, count: usize, kind: u8) -> bool
+        requires { from + count < 258 }
+        ensures { result ≡ all_of_kind self.now.kinds kind from count }
+    {
+        self.kinds[from + 1..from + count + 1]
+            .iter()
+            .all(|k| *k == kind)
+    }
 
-// The literals of so many branches and of ELSE, as the classes behind a class.
-fn copy_block(
-    from: usize,
-    count: usize,
-    block_kinds: &[u8],
-    block_payloads: &[u64],
-    kinds: &mut [u8],
-    payloads: &mut [u64],
-)
-    requires { Arrays block_kinds.now block_payloads.now × Arrays kinds.old payloads.old × (from + count + 3 ≤ 258) }
-    ensures { BlockCopied from (count + 1) block_kinds.now block_payloads.now kinds.old payloads.old kinds.new payloads.new }
-{
-    kinds[from + 1..from + count + 2].copy_from_slice(&block_kinds[1..count + 2]);
-    payloads[from + 1..from + count + 2].copy_from_slice(&block_payloads[1..count + 2]);
-}
+    // The literals of so many branches and of ELSE, as the classes behind a class.
+    fn copy_block(&mut self, from: usize, count: usize, block: &Results)
+        requires { from + count + 3 ≤ 258 }
+        ensures { BlockCopied from (count + 1) block.now.kinds block.now.payloads self.old.kinds self.old.payloads self.new.kinds self.new.payloads }
+    {
+        self.kinds[from + 1..from + count + 2].copy_from_slice(&block.kinds[1..count + 2]);
+        self.payloads[from + 1..from + count + 2].copy_from_slice(&block.payloads[1..count + 2]);
+    }
 
-// The literals of so many branches at a place and of ELSE behind them, as the classes behind a class.
-fn read_block(
-    rule: &[u8],
-    at: usize,
-    end: usize,
-    count: usize,
-    to: DataType,
-    from: usize,
-    kinds: &mut [u8],
-    payloads: &mut [u64],
-)
-    requires { Arrays kinds.old payloads.old × (from + count + 3 ≤ 258) }
-    ensures { Grown from kinds.old payloads.old kinds.new payloads.new × BlockRead rule.now at end count to from kinds.new payloads.new }
-{
-    let mut block_kinds = [0u8; 258];
-    let mut block_payloads = [0u64; 258];
-    read_results(
-        rule,
-        at,
-        end,
-        count,
-        to,
-        &mut block_kinds,
-        &mut block_payloads,
-    );
-    copy_block(from, count, &block_kinds, &block_payloads, kinds, payloads);
+    // The literals of so many branches at a place and of ELSE behind them, as the classes behind a class.
+    fn read_block(
+        &mut self,
+        rule: &[u8],
+        at: usize,
+        end: usize,
+        count: usize,
+        to: DataType,
+        from: usize,
+    )
+        requires { from + count + 3 ≤ 258 }
+        ensures { Grown from self.old.kinds self.old.payloads self.new.kinds self.new.payloads × BlockRead rule.now at end count to from self.new.kinds self.new.payloads }
+    {
+        let block = Results::read(rule, at, end, count, to);
+        self.copy_block(from, count, &block);
+    }
 }
 
 // The class of each listed row: its index behind a class.
@@ -95,11 +81,9 @@ fn nested_results(
     end: usize,
     code: u8,
     from: usize,
-    kinds: &mut [u8],
-    payloads: &mut [u64],
+    results: &mut Results,
 ) -> usize
-    requires { Arrays kinds.old payloads.old }
-    ensures { NestedResults rule.now start end code from kinds.old payloads.old result kinds.new payloads.new }
+    ensures { NestedResults rule.now start end code from results.old.kinds results.old.payloads result results.new.kinds results.new.payloads }
 {
     if rule.len() <= start {
         return 0;
@@ -112,17 +96,8 @@ fn nested_results(
         return 0;
     }
     let place = branches_at(rule, start, children_at(rule, start));
-    read_block(
-        rule,
-        place,
-        end,
-        count,
-        type_of(rule, start),
-        from,
-        kinds,
-        payloads,
-    );
-    if all_of_kind(kinds, from, count + 1, code) {
+    results.read_block(rule, place, end, count, type_of(rule, start), from);
+    if results.all_of_kind(from, count + 1, code) {
         return place;
     }
     0
@@ -140,15 +115,14 @@ fn nested_case(
     work: &[u8],
     n: usize,
     classes: &mut [u16; ROWS_MOST],
-    kinds: &mut [u8],
-    payloads: &mut [u64],
+    results: &mut Results,
     from: usize,
 ) -> usize
     requires framed { Framed table.now t work.now n 1 }
-    requires arrays { Arrays kinds.old payloads.old × (0 < code) }
-    ensures { CaseClassed (Listed work.now 0 n) rule.now start end table.now t code from classes.old kinds.old payloads.old result classes.new kinds.new payloads.new }
+    requires some { 0 < code }
+    ensures { CaseClassed (Listed work.now 0 n) rule.now start end table.now t code from classes.old results.old.kinds results.old.payloads result classes.new results.new.kinds results.new.payloads }
 {
-    let place = nested_results(rule, start, end, code, from, kinds, payloads);
+    let place = nested_results(rule, start, end, code, from, results);
     if place == 0 {
         return 0;
     }
@@ -173,15 +147,14 @@ fn nested_then(
     n: usize,
     class: usize,
     classes: &mut [u16; ROWS_MOST],
-    kinds: &mut [u8],
-    payloads: &mut [u64],
+    results: &mut Results,
     from: usize,
 ) -> usize
     requires framed { Framed table.now t work.old n 2 }
-    requires arrays { Arrays kinds.old payloads.old × (0 < code) × (class < 258) }
-    ensures { ThenClassed rule.now start end table.now t code work.old n class from classes.old kinds.old payloads.old result work.new classes.new kinds.new payloads.new }
+    requires bounds { (0 < code) × (class < 258) }
+    ensures { ThenClassed rule.now start end table.now t code work.old n class from classes.old results.old.kinds results.old.payloads result work.new classes.new results.new.kinds results.new.payloads }
 {
-    if kinds[class] == code {
+    if results.kinds[class] == code {
         return from;
     }
     let m = pick(work, n, classes, class as u16);
@@ -195,8 +168,7 @@ fn nested_then(
         &work[6656..],
         m,
         classes,
-        kinds,
-        payloads,
+        results,
         from,
     )
 }
@@ -212,12 +184,11 @@ pub(crate) fn nested_thens(
     work: &mut [u8],
     n: usize,
     classes: &mut [u16; ROWS_MOST],
-    kinds: &mut [u8],
-    payloads: &mut [u64],
+    results: &mut Results,
 ) -> bool
     requires framed { Framed table.now t work.old n 2 }
-    requires thens_ask { ThensAsk code count work.old n classes.old kinds.old payloads.old }
-    ensures { ThensClassed rule.now at table.now t code count work.old n classes.old kinds.old payloads.old result work.new classes.new kinds.new payloads.new }
+    requires thens_ask { ThensAsk code count work.old n classes.old results.old.kinds results.old.payloads }
+    ensures { ThensClassed rule.now at table.now t code count work.old n classes.old results.old.kinds results.old.payloads result work.new classes.new results.new.kinds results.new.payloads }
 {
     let mut used = count + 3;
     let mut place = at;
@@ -225,7 +196,7 @@ pub(crate) fn nested_thens(
         let then = field_end(rule, place);
         let next = field_end(rule, then);
         used = nested_then(
-            rule, then, next, table, t, code, work, n, k, classes, kinds, payloads, used,
+            rule, then, next, table, t, code, work, n, k, classes, results, used,
         );
         if used == 0 {
             return false;
@@ -264,14 +235,14 @@ fn is_literal_case(rule: &[u8], start: usize, end: usize) -> bool {
 }
 
 // Whether rows may have classes, before they are looked at: each THEN is a literal of the kind or, by its tags, a CASE of literals.
-pub(crate) fn may_class(rule: &[u8], at: usize, count: usize, kinds: &[u8], code: u8) -> bool
-    requires { (length kinds.now ≡ 258) × (count ≤ 255) }
+pub(crate) fn may_class(rule: &[u8], at: usize, count: usize, results: &Results, code: u8) -> bool
+    requires { count ≤ 255 }
 {
     let mut place = at;
     for k in 1..count + 1 {
         let then = field_end(rule, place);
         let next = field_end(rule, then);
-        if kinds[k] != code {
+        if results.kinds[k] != code {
             if !is_literal_case(rule, then, next) {
                 return false;
             }

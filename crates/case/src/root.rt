@@ -1,12 +1,12 @@
 // The classes of a table's rows by the root CASE, without slots: where its rows have their indices from columns, and every result is a number literal or, as a
 // THEN, a CASE of which the same holds.
-ghost use Rattle.std.specs.Prelude.{◌≡◌, ◌≤◌, true, ℕ, length, slice_index};
+ghost use Rattle.std.specs.Prelude.{◌≡◌, ◌≤◌, true, length, IfSome};
 ghost use Rattle.scalar.specs.Types.{type_number};
-ghost use Rattle.case.specs.Classes.{RootAsks, RootResults, ClassesGive};
+ghost use Rattle.case.specs.Classes.{RootAsks, RootRead, ClassesGive};
 
 use crate::case_values::{branches_at, case_values};
 use crate::nested::{may_class, nested_thens};
-use crate::results::read_results;
+use crate::results::Results;
 use crate::rows::ROWS_MOST;
 use layout::number::byte_at;
 use rule::type_of::type_of;
@@ -21,7 +21,7 @@ fn is_number(t: DataType) -> bool
     matches!(t, DataType::Int32 | DataType::Int64 | DataType::Float64)
 }
 
-// The class of each row and the literals of the classes, where every row has one and all are numbers of the result's type.
+// The class of each row, and the literals of the classes, where every row has one and all are numbers of the result's type.
 pub(crate) fn class_rows(
     rule: &[u8],
     table: &[u8],
@@ -29,25 +29,19 @@ pub(crate) fn class_rows(
     res: DataType,
     work: &mut [u8],
     classes: &mut [u16; ROWS_MOST],
-    kinds: &mut [u8],
-    payloads: &mut [u64],
-) -> bool
-    requires root_asks { RootAsks t work.old table.now }
-    requires kinds_len { (length kinds.old ≡ 258) × (length payloads.old ≡ 258) × ((i : ℕ) → slice_index kinds.old i ≡ 0) }
-    ensures { ClassesGive rule.now table.now t res work.old result work.new classes.new kinds.new payloads.new }
+) -> Option<Results>
+    requires { RootAsks t work.old table.now }
+    ensures { ClassesGive rule.now table.now t res work.old result work.new classes.new }
 {
     if !is_number(res) {
-        return false;
+        return None;
     }
     let code = res.number();
-    let place = root_results(rule, code, kinds, payloads);
-    if place == 0 {
-        return false;
-    }
+    let (place, mut results) = root_results(rule, code)?;
     if case_values(rule, 0, rule.len(), table, t, work, t.rows, classes) != Some(place) {
-        return false;
+        return None;
     }
-    nested_thens(
+    if nested_thens(
         rule,
         place,
         byte_at(rule, 4) as usize,
@@ -57,33 +51,26 @@ pub(crate) fn class_rows(
         work,
         t.rows,
         classes,
-        kinds,
-        payloads,
-    )
+        &mut results,
+    ) {
+        return Some(results);
+    }
+    None
 }
 
-// The literals among the root CASE's results, and where its branches stand; 0 where ELSE is no literal of the kind or the rows have no classes by the tags.
-fn root_results(rule: &[u8], code: u8, kinds: &mut [u8], payloads: &mut [u64]) -> usize
-    requires { (length kinds.old ≡ 258) × (length payloads.old ≡ 258) × ((i : ℕ) → slice_index kinds.old i ≡ 0) }
-    ensures { RootResults rule.now code result kinds.new payloads.new }
+// Where the root CASE's branches stand, and the literals among its results; none where ELSE is no literal of the kind or the rows have no classes by the tags.
+fn root_results(rule: &[u8], code: u8) -> Option<(usize, Results)>
+    ensures { IfSome result (λ r. RootRead rule.now code r.0 r.1.kinds r.1.payloads) }
 {
     let at = children_at(rule, 0);
     let place = branches_at(rule, 0, at);
     let count = byte_at(rule, 4) as usize;
-    read_results(
-        rule,
-        place,
-        rule.len(),
-        count,
-        type_of(rule, 0),
-        kinds,
-        payloads,
-    );
-    if kinds[count + 1] != code {
-        return 0;
+    let results = Results::read(rule, place, rule.len(), count, type_of(rule, 0));
+    if results.kinds[count + 1] != code {
+        return None;
     }
-    if may_class(rule, place, count, kinds, code) {
-        return place;
+    if may_class(rule, place, count, &results, code) {
+        return Some((place, results));
     }
-    0
+    None
 }

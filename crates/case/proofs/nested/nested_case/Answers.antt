@@ -4,9 +4,6 @@ use Rattle.case.proofs.FrameLaws.{rows_small}
 use Rattle.case.proofs.NestedLaws.{case_none, index_in, case_classed}
 use Rattle.case.proofs.nested.nested_case.Goals as goal
 
-pub nested_results-place-requires : goal.nested_results-place-requires
-nested_results-place-requires c = c.requires.arrays.0
-
 pub returns-then-place-eq0 : goal.returns-then-place-eq0
 returns-then-place-eq0 c = case_none c.nested_results-place.ensures.grown
 
@@ -20,4 +17,4 @@ pub class_listed-requires : goal.class_listed-requires
 class_listed-requires c = record { rows = (rows_small c.requires.framed.small c.requires.framed.list_ok, omega (arith, c.requires.framed.room, c.requires.framed.list_ok.few)); below = index_in c.case_values.ensures (search rules) c.if-place-eq0.false c.nested_results-place.ensures }
 
 pub returns : goal.returns
-returns c = case_classed c.case_values.ensures (search rules) c.if-place-eq0.false c.nested_results-place.ensures c.byte_at.ensures c.requires.arrays.1 c.class_listed.ensures
+returns c = case_classed c.case_values.ensures (search rules) c.if-place-eq0.false c.nested_results-place.ensures c.byte_at.ensures c.requires.some c.class_listed.ensures

@@ -4,11 +4,11 @@ use Rattle.case.proofs.TakeLaws.{picked_asks}
 use Rattle.case.proofs.NestedLaws.{then_same, then_case}
 use Rattle.case.proofs.nested.nested_then.Goals as goal
 
-pub returns-then-kinds-class : goal.returns-then-kinds-class
-returns-then-kinds-class c = then_same c.if-kinds-class.true
+pub returns-then-results-class : goal.returns-then-results-class
+returns-then-results-class c = then_same c.if-results-class.true
 
 pub returns : goal.returns
-returns c = then_case c.if-kinds-class.false c.pick-m.ensures c.nested_case.ensures
+returns c = then_case c.if-results-class.false c.pick-m.ensures c.nested_case.ensures
 
 pub nested_case-requires : goal.nested_case-requires
-nested_case-requires c = record { framed = picked_asks {depth = 1} c.args.classes.now c.requires.framed (omega arith) c.pick-m.ensures; arrays = (c.requires.arrays.0, c.requires.arrays.1) }
+nested_case-requires c = record { framed = picked_asks {depth = 1} c.args.classes.now c.requires.framed (omega arith) c.pick-m.ensures; some = c.requires.bounds.0 }

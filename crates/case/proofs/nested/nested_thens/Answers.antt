@@ -13,4 +13,4 @@ pub returns : goal.returns
 returns c = classed_all c.requires.thens_ask c.requires.framed.list_ok.few c.loop-k.invariant (omega (arith, c.loop-k-test.false))
 
 pub nested_then-used-requires : goal.nested_then-used-requires
-nested_then-used-requires c = record { framed = classed_framed c.requires.thens_ask c.requires.framed.list_ok.few c.loop-k.invariant c.requires.framed; arrays = (c.loop-k.invariant.grown.arrays, c.requires.thens_ask.some_kind, omega (arith, c.requires.thens_ask.few, c.loop-k-test.true)) }
+nested_then-used-requires c = record { framed = classed_framed c.requires.thens_ask c.requires.framed.list_ok.few c.loop-k.invariant c.requires.framed; bounds = (c.requires.thens_ask.some_kind, omega (arith, c.requires.thens_ask.few, c.loop-k-test.true)) }

@@ -3,4 +3,4 @@ use Rattle.case.proofs.NestedLaws.{ClassedSoFar}
 use Rattle.case.proofs.nested.nested_thens.Given as goal
 
 abbrev pub invariant-loop-k : goal.invariant-loop-k
-invariant-loop-k l = ClassedSoFar l.rule l.at l.table l.t l.code l.count l.initial.work l.n l.initial.classes l.initial.kinds l.initial.payloads l.work l.classes l.kinds l.payloads l.used l.place l.k
+invariant-loop-k l = ClassedSoFar l.rule l.at l.table l.t l.code l.count l.initial.work l.n l.initial.classes l.initial.results.kinds l.initial.results.payloads l.work l.classes l.results.kinds l.results.payloads l.used l.place l.k

@@ -1,9 +1,13 @@
-use Rattle.std.proofs.Common.{sym, ◌∙◌, arith}
-use Rattle.case.proofs.ResultLaws.{then_literal, then_other}
+use Rattle.std.proofs.Common.{refl, sym, ◌∙◌, arith}
+use Rattle.case.proofs.LookUpTrees.{zeros}
+use Rattle.case.proofs.ResultLaws.{thens_none, then_literal, then_other}
 use Rattle.rule.proofs.LiteralLaws.{literal_gives}
 use Rattle.rule.proofs.WalkLaws.{end_gives}
-use Rattle.case.proofs.results.read_thens.Goals as goal
-use Rattle.case.proofs.results.read_thens.Goals.{then-byte_at-eq-LITERAL, else-byte_at-eq-LITERAL}
+use Rattle.case.proofs.results.Results.thens.Goals as goal
+use Rattle.case.proofs.results.Results.thens.Goals.{then-byte_at-eq-LITERAL, else-byte_at-eq-LITERAL}
 
 pub loop-k-preserved : goal.loop-k-preserved
 loop-k-preserved c = elim c.if-byte_at-eq-LITERAL.branch [ then-byte_at-eq-LITERAL w ↦ then_literal c.loop-k.invariant (omega arith) (end_gives c.field_end-then.ensures) (end_gives c.field_end-next.ensures) w.literal_value-v.result (sym c.byte_at.ensures ∙ w.if-byte_at-eq-LITERAL.true) (literal_gives w.literal_value-v.ensures) w.kind.ensures w.payload.ensures w.kinds-is w.payloads-is | else-byte_at-eq-LITERAL w ↦ then_other c.loop-k.invariant (omega arith) (end_gives c.field_end-then.ensures) (end_gives c.field_end-next.ensures) (λ e. w.if-byte_at-eq-LITERAL.false (c.byte_at.ensures ∙ e)) w.kinds-is w.payloads-is ]
+
+pub loop-k-init : goal.loop-k-init
+loop-k-init c = thens_none c.requires refl refl (zeros 258)
