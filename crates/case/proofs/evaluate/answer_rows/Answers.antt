@@ -1,5 +1,5 @@
 -- The rows' classes are written, or the slots, which have the outcomes.
-use Rattle.std.proofs.Common.{[], refl, arith}
+use Rattle.std.proofs.Common.{[], arith}
 use Rattle.case.proofs.EvaluateLaws.{root_asks, rows_framed, classes_column, by_classes, slots_column, by_slots}
 use Rattle.case.proofs.evaluate.answer_rows.Goals as goal
 
