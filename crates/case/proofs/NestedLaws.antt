@@ -385,7 +385,7 @@ module _ {rule : List ℕ} {at : ℕ} {table : List ℕ} {t : Table} {code count
         behind = behind_two (2 * (k - 1)) (2 * (k + 1 - 1)) (let f = s.first in omega arith) s.behind to-then to-next;
         long = d.long ∙ s.long;
         low = λ j h. d.low j h ∙ s.low j h;
-          used_from = (let a = s.used_from in let b = stepped.onward in omega arith);
+        used_from = (let a = s.used_from in let b = stepped.onward in omega arith);
         used_to = stepped.few;
         grown = record {
           kinds_same = λ c h. stepped.grown.kinds_same c (let f = s.used_from in omega arith) ∙ s.grown.kinds_same c h;

@@ -33,10 +33,6 @@ module _ {t : Table} {w table : List ℕ} (a : RootAsks t w table) where
   root_listed : (i : ℕ) → i < t.rows → Listed w 0 t.rows i
   root_listed i h = (i, h, a.rows_are i h)
 
--- no classes were found
-pub classes_none : {rule table : List ℕ} {t : Table} {result : DataType} {w w' classes : List ℕ} → length w' ≡ length w → ((j : ℕ) → j < 6656 → byte w' j ≡ byte w j) → ClassesGive rule table t result w None w' classes
-classes_none a b = record { long = a; low = b; asks = tt; right = tt }
-
 -- ---- the root's results
 
 pub results_give : {rule kinds payloads : List ℕ} {place code count : ℕ} {to : DataType} → count ≡ byte rule 4 → TypeGives rule 0 to → ResultsRead rule place (length rule) count to kinds payloads
