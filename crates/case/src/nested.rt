@@ -68,7 +68,7 @@ fn class_listed(work: &[u8], n: usize, values: &[u16], from: usize, classes: &mu
     }
 }
 
-// The results of the CASE at a place as the classes behind a class, and where its branches stand; 0 where they are not all literals of a kind or are too many.
+// The results of the CASE at a place as the classes behind a class, and where its branches stand; none where they are not all literals of a kind or are too many.
 fn nested_results(
     rule: &[u8],
     start: usize,
@@ -76,28 +76,28 @@ fn nested_results(
     code: u8,
     from: usize,
     results: &mut Results,
-) -> usize
+) -> Option<usize>
     ensures { NestedResults rule.now start end code from results.old.kinds results.old.payloads result results.new.kinds results.new.payloads }
 {
     if rule.len() <= start {
-        return 0;
+        return None;
     }
     let count = byte_at(rule, start + 4) as usize;
     if CLASSES_MOST < from {
-        return 0;
+        return None;
     }
     if CLASSES_MOST < from + count + 3 {
-        return 0;
+        return None;
     }
     let place = branches_at(rule, start, children_at(rule, start));
     results.read_block(rule, place, end, count, type_of(rule, start), from);
     if results.all_of_kind(from, count + 1, code) {
-        return place;
+        return Some(place);
     }
-    0
+    None
 }
 
-// The class of each listed row by the CASE at a place, whose results are all literals of a kind, behind a class: the class behind them; 0 where they are not
+// The class of each listed row by the CASE at a place, whose results are all literals of a kind, behind a class: the class behind them; none where they are not
 // found so.
 fn nested_case(
     rule: &[u8],
@@ -111,24 +111,21 @@ fn nested_case(
     classes: &mut [u16],
     results: &mut Results,
     from: usize,
-) -> usize
+) -> Option<usize>
     requires framed { Framed table.now t work.now n 1 }
     requires classes_len { (length classes.old ≡ 512) × (0 < code) }
     ensures { CaseClassed (Listed work.now 0 n) rule.now start end table.now t code from classes.old results.old.kinds results.old.payloads result classes.new results.new.kinds results.new.payloads }
 {
-    let place = nested_results(rule, start, end, code, from, results);
-    if place == 0 {
-        return 0;
-    }
+    let place = nested_results(rule, start, end, code, from, results)?;
     let mut values = [0u16; 512];
     if case_values(rule, start, end, table, t, work, n, &mut values) != Some(place) {
-        return 0;
+        return None;
     }
     class_listed(work, n, &values, from, classes);
-    from + byte_at(rule, start + 4) as usize + 3
+    Some(from + byte_at(rule, start + 4) as usize + 3)
 }
 
-// The rows of a THEN's class, where that is no literal of the kind: their classes by the CASE that the THEN is, behind a class; the class behind them, 0 where they are
+// The rows of a THEN's class, where that is no literal of the kind: their classes by the CASE that the THEN is, behind a class; the class behind them, none where they are
 // not found so.
 fn nested_then(
     rule: &[u8],
@@ -143,13 +140,13 @@ fn nested_then(
     classes: &mut [u16],
     results: &mut Results,
     from: usize,
-) -> usize
+) -> Option<usize>
     requires framed { Framed table.now t work.old n 2 }
     requires classes_len { (length classes.old ≡ 512) × (0 < code) × (class < 258) }
     ensures { ThenClassed rule.now start end table.now t code work.old n class from classes.old results.old.kinds results.old.payloads result work.new classes.new results.new.kinds results.new.payloads }
 {
     if results.kinds[class] == code {
-        return from;
+        return Some(from);
     }
     let m = pick(work, n, classes, class as u16);
     nested_case(
@@ -189,12 +186,12 @@ pub(crate) fn nested_thens(
     for k in 1..count + 1 {
         let then = field_end(rule, place);
         let next = field_end(rule, then);
-        used = nested_then(
+        let Some(behind) = nested_then(
             rule, then, next, table, t, code, work, n, k, classes, results, used,
-        );
-        if used == 0 {
+        ) else {
             return false;
-        }
+        };
+        used = behind;
         place = next;
     }
     true
