@@ -8,6 +8,8 @@ use mathlib.Core.Bool.{false≢true}
 use native.Mathlib.Decide.{ℕ_discrete, dec_lt}
 use Rattle.layout.specs.Bytes.{byte}
 use Rattle.scalar.specs.declared.types.DataType.{DataType}
+use Rattle.scalar.specs.declared.types.DataType.TheVariants.{Boolean, Int32, Int64, Float64, Utf8}
+use Rattle.scalar.specs.Types.{type_number}
 use Rattle.scalar.specs.Entry.{Outcome}
 use Rattle.scalar.specs.Value.{meaning, value_of}
 use Rattle.rule.specs.Tree.{Expr, Branches}
@@ -56,6 +58,14 @@ kind_at kinds k from (suc n) all j h = go (eqb (get_or kinds (from + suc n) 0) k
     go true e (yes d) later = ap (λ (i : ℕ). get_or kinds (from + suc i) 0) d ∙ eqb-true (get_or kinds (from + suc n) 0) k e
     go true e (no d) later = later (sym (ap (λ (b : Bool). cond b (all_of_kind kinds k from n) false) e) ∙ all) (omega arith)
     go false e d later = absurd (false≢true (sym (ap (λ (b : Bool). cond b (all_of_kind kinds k from n) false) e) ∙ all))
+
+-- every type has one
+pub type_some : (t : DataType) → 0 < type_number t
+type_some Boolean = omega arith
+type_some Int32 = omega arith
+type_some Int64 = omega arith
+type_some Float64 = omega arith
+type_some Utf8 = omega arith
 
 -- ---- the literals of a block
 

@@ -138,7 +138,6 @@ pub record ThenClassed (rule : List ℕ) (start end : ℕ) (table : List ℕ) (t
 -- what the THENs of the root CASE ask: each listed row has the class of a result, from 1, and that of ELSE is of the kind
 pub record ThensAsk (code count : ℕ) (w : List ℕ) (n : ℕ) (classes kinds payloads : List ℕ) : Type 0 where
   pub classes_long_lem : length classes ≡ 512
-  pub some_kind : 0 < code
   pub few : count ≤ 255
   pub each : (q : ℕ) → Listed w 0 n q → (0 < slice_index classes q) × (slice_index classes q ≤ count + 1)
   pub else_kind : slice_index_or kinds (count + 1) 0 ≡ code

@@ -1,5 +1,6 @@
 // The classes of a root CASE whose THENs are CASEs: the rows of such a THEN go on to classes of their own, from the literals of its CASE.
 ghost use Rattle.std.specs.Prelude.{◌≡◌, ℕ, ◌+◌, ◌*◌, ◌<◌, ◌≤◌, length, slice_index};
+ghost use Rattle.scalar.specs.Types.{type_number};
 ghost use Rattle.case.specs.Frame.{Rows, Listed};
 ghost use Rattle.case.specs.Evaluation.{Framed};
 ghost use Rattle.case.specs.Classes.{all_of_kind, BlockCopied, BlockRead, NestedResults, Grown, Numbered, CaseClassed, ThenClassed, ThensAsk, ThensClassed};
@@ -73,11 +74,11 @@ fn nested_results(
     rule: &[u8],
     start: usize,
     end: usize,
-    code: u8,
+    res: DataType,
     from: usize,
     results: &mut Results,
 ) -> Option<usize>
-    ensures { NestedResults rule.now start end code from results.old.kinds results.old.payloads result results.new.kinds results.new.payloads }
+    ensures { NestedResults rule.now start end (type_number res) from results.old.kinds results.old.payloads result results.new.kinds results.new.payloads }
 {
     if rule.len() <= start {
         return None;
@@ -91,7 +92,7 @@ fn nested_results(
     }
     let place = branches_at(rule, start, children_at(rule, start));
     results.read_block(rule, place, end, count, type_of(rule, start), from);
-    if results.all_of_kind(from, count + 1, code) {
+    if results.all_of_kind(from, count + 1, res.number()) {
         return Some(place);
     }
     None
@@ -105,7 +106,7 @@ fn nested_case(
     end: usize,
     table: &[u8],
     t: Table,
-    code: u8,
+    res: DataType,
     work: &[u8],
     n: usize,
     classes: &mut [u16],
@@ -113,10 +114,10 @@ fn nested_case(
     from: usize,
 ) -> Option<usize>
     requires framed { Framed table.now t work.now n 1 }
-    requires classes_len { (length classes.old ≡ 512) × (0 < code) }
-    ensures { CaseClassed (Listed work.now 0 n) rule.now start end table.now t code from classes.old results.old.kinds results.old.payloads result classes.new results.new.kinds results.new.payloads }
+    requires classes_len { length classes.old ≡ 512 }
+    ensures { CaseClassed (Listed work.now 0 n) rule.now start end table.now t (type_number res) from classes.old results.old.kinds results.old.payloads result classes.new results.new.kinds results.new.payloads }
 {
-    let place = nested_results(rule, start, end, code, from, results)?;
+    let place = nested_results(rule, start, end, res, from, results)?;
     let mut values = [0u16; 512];
     if case_values(rule, start, end, table, t, work, n, &mut values) != Some(place) {
         return None;
@@ -133,7 +134,7 @@ fn nested_then(
     end: usize,
     table: &[u8],
     t: Table,
-    code: u8,
+    res: DataType,
     work: &mut [u8],
     n: usize,
     class: usize,
@@ -142,10 +143,10 @@ fn nested_then(
     from: usize,
 ) -> Option<usize>
     requires framed { Framed table.now t work.old n 2 }
-    requires classes_len { (length classes.old ≡ 512) × (0 < code) × (class < 258) }
-    ensures { ThenClassed rule.now start end table.now t code work.old n class from classes.old results.old.kinds results.old.payloads result work.new classes.new results.new.kinds results.new.payloads }
+    requires classes_len { (length classes.old ≡ 512) × (class < 258) }
+    ensures { ThenClassed rule.now start end table.now t (type_number res) work.old n class from classes.old results.old.kinds results.old.payloads result work.new classes.new results.new.kinds results.new.payloads }
 {
-    if results.kinds[class] == code {
+    if results.kinds[class] == res.number() {
         return Some(from);
     }
     let m = pick(work, n, classes, class as u16);
@@ -155,7 +156,7 @@ fn nested_then(
         end,
         table,
         t,
-        code,
+        res,
         &work[6656..],
         m,
         classes,
@@ -171,15 +172,15 @@ pub(crate) fn nested_thens(
     count: usize,
     table: &[u8],
     t: Table,
-    code: u8,
+    res: DataType,
     work: &mut [u8],
     n: usize,
     classes: &mut [u16],
     results: &mut Results,
 ) -> bool
     requires framed { Framed table.now t work.old n 2 }
-    requires thens_ask { ThensAsk code count work.old n classes.old results.old.kinds results.old.payloads }
-    ensures { ThensClassed rule.now at table.now t code count work.old n classes.old results.old.kinds results.old.payloads result work.new classes.new results.new.kinds results.new.payloads }
+    requires thens_ask { ThensAsk (type_number res) count work.old n classes.old results.old.kinds results.old.payloads }
+    ensures { ThensClassed rule.now at table.now t (type_number res) count work.old n classes.old results.old.kinds results.old.payloads result work.new classes.new results.new.kinds results.new.payloads }
 {
     let mut used = count + 3;
     let mut place = at;
@@ -187,7 +188,7 @@ pub(crate) fn nested_thens(
         let then = field_end(rule, place);
         let next = field_end(rule, then);
         let Some(behind) = nested_then(
-            rule, then, next, table, t, code, work, n, k, classes, results, used,
+            rule, then, next, table, t, res, work, n, k, classes, results, used,
         ) else {
             return false;
         };
@@ -226,14 +227,20 @@ fn is_literal_case(rule: &[u8], start: usize, end: usize) -> bool {
 }
 
 // Whether rows may have classes, before they are looked at: each THEN is a literal of the kind or, by its tags, a CASE of literals.
-pub(crate) fn may_class(rule: &[u8], at: usize, count: usize, results: &Results, code: u8) -> bool
+pub(crate) fn may_class(
+    rule: &[u8],
+    at: usize,
+    count: usize,
+    results: &Results,
+    res: DataType,
+) -> bool
     requires { count ≤ 255 }
 {
     let mut place = at;
     for k in 1..count + 1 {
         let then = field_end(rule, place);
         let next = field_end(rule, then);
-        if results.kinds[k] != code {
+        if results.kinds[k] != res.number() {
             if !is_literal_case(rule, then, next) {
                 return false;
             }

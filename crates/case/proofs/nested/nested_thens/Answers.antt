@@ -13,4 +13,4 @@ pub returns : goal.returns
 returns c = classed_all c.requires.thens_ask c.requires.framed.list_ok.few c.loop-k.invariant (omega (arith, c.loop-k-test.false))
 
 pub nested_then-requires : goal.nested_then-requires
-nested_then-requires c = record { framed = classed_framed c.requires.thens_ask c.requires.framed.list_ok.few c.loop-k.invariant c.requires.framed; classes_len = (c.loop-k.invariant.classes_long_lem, c.requires.thens_ask.some_kind, omega (arith, c.requires.thens_ask.few, c.loop-k-test.true)) }
+nested_then-requires c = record { framed = classed_framed c.requires.thens_ask c.requires.framed.list_ok.few c.loop-k.invariant c.requires.framed; classes_len = (c.loop-k.invariant.classes_long_lem, omega (arith, c.requires.thens_ask.few, c.loop-k-test.true)) }
