@@ -1,12 +1,15 @@
 -- The classes of rows by a CASE of literals that is a THEN of the root. Assumes nothing.
-use Rattle.std.proofs.Common.{◌≡◌, ℕ, zero, suc, ◌+◌, ◌-◌, ◌*◌, ◌<◌, ◌≤◌, Bool, true, false, cond, eqb, ◌⊎◌, List, length, get_or, set, sym, refl, ap, ◌∙◌, subst, ap₂, inl, inr, arith, get_or-set_other, get_or-set_same, eqb-true, Option, Some, ◌&&◌, take, drop, length-drop}
+use Rattle.std.proofs.Common.{◌≡◌, ℕ, zero, suc, ◌+◌, ◌-◌, ◌*◌, ◌<◌, ◌≤◌, Bool, true, false, cond, eqb, ◌⊎◌, List, length, get_or, set, sym, refl, ap, ◌∙◌, subst, ap₂, inl, inr, arith, get_or-set_other, get_or-set_same, eqb-true, Option, Some, None, ◌&&◌, take, drop, length-drop}
 use Rattle.std.specs.List.{list_all}
 use Rattle.std.proofs.lemmas.List.{get_or-drop}
+use Rattle.std.proofs.lemmas.Option.{IfSome_then, same_Some}
 use Rattle.std.proofs.lemmas.List.Folds.{list_all_more}
 use mathlib.Core.Bool.{false≢true}
 use native.Mathlib.Decide.{ℕ_discrete, dec_lt}
 use Rattle.layout.specs.Bytes.{byte}
 use Rattle.scalar.specs.declared.types.DataType.{DataType}
+use Rattle.scalar.specs.declared.types.DataType.TheVariants.{Boolean, Int32, Int64, Float64, Utf8}
+use Rattle.scalar.specs.Types.{type_number}
 use Rattle.scalar.specs.Entry.{Outcome}
 use Rattle.scalar.specs.Value.{meaning, value_of}
 use Rattle.rule.specs.Tree.{Expr, Branches}
@@ -55,6 +58,14 @@ kind_at kinds k from (suc n) all j h = go (eqb (get_or kinds (from + suc n) 0) k
     go true e (yes d) later = ap (λ (i : ℕ). get_or kinds (from + suc i) 0) d ∙ eqb-true (get_or kinds (from + suc n) 0) k e
     go true e (no d) later = later (sym (ap (λ (b : Bool). cond b (all_of_kind kinds k from n) false) e) ∙ all) (omega arith)
     go false e d later = absurd (false≢true (sym (ap (λ (b : Bool). cond b (all_of_kind kinds k from n) false) e) ∙ all))
+
+-- every type has one
+pub type_some : (t : DataType) → 0 < type_number t
+type_some Boolean = omega arith
+type_some Int32 = omega arith
+type_some Int64 = omega arith
+type_some Float64 = omega arith
+type_some Utf8 = omega arith
 
 -- ---- the literals of a block
 
@@ -112,22 +123,22 @@ module _ {w : List ℕ} {n : ℕ} {values : List ℕ} {from : ℕ} {classes clas
 
 -- no classes were found
 pub case_none : {wanted : ℕ → Type 0} {rule : List ℕ} {start end : ℕ} {table : List ℕ} {t : Table} {code from : ℕ} {classes kinds payloads kinds' payloads' : List ℕ}
-    → Grown from kinds payloads kinds' payloads' → CaseClassed wanted rule start end table t code from classes kinds payloads 0 classes kinds' payloads'
+    → Grown from kinds payloads kinds' payloads' → CaseClassed wanted rule start end table t code from classes kinds payloads None classes kinds' payloads'
 case_none grown = record {
   grown = grown;
-  few = omega arith;
-  onward = λ n. absurd (n refl);
+  few = tt;
+  onward = tt;
   others = λ q n. refl;
-  here = λ n. absurd (n refl);
+  here = tt;
 }
 
 -- the results of a CASE, as they have to be
 pub nested_give : {rule : List ℕ} {start end code from place count : ℕ} {kinds payloads kinds' payloads' : List ℕ} {to : DataType} {all : Bool} → start < length rule → count ≡ byte rule (start + 4)
     → from + count + 3 ≤ 258 → TypeGives rule start to → Grown from kinds payloads kinds' payloads' → BlockRead rule place end count to from kinds' payloads' → all ≡ all_of_kind kinds' code from (count + 1) → all ≡ true
-    → NestedResults rule start end code from kinds payloads place kinds' payloads'
+    → NestedResults rule start end code from kinds payloads (Some place) kinds' payloads'
 nested_give {rule} {start} {end} {code} {from} {place} {count} {kinds' = kinds'} {payloads'} {to} inside counted room types grown read all-is all_of = record {
   grown = grown;
-  found = λ there. record {
+  found = record {
     inside = inside;
     room = (let c = counted in omega arith);
     type = to;
@@ -138,41 +149,41 @@ nested_give {rule} {start} {end} {code} {from} {place} {count} {kinds' = kinds'}
 }
 
 module _ {rule : List ℕ} {start end : ℕ} {table : List ℕ} {t : Table} {code from : ℕ} {w : List ℕ} {n : ℕ} {values kinds payloads kinds' payloads' : List ℕ} {found : Option ℕ} {place : ℕ}
-    (v : CaseValues rule start end table t w n values found) (is : found ≡ Some place) (there : place ≡ 0 → ⊥) (results : NestedResults rule start end code from kinds payloads place kinds' payloads') where
+    (v : CaseValues rule start end table t w n values found) (is : found ≡ Some place) (results : NestedResults rule start end code from kinds payloads (Some place) kinds' payloads') where
   given : CaseValues rule start end table t w n values (Some place)
   given = subst (λ (x : Option ℕ). CaseValues rule start end table t w n values x) is v
 
   -- an index of a CASE's results lies in the classes behind a class
   pub index_in : (q : ℕ) → Listed w 0 n q → from + get_or values q 0 < 258
-  index_in q l = let f = (given.each q l).few in let r = (results.found there).room in omega arith
+  index_in q l = let f = (given.each q l).few in let r = results.found.room in omega arith
 
   -- the literal at a row's index behind a class is the row's outcome
   pub case_classed : {classes classes' : List ℕ} {count : ℕ} → count ≡ byte rule (start + 4) → 0 < code → Numbered w n values from classes classes'
-      → CaseClassed (Listed w 0 n) rule start end table t code from classes kinds payloads (from + count + 3) classes' kinds' payloads'
+      → CaseClassed (Listed w 0 n) rule start end table t code from classes kinds payloads (Some (from + count + 3)) classes' kinds' payloads'
   case_classed {classes' = classes'} {count} counted some numbered = record {
     grown = results.grown;
     few = room;
-    onward = λ m. omega arith;
+    onward = omega arith;
     others = numbered.others;
-    here = λ m q l. subst (ClassRight rule start end table t kinds' payloads' code from (from + count + 3) q) (sym (numbered.here q l)) (right_at q (given.each q l));
+    here = λ q l. subst (ClassRight rule start end table t kinds' payloads' code from (from + count + 3) q) (sym (numbered.here q l)) (right_at q (given.each q l));
   }
     where
       room : from + count + 3 ≤ 258
-      room = let r = (results.found there).room in omega arith
+      room = let r = results.found.room in omega arith
 
-      read : BlockRead rule place end (byte rule (start + 4)) (results.found there).type from kinds' payloads'
-      read = (results.found there).read
+      read : BlockRead rule place end (byte rule (start + 4)) results.found.type from kinds' payloads'
+      read = results.found.read
 
       of_kind : (c : ℕ) → 0 < c → c ≤ byte rule (start + 4) + 1 → get_or kinds' (from + c) 0 ≡ code
       of_kind zero a b = absurd (omega arith)
-      of_kind (suc j) a b = kind_at kinds' code from (byte rule (start + 4) + 1) (results.found there).of_kind j (omega arith)
+      of_kind (suc j) a b = kind_at kinds' code from (byte rule (start + 4) + 1) results.found.of_kind j (omega arith)
 
       by : (q c : ℕ) → 0 < c → c ≤ byte rule (start + 4) + 1 → (e : Expr) (depth : ℕ) → CaseTree rule start end table t place depth q c e
           → meaning rule table (value_at kinds' payloads' (from + c)) ≡ eval e (row_in table t q)
       by q zero a b e depth tree = absurd (omega arith)
       by q (suc j) a b e depth tree =
           read.held tree.bs tree.els depth (row_in table t q) table tree.trees tree.counted j (omega arith) (λ z. let k = of_kind (suc j) a b in omega arith)
-          ∙ sym (tree.outcome (results.found there).type (results.found there).type_is)
+          ∙ sym (tree.outcome results.found.type results.found.type_is)
 
       right_at : (q : ℕ) → CaseIndex rule start end table t place q (get_or values q 0) → ClassRight rule start end table t kinds' payloads' code from (from + count + 3) q (from + get_or values q 0)
       right_at q x = record {
@@ -186,15 +197,15 @@ module _ {rule : List ℕ} {start end : ℕ} {table : List ℕ} {t : Table} {cod
 
 -- a literal of the kind: nothing is done
 pub then_same : {rule : List ℕ} {start end : ℕ} {table : List ℕ} {t : Table} {code : ℕ} {w : List ℕ} {n class from : ℕ} {classes kinds payloads : List ℕ} → get_or kinds class 0 ≡ code
-    → ThenClassed rule start end table t code w n class from classes kinds payloads from w classes kinds payloads
+    → ThenClassed rule start end table t code w n class from classes kinds payloads (Some from) w classes kinds payloads
 then_same is = record { long = refl; low = λ j h. refl; same = λ e. (refl, refl, refl, refl); found = λ n. absurd (n is) }
 
 -- a CASE: its rows in the next frame
-pub then_case : {rule : List ℕ} {start end : ℕ} {table : List ℕ} {t : Table} {code : ℕ} {w w₁ : List ℕ} {n m class from : ℕ} {classes kinds payloads : List ℕ} {used : ℕ} {classes' kinds' payloads' : List ℕ}
+pub then_case : {rule : List ℕ} {start end : ℕ} {table : List ℕ} {t : Table} {code : ℕ} {w w₁ : List ℕ} {n m class from : ℕ} {classes kinds payloads : List ℕ} {used : Option ℕ} {classes' kinds' payloads' : List ℕ}
     → (get_or kinds class 0 ≡ code → ⊥) → Picked (HasIndex classes class) w n m w₁
     → CaseClassed (Listed (lent w₁) 0 m) rule start end table t code from classes kinds payloads used classes' kinds' payloads'
     → ThenClassed rule start end table t code w n class from classes kinds payloads used w₁ classes' kinds' payloads'
-then_case {w₁ = w₁} {m = m} other p c = record {
+then_case {w₁ = w₁} {m = m} {used = used} other p c = record {
   long = p.long;
   low = p.low;
   same = λ e. absurd (other e);
@@ -203,7 +214,7 @@ then_case {w₁ = w₁} {m = m} other p c = record {
     few = c.few;
     onward = c.onward;
     others = λ q no_row. c.others q (λ l. no_row (p.picked q (listed_from w₁ (lent w₁) 6656 0 m (lent_rows w₁ m) q l)));
-    here = λ u q l. c.here u q (listed_to w₁ (lent w₁) 6656 0 m (lent_rows w₁ m) q (p.all q l.0 l.1));
+    here = IfSome_then used c.here (λ u h q l. h q (listed_to w₁ (lent w₁) 6656 0 m (lent_rows w₁ m) q (p.all q l.0 l.1)));
   };
 }
 
@@ -285,7 +296,7 @@ module _ {rule : List ℕ} {at : ℕ} {table : List ℕ} {t : Table} {code count
           (s.grown.payloads_same (get_or classes q 0) (omega arith)))
 
   -- the THEN of the class k is done
-  module _ {then next used' : ℕ} {w₂ classes₂ kinds₂ payloads₂ : List ℕ} (d : ThenClassed rule then next table t code w₁ n k used classes₁ kinds₁ payloads₁ used' w₂ classes₂ kinds₂ payloads₂) where
+  module _ {then next : ℕ} {found : Option ℕ} {w₂ classes₂ kinds₂ payloads₂ : List ℕ} (d : ThenClassed rule then next table t code w₁ n k used classes₁ kinds₁ payloads₁ found w₂ classes₂ kinds₂ payloads₂) where
     -- where no classes were found
     pub classed_not : ThensClassed rule at table t code count w n classes kinds payloads false w₂ classes₂ kinds₂ payloads₂
     classed_not = record {
@@ -294,8 +305,9 @@ module _ {rule : List ℕ} {at : ℕ} {table : List ℕ} {t : Table} {code count
       here = λ h. absurd (false≢true h);
     }
 
-    -- one THEN more
-    module _ (more : k ≤ count) (to-then : EndGives rule place then) (to-next : EndGives rule then next) (there : used' ≡ 0 → ⊥) where
+  -- one THEN more
+  module _ {then next used' : ℕ} {w₂ classes₂ kinds₂ payloads₂ : List ℕ} (d : ThenClassed rule then next table t code w₁ n k used classes₁ kinds₁ payloads₁ (Some used') w₂ classes₂ kinds₂ payloads₂) where
+    module _ (more : k ≤ count) (to-then : EndGives rule place then) (to-next : EndGives rule then next) where
       -- what became of the class of a row of the THEN
       abbrev Now : ℕ → ℕ → Type 0
       Now q c = ((c ≡ k) × (get_or kinds₁ k 0 ≡ code)) ⊎ ClassRight rule then next table t kinds₂ payloads₂ code used used' q c
@@ -315,8 +327,8 @@ module _ {rule : List ℕ} {at : ℕ} {table : List ℕ} {t : Table} {code count
           go (yes e) =
               let (u, a, b, c) = d.same e in
               record {
-                onward = omega arith;
-                few = (let f = s.used_to in omega arith);
+                onward = (let v = same_Some used' used u in omega arith);
+                few = (let f = s.used_to in let v = same_Some used' used u in omega arith);
                 grown = record {
                   kinds_same = λ i h. ap (λ (x : List ℕ). get_or x i 0) b;
                   payloads_same = λ i h. ap (λ (x : List ℕ). get_or x i 0) c;
@@ -324,7 +336,7 @@ module _ {rule : List ℕ} {at : ℕ} {table : List ℕ} {t : Table} {code count
                 others = λ q h. ap (λ (x : List ℕ). get_or x q 0) a;
                 here = λ q l. inl (ap (λ (x : List ℕ). get_or x q 0) a ∙ l.1, e);
               }
-          go (no e) = let f = d.found e in record { onward = f.onward there; few = f.few; grown = f.grown; others = f.others; here = λ q l. inr (f.here there q l) }
+          go (no e) = let f = d.found e in record { onward = f.onward; few = f.few; grown = f.grown; others = f.others; here = λ q l. inr (f.here q l) }
 
       -- a row of the THEN
       now_settled : (q j : ℕ) → j ≡ k → Now q (get_or classes₂ q 0) → RowSettled rule at table t code count kinds payloads kinds₂ payloads₂ used' q j (get_or classes₂ q 0)

@@ -46,7 +46,7 @@ results_give {rule} {kinds} {payloads} {place} {code} {to = to} counted types re
 
 -- ---- the classes
 
-module _ {rule table : List ℕ} {t : Table} {w classes kinds payloads : List ℕ} {found : Option ℕ} {place code count : ℕ} (low : 2 ≤ code)
+module _ {rule table : List ℕ} {t : Table} {w classes kinds payloads : List ℕ} {found : Option ℕ} {place code count : ℕ}
     (values : CaseValues rule 0 (length rule) table t w t.rows classes found) (is : found ≡ Some place) (counted : count ≡ byte rule 4) (small : count ≤ 255)
     (results : RootRead rule code place kinds payloads) where
   given_values : CaseValues rule 0 (length rule) table t w t.rows classes (Some place)
@@ -57,15 +57,14 @@ module _ {rule table : List ℕ} {t : Table} {w classes kinds payloads : List �
 
   pub thens_ask : ThensAsk code count w t.rows classes kinds payloads
   thens_ask = record {
-    some_kind = omega arith;
     few = small;
     each = λ q l. let x = given_values.each q l in (x.some, (let f = x.few in omega arith));
     else_kind = subst (λ (n : ℕ). get_or kinds (n + 1) 0 ≡ code) (sym counted) results.else_kind;
   }
 
-  pub classes_give : {result : DataType} {given : Bool} {w' classes' : List ℕ} {rs : Results} → length classes' ≡ 512 → RootAsks t w table → code ≡ type_number result → code ≤ 4 → given ≡ true
+  pub classes_give : {result : DataType} {given : Bool} {w' classes' : List ℕ} {rs : Results} → length classes' ≡ 512 → RootAsks t w table → code ≡ type_number result → 2 ≤ code → code ≤ 4 → given ≡ true
       → ThensClassed rule place table t code count w t.rows classes kinds payloads given w' classes' rs.kinds rs.payloads → ClassesGive rule table t result w (Some rs) w' classes'
-  classes_give {result} {classes' = classes'} {rs} long asks code_is high is_given thens = record {
+  classes_give {result} {classes' = classes'} {rs} long asks code_is low high is_given thens = record {
     long = thens.long;
     low = thens.low;
     asks = λ full. record {

@@ -4,6 +4,7 @@ use mathlib.Core.Bool.{false≢true}
 use native.Mathlib.Decide.{ℕ_discrete}
 use Rattle.layout.specs.Bytes.{byte}
 use Rattle.scalar.specs.declared.types.DataType.{DataType}
+use Rattle.scalar.specs.declared.types.DataType.TheVariants as types
 use Rattle.scalar.specs.declared.value.Value.{Value}
 use Rattle.scalar.specs.declared.order.Key.{Key}
 use Rattle.scalar.specs.declared.order.Key.TheVariants as Keys
@@ -399,6 +400,14 @@ one_step tags keys s tag_is key_is row x c p (inl (null_is, c-is)) =
 one_step tags keys s tag_is key_is row x c p (inr (n, numbered, c-is)) =
     let y = says_number s row x p numbered in
     record { value = y.value; is = y.is; index = c-is ∙ ap₂ (λ (a b : ℕ). cond (step_passes a b n) 1 2) tag_is key_is ∙ sym (ap (λ (b : Bool). cond b 1 2) y.truth) }
+
+-- a type that isn't text has a number of at most 4
+pub number_low : (t : DataType) {n : ℕ} → n ≡ type_number t → (t ≡ types.Utf8 → ⊥) → n ≤ 4
+number_low types.Boolean e other = omega arith
+number_low types.Int32 e other = omega arith
+number_low types.Int64 e other = omega arith
+number_low types.Float64 e other = omega arith
+number_low types.Utf8 e other = absurd (other refl)
 
 module _ {s : Step} {table : List ℕ} {place : ColumnPlace} {w : List ℕ} {at n : ℕ} where
   pub step_refused : {values : List ℕ} → StepRows s table place w at n false values

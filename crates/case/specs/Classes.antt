@@ -1,6 +1,6 @@
 -- The classes of a table's rows, where every result of the rule is a number literal or, as a THEN, a CASE of number literals: the index of the literal that is the row's entry
 -- (01, What changes shape: one index a row).
-use Rattle.std.specs.Prelude.{◌≡◌, ℕ, zero, suc, ◌+◌, ◌<◌, ◌≤◌, Bool, true, false, cond, List, ◌++◌, length, ◌==◌, ◌≢◌, slice_index, slice_index_or, Option, IfSome}
+use Rattle.std.specs.Prelude.{◌≡◌, ℕ, zero, suc, ◌+◌, ◌<◌, ◌≤◌, Bool, true, false, cond, List, ◌++◌, length, ◌==◌, ◌≢◌, slice_index, slice_index_or, Option, Some, IfSome}
 use Rattle.layout.specs.Bytes.{byte}
 use Rattle.scalar.specs.declared.types.DataType.{DataType}
 use Rattle.scalar.specs.Entry.{Outcome}
@@ -92,10 +92,10 @@ pub record NestedRead (rule : List ℕ) (start end code from place : ℕ) (kinds
   pub read : BlockRead rule place end (byte rule (start + 4)) type from kinds payloads
   pub of_kind : all_of_kind kinds code from (byte rule (start + 4) + 1) ≡ true
 
--- place 0 is none
-pub record NestedResults (rule : List ℕ) (start end code from : ℕ) (kinds payloads : List ℕ) (place : ℕ) (kinds' payloads' : List ℕ) : Type 0 where
+-- the same where a place is found
+pub record NestedResults (rule : List ℕ) (start end code from : ℕ) (kinds payloads : List ℕ) (place : Option ℕ) (kinds' payloads' : List ℕ) : Type 0 where
   pub grown : Grown from kinds payloads kinds' payloads'
-  pub found : (place ≢ 0) → NestedRead rule start end code from place kinds' payloads'
+  pub found : IfSome place (λ p. NestedRead rule start end code from p kinds' payloads')
 
 -- ---- the classes of a list's rows
 
@@ -111,28 +111,27 @@ pub record ClassRight (rule : List ℕ) (start end : ℕ) (table : List ℕ) (t 
   pub kind_is : slice_index_or kinds c 0 ≡ code
   pub means : (e : Expr) (depth : ℕ) → NodeAt rule start end e (depth + 1) → meaning rule table (value_at kinds payloads c) ≡ eval e (row_in table t q)
 
--- the wanted rows have such classes where those are found (`used`, behind the last, is not 0), and the others are unchanged
-pub record CaseClassed (wanted : ℕ → Type 0) (rule : List ℕ) (start end : ℕ) (table : List ℕ) (t : Table) (code from : ℕ) (classes kinds payloads : List ℕ) (used : ℕ) (classes' kinds' payloads' : List ℕ) : Type 0 where
+-- the wanted rows have such classes where those are found, with `used` behind the last, and the others are unchanged
+pub record CaseClassed (wanted : ℕ → Type 0) (rule : List ℕ) (start end : ℕ) (table : List ℕ) (t : Table) (code from : ℕ) (classes kinds payloads : List ℕ) (used : Option ℕ) (classes' kinds' payloads' : List ℕ) : Type 0 where
   pub grown : Grown from kinds payloads kinds' payloads'
-  pub few : used ≤ 258
-  pub onward : (used ≢ 0) → from ≤ used
+  pub few : IfSome used (λ u. u ≤ 258)
+  pub onward : IfSome used (λ u. from ≤ u)
   pub others : (q : ℕ) → (wanted q → ⊥) → slice_index classes' q ≡ slice_index classes q
-  pub here : (used ≢ 0) → (q : ℕ) → wanted q → ClassRight rule start end table t kinds' payloads' code from used q (slice_index classes' q)
+  pub here : IfSome used (λ u. (q : ℕ) → wanted q → ClassRight rule start end table t kinds' payloads' code from u q (slice_index classes' q))
 
 -- the listed rows of a class
 abbrev pub WantedRows : List ℕ → ℕ → List ℕ → ℕ → ℕ → Type 0
 WantedRows w n classes class q = Listed w 0 n q × (slice_index classes q ≡ class)
 
 -- the rows of a class: unchanged where it is a literal of the kind, else classed by a node
-pub record ThenClassed (rule : List ℕ) (start end : ℕ) (table : List ℕ) (t : Table) (code : ℕ) (w : List ℕ) (n class from : ℕ) (classes kinds payloads : List ℕ) (used : ℕ) (w' classes' kinds' payloads' : List ℕ) : Type 0 where
+pub record ThenClassed (rule : List ℕ) (start end : ℕ) (table : List ℕ) (t : Table) (code : ℕ) (w : List ℕ) (n class from : ℕ) (classes kinds payloads : List ℕ) (used : Option ℕ) (w' classes' kinds' payloads' : List ℕ) : Type 0 where
   pub long : length w' ≡ length w
   pub low : (j : ℕ) → j < 6656 → byte w' j ≡ byte w j
-  pub same : slice_index_or kinds class 0 ≡ code → (used ≡ from) × (classes' ≡ classes) × (kinds' ≡ kinds) × (payloads' ≡ payloads)
+  pub same : slice_index_or kinds class 0 ≡ code → (used ≡ Some from) × (classes' ≡ classes) × (kinds' ≡ kinds) × (payloads' ≡ payloads)
   pub found : (slice_index kinds class ≢ code) → CaseClassed (WantedRows w n classes class) rule start end table t code from classes kinds payloads used classes' kinds' payloads'
 
 -- what the THENs of the root CASE ask: each listed row has the class of a result, from 1, and that of ELSE is of the kind
 pub record ThensAsk (code count : ℕ) (w : List ℕ) (n : ℕ) (classes kinds payloads : List ℕ) : Type 0 where
-  pub some_kind : 0 < code
   pub few : count ≤ 255
   pub each : (q : ℕ) → Listed w 0 n q → (0 < slice_index classes q) × (slice_index classes q ≤ count + 1)
   pub else_kind : slice_index_or kinds (count + 1) 0 ≡ code

@@ -1,5 +1,6 @@
 // The classes of a root CASE whose THENs are CASEs: the rows of such a THEN go on to classes of their own, from the literals of its CASE.
 ghost use Rattle.std.specs.Prelude.{◌≡◌, ℕ, ◌+◌, ◌*◌, ◌<◌, ◌≤◌, length, slice_index};
+ghost use Rattle.scalar.specs.Types.{type_number};
 ghost use Rattle.case.specs.Frame.{Rows, Listed};
 ghost use Rattle.case.specs.Evaluation.{Framed};
 ghost use Rattle.case.specs.Classes.{all_of_kind, BlockCopied, BlockRead, NestedResults, Grown, Numbered, CaseClassed, ThenClassed, ThensAsk, ThensClassed};
@@ -74,36 +75,36 @@ fn class_listed(
     }
 }
 
-// The results of the CASE at a place as the classes behind a class, and where its branches stand; 0 where they are not all literals of a kind or are too many.
+// The results of the CASE at a place as the classes behind a class, and where its branches stand; none where they are not all literals of a kind or are too many.
 fn nested_results(
     rule: &[u8],
     start: usize,
     end: usize,
-    code: u8,
+    res: DataType,
     from: usize,
     results: &mut Results,
-) -> usize
-    ensures { NestedResults rule.now start end code from results.old.kinds results.old.payloads result results.new.kinds results.new.payloads }
+) -> Option<usize>
+    ensures { NestedResults rule.now start end (type_number res) from results.old.kinds results.old.payloads result results.new.kinds results.new.payloads }
 {
     if rule.len() <= start {
-        return 0;
+        return None;
     }
     let count = byte_at(rule, start + 4) as usize;
     if CLASSES_MOST < from {
-        return 0;
+        return None;
     }
     if CLASSES_MOST < from + count + 3 {
-        return 0;
+        return None;
     }
     let place = branches_at(rule, start, children_at(rule, start));
     results.read_block(rule, place, end, count, type_of(rule, start), from);
-    if results.all_of_kind(from, count + 1, code) {
-        return place;
+    if results.all_of_kind(from, count + 1, res.number()) {
+        return Some(place);
     }
-    0
+    None
 }
 
-// The class of each listed row by the CASE at a place, whose results are all literals of a kind, behind a class: the class behind them; 0 where they are not
+// The class of each listed row by the CASE at a place, whose results are all literals of a kind, behind a class: the class behind them; none where they are not
 // found so.
 fn nested_case(
     rule: &[u8],
@@ -111,30 +112,26 @@ fn nested_case(
     end: usize,
     table: &[u8],
     t: Table,
-    code: u8,
+    res: DataType,
     work: &[u8],
     n: usize,
     classes: &mut [u16; ROWS_MOST],
     results: &mut Results,
     from: usize,
-) -> usize
-    requires framed { Framed table.now t work.now n 1 }
-    requires some { 0 < code }
-    ensures { CaseClassed (Listed work.now 0 n) rule.now start end table.now t code from classes.old results.old.kinds results.old.payloads result classes.new results.new.kinds results.new.payloads }
+) -> Option<usize>
+    requires { Framed table.now t work.now n 1 }
+    ensures { CaseClassed (Listed work.now 0 n) rule.now start end table.now t (type_number res) from classes.old results.old.kinds results.old.payloads result classes.new results.new.kinds results.new.payloads }
 {
-    let place = nested_results(rule, start, end, code, from, results);
-    if place == 0 {
-        return 0;
-    }
+    let place = nested_results(rule, start, end, res, from, results)?;
     let mut values = [0u16; ROWS_MOST];
     if case_values(rule, start, end, table, t, work, n, &mut values) != Some(place) {
-        return 0;
+        return None;
     }
     class_listed(work, n, &values, from, classes);
-    from + byte_at(rule, start + 4) as usize + 3
+    Some(from + byte_at(rule, start + 4) as usize + 3)
 }
 
-// The rows of a THEN's class, where that is no literal of the kind: their classes by the CASE that the THEN is, behind a class; the class behind them, 0 where they are
+// The rows of a THEN's class, where that is no literal of the kind: their classes by the CASE that the THEN is, behind a class; the class behind them, none where they are
 // not found so.
 fn nested_then(
     rule: &[u8],
@@ -142,20 +139,20 @@ fn nested_then(
     end: usize,
     table: &[u8],
     t: Table,
-    code: u8,
+    res: DataType,
     work: &mut [u8],
     n: usize,
     class: usize,
     classes: &mut [u16; ROWS_MOST],
     results: &mut Results,
     from: usize,
-) -> usize
+) -> Option<usize>
     requires framed { Framed table.now t work.old n 2 }
-    requires bounds { (0 < code) × (class < 258) }
-    ensures { ThenClassed rule.now start end table.now t code work.old n class from classes.old results.old.kinds results.old.payloads result work.new classes.new results.new.kinds results.new.payloads }
+    requires low { class < 258 }
+    ensures { ThenClassed rule.now start end table.now t (type_number res) work.old n class from classes.old results.old.kinds results.old.payloads result work.new classes.new results.new.kinds results.new.payloads }
 {
-    if results.kinds[class] == code {
-        return from;
+    if results.kinds[class] == res.number() {
+        return Some(from);
     }
     let m = pick(work, n, classes, class as u16);
     nested_case(
@@ -164,7 +161,7 @@ fn nested_then(
         end,
         table,
         t,
-        code,
+        res,
         &work[6656..],
         m,
         classes,
@@ -180,27 +177,27 @@ pub(crate) fn nested_thens(
     count: usize,
     table: &[u8],
     t: Table,
-    code: u8,
+    res: DataType,
     work: &mut [u8],
     n: usize,
     classes: &mut [u16; ROWS_MOST],
     results: &mut Results,
 ) -> bool
     requires framed { Framed table.now t work.old n 2 }
-    requires thens_ask { ThensAsk code count work.old n classes.old results.old.kinds results.old.payloads }
-    ensures { ThensClassed rule.now at table.now t code count work.old n classes.old results.old.kinds results.old.payloads result work.new classes.new results.new.kinds results.new.payloads }
+    requires thens_ask { ThensAsk (type_number res) count work.old n classes.old results.old.kinds results.old.payloads }
+    ensures { ThensClassed rule.now at table.now t (type_number res) count work.old n classes.old results.old.kinds results.old.payloads result work.new classes.new results.new.kinds results.new.payloads }
 {
     let mut used = count + 3;
     let mut place = at;
     for k in 1..count + 1 {
         let then = field_end(rule, place);
         let next = field_end(rule, then);
-        used = nested_then(
-            rule, then, next, table, t, code, work, n, k, classes, results, used,
-        );
-        if used == 0 {
+        let Some(behind) = nested_then(
+            rule, then, next, table, t, res, work, n, k, classes, results, used,
+        ) else {
             return false;
-        }
+        };
+        used = behind;
         place = next;
     }
     true
@@ -235,14 +232,20 @@ fn is_literal_case(rule: &[u8], start: usize, end: usize) -> bool {
 }
 
 // Whether rows may have classes, before they are looked at: each THEN is a literal of the kind or, by its tags, a CASE of literals.
-pub(crate) fn may_class(rule: &[u8], at: usize, count: usize, results: &Results, code: u8) -> bool
+pub(crate) fn may_class(
+    rule: &[u8],
+    at: usize,
+    count: usize,
+    results: &Results,
+    res: DataType,
+) -> bool
     requires { count ≤ 255 }
 {
     let mut place = at;
     for k in 1..count + 1 {
         let then = field_end(rule, place);
         let next = field_end(rule, then);
-        if results.kinds[k] != code {
+        if results.kinds[k] != res.number() {
             if !is_literal_case(rule, then, next) {
                 return false;
             }

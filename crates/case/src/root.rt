@@ -36,8 +36,7 @@ pub(crate) fn class_rows(
     if !is_number(res) {
         return None;
     }
-    let code = res.number();
-    let (place, mut results) = root_results(rule, code)?;
+    let (place, mut results) = root_results(rule, res)?;
     if case_values(rule, 0, rule.len(), table, t, work, t.rows, classes) != Some(place) {
         return None;
     }
@@ -47,7 +46,7 @@ pub(crate) fn class_rows(
         byte_at(rule, 4) as usize,
         table,
         t,
-        code,
+        res,
         work,
         t.rows,
         classes,
@@ -59,17 +58,17 @@ pub(crate) fn class_rows(
 }
 
 // Where the root CASE's branches stand, and the literals among its results; none where ELSE is no literal of the kind or the rows have no classes by the tags.
-fn root_results(rule: &[u8], code: u8) -> Option<(usize, Results)>
-    ensures { IfSome result (λ r. RootRead rule.now code r.0 r.1.kinds r.1.payloads) }
+fn root_results(rule: &[u8], res: DataType) -> Option<(usize, Results)>
+    ensures { IfSome result (λ r. RootRead rule.now (type_number res) r.0 r.1.kinds r.1.payloads) }
 {
     let at = children_at(rule, 0);
     let place = branches_at(rule, 0, at);
     let count = byte_at(rule, 4) as usize;
     let results = Results::read(rule, place, rule.len(), count, type_of(rule, 0));
-    if results.kinds[count + 1] != code {
+    if results.kinds[count + 1] != res.number() {
         return None;
     }
-    if may_class(rule, place, count, &results, code) {
+    if may_class(rule, place, count, &results, res) {
         return Some((place, results));
     }
     None

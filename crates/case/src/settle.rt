@@ -40,7 +40,8 @@ impl Leave {
     }
 }
 
-// How many rows are left in the open list, and the builder.
+// How many rows are left in the open list, and the builder. It goes by value: the lengths of its arrays, which the builder's laws ask, are known of a value, not
+// behind a `&mut`.
 #[derive(Clone, Copy)]
 pub(crate) struct Settled {
     pub(crate) left: usize,

@@ -13,6 +13,7 @@ use layout::part::part_of;
 use rule::literal::literal_value;
 use rule::walk::{children_at, field_end};
 use scalar::order::{Key, key_of};
+use scalar::types::DataType;
 use table::entry::valid_at;
 use table::places::{ColumnPlace, Table};
 
@@ -323,11 +324,10 @@ fn column_steps(
     if BRANCHES_MOST < count {
         return false;
     }
-    let kind = place.data_type;
-    let code = kind.number();
-    if 4 < code {
+    if place.data_type == DataType::Utf8 {
         return false;
     }
+    let code = place.data_type.number();
     let Some(spans) = Spans::read(rule, at, count as usize, column, code) else {
         return false;
     };
@@ -372,11 +372,10 @@ fn column_step(
     requires { Rows work.now at n 512 × (at + 2 * n ≤ length work.now) }
     ensures { StepRows s table.now place work.now at n result indices.new }
 {
-    let kind = place.data_type;
-    let code = kind.number();
-    if 4 < code {
+    if place.data_type == DataType::Utf8 {
         return false;
     }
+    let code = place.data_type.number();
     if s.kind != code {
         return false;
     }

@@ -3,14 +3,14 @@ use Rattle.case.proofs.NestedLaws.{classed_framed, classed_all, classed_not, cla
 use Rattle.rule.proofs.WalkLaws.{end_gives}
 use Rattle.case.proofs.nested.nested_thens.Goals as goal
 
-pub returns-then-used-eq0 : goal.returns-then-used-eq0
-returns-then-used-eq0 c = classed_not c.requires.thens_ask c.requires.framed.list_ok.few c.loop-k.invariant c.nested_then-used.ensures
+pub returns-in_default : goal.returns-in_default
+returns-in_default c = classed_not c.requires.thens_ask c.requires.framed.list_ok.few c.loop-k.invariant c.nested_then.ensures
 
 pub loop-k-preserved : goal.loop-k-preserved
-loop-k-preserved c = classed_next c.requires.thens_ask c.requires.framed.list_ok.few c.loop-k.invariant c.nested_then-used.ensures (omega arith) (end_gives c.field_end-then.ensures) (end_gives c.field_end-next.ensures) c.if-used-eq0.false
+loop-k-preserved c = classed_next c.requires.thens_ask c.requires.framed.list_ok.few c.loop-k.invariant c.in-Some.ensures (omega arith) (end_gives c.field_end-then.ensures) (end_gives c.field_end-next.ensures)
 
 pub returns : goal.returns
 returns c = classed_all c.requires.thens_ask c.requires.framed.list_ok.few c.loop-k.invariant (omega (arith, c.loop-k-test.false))
 
-pub nested_then-used-requires : goal.nested_then-used-requires
-nested_then-used-requires c = record { framed = classed_framed c.requires.thens_ask c.requires.framed.list_ok.few c.loop-k.invariant c.requires.framed; bounds = (c.requires.thens_ask.some_kind, omega (arith, c.requires.thens_ask.few, c.loop-k-test.true)) }
+pub nested_then-requires : goal.nested_then-requires
+nested_then-requires c = record { framed = classed_framed c.requires.thens_ask c.requires.framed.list_ok.few c.loop-k.invariant c.requires.framed; low = omega (arith, c.requires.thens_ask.few, c.loop-k-test.true) }
