@@ -158,7 +158,7 @@ fn key_size(rule: &[u8], kind: u8, payload: u64) -> usize
     there
 }
 
-// The size and the mark of each key of four to eight bytes in the rule; of any other key the size 0.
+// The size and the mark of each key of four to eight bytes in the rule; of any other key the size 0. Moved once, never copied.
 #[derive(Drop)]
 pub(crate) struct TextMarks {
     pub(crate) sizes: [u8; 32],
@@ -194,7 +194,7 @@ impl TextMarks {
     }
 }
 
-// The keys of a table that is searched for texts, their hints and their marks.
+// The keys of a table that is searched for texts, their hints and their marks. Moved once, never copied.
 #[derive(Drop)]
 pub(crate) struct BytesLikeIndexMap<'a> {
     pub(crate) rule: &'a [u8],

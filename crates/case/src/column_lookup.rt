@@ -240,6 +240,7 @@ fn base_values(
 }
 
 // The index of each listed row by the branches behind a base, where the base is a column and a table serves: from 1, ELSE's behind them.
+// Whether they have one is a `bool`: the indices lie in the lent array, and `Option<()>` would say no more.
 pub(crate) fn lookup_values(
     rule: &[u8],
     at: usize,

@@ -63,6 +63,7 @@ impl WhenLiteralIndexMap {
 }
 
 // The literals of a CASE with a base: WHEN i at 2 * i, its THEN behind it, ELSE behind the last THEN, and behind ELSE a failure.
+// Moved once, never copied.
 #[derive(Drop)]
 pub(crate) struct Literals {
     pub(crate) kinds: [u8; 66],
@@ -108,7 +109,7 @@ impl Literals {
     }
 }
 
-// The literals of a CASE with a base, and the keys of its WHENs.
+// The literals of a CASE with a base, and the keys of its WHENs. Moved once, never copied.
 #[derive(Drop)]
 pub(crate) struct LiteralLookupTable {
     pub(crate) literals: Literals,

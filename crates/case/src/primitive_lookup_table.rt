@@ -21,7 +21,7 @@ impl WhenLiteralIndexMap {
     }
 }
 
-// The numbers of keys that are all of one kind, and at each number's hint one more than the place of a key.
+// The numbers of keys that are all of one kind, and at each number's hint one more than the place of a key. Moved once, never copied.
 #[derive(Drop)]
 pub(crate) struct PrimitiveIndexMap {
     pub(crate) numbers: [u64; 32],
@@ -32,7 +32,7 @@ pub(crate) struct PrimitiveIndexMap {
     ghost numbered: { NumberTable numbers indices hints size else_index },
 }
 
-// At a number's distance from the least the index from 1: of a key its own, elsewhere ELSE's.
+// At a number's distance from the least the index from 1: of a key its own, elsewhere ELSE's. Moved once, never copied.
 #[derive(Drop)]
 pub(crate) struct DenseIndexMap {
     pub(crate) least: u64,

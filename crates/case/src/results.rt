@@ -17,7 +17,7 @@ use scalar::value::{kind, payload};
 // The kind of a failure.
 const FAILED: u8 = 7;
 
-// The literal of each index or class, by its kind and its payload.
+// The literal of each index or class, by its kind and its payload. Moved once, never copied.
 #[derive(Drop)]
 pub(crate) struct Results {
     pub(crate) kinds: [u8; 258],

@@ -15,7 +15,8 @@ use builder::ResultBuilder;
 use scalar::order::Order;
 use scalar::value::Value;
 
-// When a row leaves: its base is null, its WHEN is true, its WHEN equals its base, or always.
+// When a row leaves: its base is null, its WHEN is true, its WHEN equals its base, or always. A closed set: the `match`es show that
+// none is left out, which closures don't.
 #[derive(Clone, Copy)]
 pub(crate) enum Leave {
     NullBase,

@@ -17,7 +17,7 @@ use scalar::types::DataType;
 use table::entry::valid_at;
 use table::places::{ColumnPlace, Table};
 
-// How a column is compared with a literal.
+// How a column is compared with a literal. A closed set: the `match`es show that none is left out, which closures don't.
 #[derive(Clone, Copy, PartialEq, Eq)]
 pub(crate) enum Comparison {
     Equal,
@@ -25,7 +25,7 @@ pub(crate) enum Comparison {
     More,
 }
 
-// A column compared with a literal: the column, and the kind and the key of the literal.
+// A column compared with a literal: the column, and the kind and the key of the literal. The kind is the byte of a slot, as `Key`'s is.
 #[derive(Clone, Copy)]
 pub(crate) struct Step {
     pub(crate) comparison: Comparison,
@@ -167,7 +167,7 @@ fn index_one(
     }
 }
 
-// The least and the greatest number that pass each of so many steps.
+// The least and the greatest number that pass each of so many steps. Moved once, never copied.
 #[derive(Drop)]
 pub(crate) struct Spans {
     pub(crate) lows: [u64; 32],
@@ -335,7 +335,8 @@ fn column_steps(
     true
 }
 
-// The index of each listed row by the branches at a place, where every WHEN is a step on one column.
+// The index of each listed row by the branches at a place, where every WHEN is a step on one column. Whether they have one
+// is a `bool`: the indices lie in the lent array, and `Option<()>` would say no more.
 pub(crate) fn step_values(
     rule: &[u8],
     at: usize,
@@ -384,6 +385,7 @@ fn column_step(
 }
 
 // The same by the WHEN at a place of the rule, where that is asked and it is a step on a column of the table: 1 where it is true, 2 where it is not.
+// Whether they have one is a `bool`, as above.
 pub(crate) fn step_when(
     asked: bool,
     rule: &[u8],

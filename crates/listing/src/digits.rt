@@ -1,4 +1,4 @@
-// Numbers in digits.
+// Numbers in digits, at places of a lent buffer (fixed memory: no `String`, so no `Display`).
 ghost use Rattle.std.specs.Prelude.{◌≡◌, ◌+◌, ◌<◌, ◌≤◌, length};
 ghost use Rattle.layout.specs.Put.{Wrote};
 ghost use Rattle.listing.specs.Listing.{places, digits, decimal, hex_bytes};

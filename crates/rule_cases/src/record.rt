@@ -31,6 +31,7 @@ fn record_agrees(s: &[u8]) -> bool {
 pub(crate) fn compare(s: &[u8]) -> Result<usize, Differs> {
     let mut at = 0;
     let mut count = 0;
+    // Not a `for`: the next record begins where this one ends.
     while at < s.len() {
         let size = record_size(&s[at..]);
         if s.len() - at < size {

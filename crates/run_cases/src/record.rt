@@ -76,6 +76,7 @@ pub(crate) fn replay(
         first: None,
     };
     let mut rest = s;
+    // Not a `for`: the next record begins where this one ends.
     while !rest.is_empty() {
         let Some((case, behind)) = first_record(rest) else {
             return counted(t, false);
