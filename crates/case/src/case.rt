@@ -6,10 +6,9 @@ ghost use Rattle.case.specs.Evaluation.{Framed, Done, ExprRight, UnaryRight, Bin
 ghost use Rattle.case.specs.Results.{ThenRight, ElseRight};
 
 use crate::binary::{compare_rows, compare_value};
-use crate::case_values::CASE;
-use crate::cells::{COLUMN, cells_or_null, fill_cells};
+use crate::cells::{cells_or_null, fill_cells};
 use crate::column_lookup::lookup_values;
-use crate::literal::{LITERAL, fill_literal, scalar_rows};
+use crate::literal::{fill_literal, scalar_rows};
 use crate::literal_lookup_table::look_up;
 use crate::merge::else_values;
 use crate::results::start_results;
@@ -21,6 +20,7 @@ use builder::ResultBuilder;
 use layout::number::byte_at;
 use rule::literal::literal_value;
 use rule::strategy::{Strategy, strategy_at};
+use rule::tag::{CASE, COLUMN, LESS, LITERAL};
 use rule::type_of::type_of;
 use rule::walk::{children_at, field_end};
 use scalar::types::DataType;
@@ -93,7 +93,7 @@ fn binary(
 {
     let at = children_at(rule, start);
     let middle = field_end(rule, at);
-    let less = byte_at(rule, start) == 24;
+    let less = byte_at(rule, start) == LESS;
     expr(rule, at, middle, table, t, work, n, depth);
     against(rule, middle, end, table, t, work, n, less, depth);
 }

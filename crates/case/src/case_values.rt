@@ -10,11 +10,9 @@ use crate::rows::ROWS_MOST;
 use crate::steps::step_values;
 use layout::number::byte_at;
 use rule::strategy::{Strategy, strategy_at};
+use rule::tag::CASE;
 use rule::walk::{children_at, field_end};
 use table::places::Table;
-
-// A CASE's tag.
-pub(crate) const CASE: u8 = 25;
 
 // The index of each listed row by steps, and where the branches stand; none where they are no steps.
 fn case_steps(

@@ -9,9 +9,6 @@ use layout::number::byte_at;
 use scalar::value::Value;
 use table::places::Table;
 
-// A column's tag.
-pub(crate) const COLUMN: u8 = 16;
-
 // The entry of a column at each listed row; null where the table has no such column.
 pub(crate) fn fill_cells(table: &[u8], t: Table, column: u8, work: &mut [u8], n: usize)
     requires { Fillable work.old n × (length table.now < 2 ^ 32) }

@@ -17,6 +17,7 @@ use crate::slot::word;
 use crate::when_literal_index_map::WhenLiteralIndexMap;
 use layout::number::byte_at;
 use layout::part::part_of;
+use rule::tag::COLUMN;
 use rule::walk::field_end;
 use scalar::types::DataType;
 use table::entry::{row_u32, valid_at};
@@ -256,7 +257,7 @@ pub(crate) fn lookup_values(
     requires table_len_bound { length table.now < 2 ^ 32 }
     ensures { KeyedGive rule.now at end table.now t count work.now n result values.new }
 {
-    if byte_at(rule, at) != 16 {
+    if byte_at(rule, at) != COLUMN {
         return false;
     }
     let column = byte_at(rule, at + 3) as usize;

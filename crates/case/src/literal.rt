@@ -9,9 +9,6 @@ use rule::type_of::type_of;
 use rule::walk::field_end;
 use scalar::try_cast::try_cast;
 
-// A literal's tag.
-pub(crate) const LITERAL: u8 = 17;
-
 // The literal at a place of the rule at each listed row.
 pub(crate) fn fill_literal(rule: &[u8], start: usize, end: usize, work: &mut [u8], n: usize)
     requires { Fillable work.old n }

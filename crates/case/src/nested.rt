@@ -5,12 +5,12 @@ ghost use Rattle.case.specs.Frame.{Rows, Listed};
 ghost use Rattle.case.specs.Evaluation.{Framed};
 ghost use Rattle.case.specs.Classes.{all_of_kind, BlockCopied, BlockRead, NestedResults, Grown, Numbered, CaseClassed, ThenClassed, ThensAsk, ThensClassed};
 
-use crate::case_values::{CASE, branches_at, case_values};
-use crate::literal::LITERAL;
+use crate::case_values::{branches_at, case_values};
 use crate::results::Results;
 use crate::rows::{ROWS_MOST, row_at};
 use crate::taking::pick;
 use layout::number::byte_at;
+use rule::tag::{CASE, LITERAL};
 use rule::type_of::type_of;
 use rule::walk::{children_at, field_end};
 use scalar::types::DataType;

@@ -4,11 +4,11 @@ ghost use Rattle.std.specs.Prelude.{◌≡◌, ◌≤◌, length};
 ghost use Rattle.case.specs.Frame.{Fillable, Filled};
 ghost use Rattle.case.specs.Results.{StartRight, ThensRead, ResultsRead, PutBy};
 
-use crate::literal::LITERAL;
 use crate::rows::{ROWS_MOST, row_at};
 use crate::slot::put_parts;
 use layout::number::byte_at;
 use rule::literal::literal_value;
+use rule::tag::LITERAL;
 use rule::walk::field_end;
 use scalar::try_cast::try_cast;
 use scalar::types::DataType;

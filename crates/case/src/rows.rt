@@ -11,6 +11,7 @@ use crate::casting::cast_rows;
 use crate::slot::{get_slot, put_slot, wide};
 use crate::truth::choose;
 use layout::number::byte_at;
+use rule::tag::{CAST, IS_NOT_NULL, NEGATIVE, TRY_CAST};
 use rule::type_of::type_numbered;
 use scalar::is_not_null::is_not_null;
 use scalar::negative::negative;
@@ -39,10 +40,10 @@ pub(crate) fn operator_at(rule: &[u8], start: usize) -> Op
         return Op::Not;
     }
     match rule[start] {
-        19 => Op::Negative,
-        20 => Op::IsNotNull,
-        21 => Op::Cast(type_numbered(byte_at(rule, start + 3))),
-        22 => Op::TryCast(type_numbered(byte_at(rule, start + 3))),
+        NEGATIVE => Op::Negative,
+        IS_NOT_NULL => Op::IsNotNull,
+        CAST => Op::Cast(type_numbered(byte_at(rule, start + 3))),
+        TRY_CAST => Op::TryCast(type_numbered(byte_at(rule, start + 3))),
         _ => Op::Not,
     }
 }

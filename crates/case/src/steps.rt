@@ -11,6 +11,7 @@ use crate::rows::{ROWS_MOST, row_at};
 use layout::number::byte_at;
 use layout::part::part_of;
 use rule::literal::literal_value;
+use rule::tag::{COLUMN, EQUAL, LESS, LITERAL};
 use rule::walk::{children_at, field_end};
 use scalar::order::{Key, key_of};
 use scalar::types::DataType;
@@ -83,10 +84,10 @@ fn step_between(
 ) -> Option<Step>
     ensures { IfSome result (SidesGive rule.now (comparison_tag comparison) at literal end) }
 {
-    if byte_at(rule, at) != 16 {
+    if byte_at(rule, at) != COLUMN {
         return None;
     }
-    if byte_at(rule, literal) != 17 {
+    if byte_at(rule, literal) != LITERAL {
         return None;
     }
     step_of(
@@ -101,13 +102,13 @@ fn step_at(rule: &[u8], start: usize, end: usize) -> Option<Step>
     ensures { IfSome result (StepGives rule.now start end) }
 {
     let comparison = match byte_at(rule, start) {
-        23 => Comparison::Equal,
-        24 => Comparison::Less,
+        EQUAL => Comparison::Equal,
+        LESS => Comparison::Less,
         _ => return None,
     };
     let at = children_at(rule, start);
     let middle = field_end(rule, at);
-    if byte_at(rule, at) != 17 {
+    if byte_at(rule, at) != LITERAL {
         return step_between(rule, comparison, at, middle, end);
     }
     match comparison {

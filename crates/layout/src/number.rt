@@ -93,7 +93,8 @@ pub fn read_u64(s: &[u8], at: usize) -> u64
     cut_u64(s, at)
 }
 
-// Writes a number into the two bytes at a place and says true; where they don't fit, changes nothing and says false.
+// Writes a number into the two bytes at a place and says true; where they don't fit, changes nothing and says false. Of each width one: the
+// types differ, and each is a line over `put_part`.
 pub fn write_u16(s: &mut [u8], at: usize, n: u16) -> bool
     ensures { Written 2 s.old at n result s.new }
 {

@@ -12,6 +12,7 @@ pub fn part_of(s: &[u8], from: usize, to: usize) -> &[u8]
 }
 
 // The bytes, written into the part of a slice at a place where they fit, and whether they do. All else stays as it was.
+// A `bool`: what is written lies in the lent slice, and `Option<()>` would say no more.
 pub fn put_part(s: &mut [u8], at: usize, bytes: &[u8]) -> bool
     ensures { PartWritten s.old at bytes.now result s.new }
 {

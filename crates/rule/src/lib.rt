@@ -13,7 +13,7 @@ pub mod projection;
 pub mod read;
 pub mod seen;
 pub mod strategy;
-pub(crate) mod tag;
+pub mod tag;
 pub mod type_of;
 pub(crate) mod types;
 pub mod walk;

@@ -44,7 +44,7 @@ impl<'a> Node<'a> {
     }
 }
 
-// What reading a rule found: its type, and the columns met.
+// What reading a rule found: its type, and the columns met. Moved once, never copied.
 #[derive(Drop)]
 pub(crate) struct RuleFound {
     pub(crate) result: DataType,

@@ -19,7 +19,7 @@ use layout::part::part_of;
 use layout::refusal::Refusal;
 use scalar::types::DataType;
 
-// What an evaluation takes from a rule: the result's type, the nullability answer, and the columns met.
+// What an evaluation takes from a rule: the result's type, the nullability answer, and the columns met. Moved once, never copied.
 #[derive(Drop)]
 pub struct RuleReading {
     pub result: DataType,

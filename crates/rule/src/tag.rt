@@ -1,20 +1,20 @@
-// The tags of a rule's fields.
-pub(crate) const COLUMN: u8 = 16;
+// The tags of a rule's fields. Numbers with names and no enum: the walks are total on any bytes, and their definitions speak of the byte.
+pub const COLUMN: u8 = 16;
 
-pub(crate) const LITERAL: u8 = 17;
+pub const LITERAL: u8 = 17;
 
-pub(crate) const NOT: u8 = 18;
+pub const NOT: u8 = 18;
 
-pub(crate) const NEGATIVE: u8 = 19;
+pub const NEGATIVE: u8 = 19;
 
-pub(crate) const IS_NOT_NULL: u8 = 20;
+pub const IS_NOT_NULL: u8 = 20;
 
-pub(crate) const CAST: u8 = 21;
+pub const CAST: u8 = 21;
 
-pub(crate) const TRY_CAST: u8 = 22;
+pub const TRY_CAST: u8 = 22;
 
-pub(crate) const EQUAL: u8 = 23;
+pub const EQUAL: u8 = 23;
 
-pub(crate) const LESS: u8 = 24;
+pub const LESS: u8 = 24;
 
-pub(crate) const CASE: u8 = 25;
+pub const CASE: u8 = 25;

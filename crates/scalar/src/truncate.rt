@@ -54,7 +54,7 @@ fn whole_number(bits: u64, below: u32) -> Option<u64>
     Some(limit - m + limit)
 }
 
-// Float64 to Int32.
+// Float64 to Int32. With the next a line each over `whole_number`: a generic one would need a trait for the two variants.
 pub fn truncated_int32(bits: u64) -> Value
     ensures { result ≡ truncated_as Int32 bits }
 {

@@ -33,6 +33,7 @@ fn columns_from(bytes: &[u8], first: usize, rows: usize) -> Result<Table, Refusa
     let mut columns = [no_place(); 16];
     let mut count = 0;
     let mut at = first;
+    // Not a `for`: the next column begins where this one ends.
     while at < bytes.len() {
         if count == COLUMNS_MOST {
             return one_more(bytes, at);

@@ -9,7 +9,8 @@ use layout::number::read_u64;
 use scalar::text::place_text;
 use scalar::value::{Value, value_of};
 
-// How many rows there are, the work buffer with the slot of each, and the rule and the table that their texts are in.
+// How many rows there are, the work buffer with the slot of each, and the rule and the table that their texts are in. Lent on
+// and never copied.
 #[derive(Drop)]
 pub(crate) struct Rows<'a> {
     pub(crate) rule: &'a [u8],
@@ -24,7 +25,7 @@ pub(crate) struct Rows<'a> {
 }
 
 impl<'a> Rows<'a> {
-    // The kind of the value in a row's slot, one byte.
+    // The kind of the value in a row's slot, one byte (fixed memory: a slot is a byte of kind and eight of payload).
     pub(crate) fn kind(&self, row: usize) -> u8
         requires { row < self.now.count }
         ensures { result ≡ slot_kind self.now.work.now row }

@@ -5,11 +5,11 @@ use Rattle.case.proofs.StepLaws.{tag_inside}
 use Rattle.rule.proofs.WalkLaws.{end_gives}
 use Rattle.case.proofs.column_lookup.lookup_values.Goals as goal
 
-pub returns-then-byte_at-ne16 : goal.returns-then-byte_at-ne16
-returns-then-byte_at-ne16 c = keyed_refused
+pub returns-then-byte_at-ne-COLUMN : goal.returns-then-byte_at-ne-COLUMN
+returns-then-byte_at-ne-COLUMN c = keyed_refused
 
 pub overflow_add-at : goal.overflow_add-at
-overflow_add-at c = omega (arith, tag_inside c.args.rule.now c.args.at c.byte_at.result c.byte_at.ensures c.if-byte_at-ne16.false)
+overflow_add-at c = omega (arith, tag_inside c.args.rule.now c.args.at c.byte_at.result c.byte_at.ensures c.if-byte_at-ne-COLUMN.false)
 
 pub returns-in_default : goal.returns-in_default
 returns-in_default c = keyed_refused
@@ -18,4 +18,4 @@ pub returns-then-count-gt-BRANCHES_MOST : goal.returns-then-count-gt-BRANCHES_MO
 returns-then-count-gt-BRANCHES_MOST c = keyed_refused
 
 pub returns : goal.returns
-returns c = keyed_gives c.byte_at.ensures c.if-byte_at-ne16.false c.byte_at-column.ensures c.in-Some.ensures (end_gives c.field_end-first.ensures) c.base_values.ensures
+returns c = keyed_gives c.byte_at.ensures c.if-byte_at-ne-COLUMN.false c.byte_at-column.ensures c.in-Some.ensures (end_gives c.field_end-first.ensures) c.base_values.ensures

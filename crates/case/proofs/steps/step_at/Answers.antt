@@ -6,8 +6,8 @@ use Rattle.rule.proofs.WalkLaws.{children_gives, end_gives}
 use Rattle.case.proofs.steps.step_at.Goals as goal
 use Rattle.case.proofs.steps.step_at.Goals.{in-23, in-24}
 
-pub returns-then-byte_at-ne17 : goal.returns-then-byte_at-ne17
-returns-then-byte_at-ne17 c =
+pub returns-then-byte_at-ne-LITERAL : goal.returns-then-byte_at-ne-LITERAL
+returns-then-byte_at-ne-LITERAL c =
     let tag : comparison_tag c.match-byte_at.comparison ≡ c.byte_at.result = elim c.match-byte_at.branch [ in-23 w ↦ ap comparison_tag w.comparison-is ∙ sym w.in-23.is | in-24 w ↦ ap comparison_tag w.comparison-is ∙ sym w.in-24.is ] in
     step_column c.args.end (tag ∙ c.byte_at.ensures) (children_gives c.children_at-at.ensures) (end_gives c.field_end-middle.ensures) c.step_between.result
     (elim c.match-byte_at.branch [ in-23 w ↦ inl (ap comparison_tag w.comparison-is) | in-24 w ↦ inr (ap comparison_tag w.comparison-is) ]) c.step_between.ensures
