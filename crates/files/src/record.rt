@@ -1,6 +1,7 @@
 // Records of runs: the lengths of the rule, the table, the work buffer, the output and what is wanted, four bytes each, then the rule, the table
 // and what is wanted.
-ghost use Rattle.std.specs.Prelude.{◌<◌, length, IfSome};
+ghost use Rattle.std.specs.Prelude.{◌<◌, length, IfSome, IfNone};
+ghost use Rattle.files.specs.Records.{record_end, RecordRead};
 
 use layout::number::read_u32;
 
@@ -19,7 +20,9 @@ const HEAD: usize = 20;
 
 // The record at the start of a slice, and the bytes behind it; none where it is cut off.
 pub fn first_record(s: &[u8]) -> Option<(Record<'_>, &[u8])>
-    ensures { IfSome result (λ p. length p.1.now < length s.now) }
+    ensures record { IfSome result (λ p. RecordRead s.now p.0 p.1.now) }
+    ensures shorter { IfSome result (λ p. length p.1.now < length s.now) }
+    ensures cut { IfNone result (length s.now < record_end s.now) }
 {
     let table_at = HEAD + read_u32(s, 0) as usize;
     let want_at = table_at + read_u32(s, 4) as usize;
