@@ -1,8 +1,8 @@
 #!/usr/bin/env python3
 """check_bit_positions.py: no division and no remainder by 8 is in the crates' code and in the header, and none at all where a bit is reached.
 
-Byte and bit position of a row come from a shift and a mask (document 02, change 4). Comments are not looked at, nor the library's `div_ceil`;
-the definitions in specs/ say quotient and remainder. Prints each place and ends with status 1 where there is one.
+Byte and bit position of a row come from a shift and a mask (document 02, change 4). Comments are not looked at; the definitions in specs/ say
+quotient and remainder. Prints each place and ends with status 1 where there is one.
 """
 import pathlib
 import re
