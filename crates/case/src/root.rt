@@ -1,6 +1,6 @@
 // The classes of a table's rows by the root CASE, without slots: where its rows have their indices from columns, and every result is a number literal or, as a
 // THEN, a CASE of which the same holds.
-ghost use Rattle.std.specs.Prelude.{◌≡◌, ◌≤◌, true, length, IfSome};
+ghost use Rattle.std.specs.Prelude.{◌≡◌, ℕ, ◌≤◌, true, length, slice_index, IfSome};
 ghost use Rattle.scalar.specs.Types.{type_number};
 ghost use Rattle.case.specs.Classes.{RootAsks, RootRead, ClassesGive};
 
@@ -36,7 +36,8 @@ pub(crate) fn class_rows(
     if !is_number(res) {
         return None;
     }
-    let (place, mut results) = root_results(rule, res)?;
+    let mut results = Results::none();
+    let place = root_results(rule, res, &mut results)?;
     if case_values(rule, 0, rule.len(), table, t, work, t.rows, classes) != Some(place) {
         return None;
     }
@@ -57,19 +58,20 @@ pub(crate) fn class_rows(
     None
 }
 
-// Where the root CASE's branches stand, and the literals among its results; none where ELSE is no literal of the kind or the rows have no classes by the tags.
-fn root_results(rule: &[u8], res: DataType) -> Option<(usize, Results)>
-    ensures { IfSome result (λ r. RootRead rule.now (type_number res) r.0 r.1.kinds r.1.payloads) }
+// The literals among the root CASE's results, and where its branches stand; none where ELSE is no literal of the kind or the rows have no classes by the tags.
+fn root_results(rule: &[u8], res: DataType, results: &mut Results) -> Option<usize>
+    requires { (i : ℕ) → slice_index results.old.kinds i ≡ 0 }
+    ensures { IfSome result (λ place. RootRead rule.now (type_number res) place results.new.kinds results.new.payloads) }
 {
     let at = children_at(rule, 0);
     let place = branches_at(rule, 0, at);
     let count = byte_at(rule, 4) as usize;
-    let results = Results::read(rule, place, rule.len(), count, type_of(rule, 0));
+    results.read(rule, place, rule.len(), count, type_of(rule, 0));
     if results.kinds[count + 1] != res.number() {
         return None;
     }
-    if may_class(rule, place, count, &results, res) {
-        return Some((place, results));
+    if may_class(rule, place, count, results, res) {
+        return Some(place);
     }
     None
 }
