@@ -74,7 +74,8 @@ fn is_text(rule: &[u8], table: &[u8], text: &[u8], kind: u8, payload: u64) -> bo
 }
 
 impl WhenLiteralIndexMap {
-    // The index of the first key that is a text of these bytes, or the ELSE index.
+    // The index of the first key that is a text of these bytes, or the ELSE index. A part of each loop over rows that asks it.
+    #[inline(always)]
     pub(crate) fn find_text(&self, rule: &[u8], table: &[u8], text: &[u8]) -> usize
         ensures { result ≡ key_index rule.now table.now self.now.kinds self.now.keys self.now.indices self.now.size self.now.else_index (entry (utf8 text.now)) }
     {
