@@ -171,13 +171,15 @@ impl TextMarks {
     fn read(rule: &[u8], whens: &WhenLiteralIndexMap) -> TextMarks
         ensures { Marked rule.now whens.now.kinds whens.now.keys result.sizes result.marks }
     {
-        let mut sizes = [0u8; 32];
-        let mut marks = [0u64; 32];
+        let mut read = TextMarks {
+            sizes: [0; 32],
+            marks: [0; 32],
+        };
         for k in 0..whens.size {
-            sizes[k] = key_size(rule, whens.kinds[k], whens.keys[k]) as u8;
-            marks[k] = key_mark(rule, whens.keys[k]);
+            read.sizes[k] = key_size(rule, whens.kinds[k], whens.keys[k]) as u8;
+            read.marks[k] = key_mark(rule, whens.keys[k]);
         }
-        TextMarks { sizes, marks }
+        read
     }
 
     // Whether a text of four bytes or more has the size and the mark of a key.
