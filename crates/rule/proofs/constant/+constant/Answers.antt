@@ -1,7 +1,7 @@
 -- The cycle of calls that works out a node without reading a column. The measure is eight times the depth that is left, and how far a call is
 -- from the next node. The loop's invariant: the branches that are left stand at the place and give what all give.
 use borrow.Author.Rules.{rules}
-use mathlib.Core.Path.{refl, sym, ap, ◌∙◌}
+use mathlib.Core.Path.{refl, ap}
 use native.Mathlib.Omega.{arith}
 use Rattle.scalar.proofs.CompareLaws.{equal_both}
 use Rattle.scalar.proofs.OperationLaws.{try_cast_gives}
