@@ -159,7 +159,8 @@ fn read_parts(
     )
 }
 
-// A part that may be absent: absent, it is as a null literal of type Boolean.
+// A part that may be absent: absent, it is as a null literal of type Boolean. A part of read_parts, which asks it twice: else one of the two is a call.
+#[inline(always)]
 #[cycle(read)]
 fn read_optional(
     s: &[u8],
