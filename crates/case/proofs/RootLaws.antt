@@ -1,5 +1,5 @@
 -- The classes of a table's rows by the root CASE: the outcome of a row is the literal of its class. Assumes nothing.
-use Rattle.std.proofs.Common.{◌≡◌, ℕ, ◌+◌, ◌<◌, ◌≤◌, Bool, true, List, length, get_or, sym, ap, ◌∙◌, subst, inr, arith, Option, Some, None}
+use Rattle.std.proofs.Common.{◌≡◌, ℕ, ◌+◌, ◌<◌, ◌≤◌, Bool, true, false, if◌then◌else◌, List, length, get_or, refl, sym, ap, ◌∙◌, subst, inr, arith, Option, Some, None}
 use Rattle.layout.specs.Bytes.{byte}
 use Rattle.scalar.specs.declared.types.DataType.{DataType}
 use Rattle.scalar.specs.Types.{type_number}
@@ -89,3 +89,14 @@ module _ {rule table : List ℕ} {t : Table} {w classes kinds payloads : List �
           ∙ (thens.here is_given i (root_listed asks i l)).means tree.bs (optional_trees tree.els) (length rule) (eval_else tree.els row results.type) trees many
           (λ j b k. read.held tree.bs tree.els 7 row table trees many j b (inr (λ z. omega arith)))
           ∙ sym (tree.outcome results.type results.type_is)
+
+-- whether there are classes, by a Boolean
+pub classes_if : {rule table w w' classes : List ℕ} {t : Table} {result : DataType} {rs : Results} (found : Bool) → (found ≡ true → ClassesGive rule table t result w (Some rs) w' classes)
+    → ClassesGive rule table t result w None w' classes → ClassesGive rule table t result w (if found then Some rs else None) w' classes
+classes_if true some none = some refl
+classes_if false some none = none
+
+-- where there are, those of the literals
+pub classes_found : {rule table w w' classes : List ℕ} {t : Table} {result : DataType} {rs : Results} {found : Bool} → found ≡ true
+    → ClassesGive rule table t result w (if found then Some rs else None) w' classes → ClassesGive rule table t result w (Some rs) w' classes
+classes_found {rule} {table} {w} {w'} {classes} {t} {result} {rs} is give = subst (λ (b : Bool). ClassesGive rule table t result w (if b then Some rs else None) w' classes) is give

@@ -1,6 +1,5 @@
 -- Loops over the listed rows of the work buffer: one row a turn. Assumes nothing.
-use Rattle.std.proofs.Common.{◌≡◌, ℕ, ◌+◌, ◌-◌, ◌*◌, ◌<◌, ◌≤◌, List, length, sym, refl, ap, ◌∙◌, subst, inl, ⊎_elim, arith, ◌++◌, take, drop, length-append, length-drop, length-take-le}
-use Rattle.std.proofs.lemmas.List.{get_or-take, get_or-drop, get_or_append_left, get_or-append_right}
+use Rattle.std.proofs.Common.{◌≡◌, ℕ, ◌+◌, ◌*◌, ◌<◌, ◌≤◌, List, length, set, sym, refl, ap, ◌∙◌, subst, inl, ⊎_elim, arith, length-set, get_or-set_other, get_or-set_same}
 use native.Mathlib.Decide.{ℕ_discrete}
 use Rattle.layout.specs.Bytes.{byte}
 use Rattle.scalar.specs.declared.value.Value.{Value}
@@ -124,40 +123,45 @@ module _ {right : ℕ → Value → Type 0} {w : List ℕ} {n i : ℕ} {m : List
     pub next : {v : Value} {m' : List ℕ} → SlotPut m r v m' → right r v → FilledSoFar right w n (i + 1) m'
     next = next_from s (own ok) more e
 
--- ---- a list, copied behind it: the bytes before, the list, and what stands behind
+-- ---- a list, copied behind it byte by byte
 
-pub copied : {w : List ℕ} {n from to m : ℕ} (front part rest : List ℕ) → (from + 2 * n ≤ to) × (to + 2 * n ≤ length w) → front ≡ take to w → m ≡ 2 * n → part ≡ take m (drop from front)
-    → length (part ++ rest) ≡ length w - to → Copied w n from to (front ++ (part ++ rest))
-copied {w} {n} {from} {to} {m} front part rest ask is size part_is left = record {
-  long = length-append front (part ++ rest) ∙ omega (arith, front_long, left);
-  rows_copied = λ k h. number_same 2 w' w (to + 2 * k) (from + 2 * k) (λ j b. byte_at k h j b);
-  before = λ j h. get_or_append_left front (part ++ rest) 0 j (omega (arith, front_long)) ∙ front_at j h;
+-- where the loop stands: i bytes are copied
+pub record CopiedSoFar (w : List ℕ) (n from to i : ℕ) (w' : List ℕ) : Type 0 where
+  pub few : i ≤ 2 * n
+  pub long : length w' ≡ length w
+  pub bytes_copied : (k : ℕ) → k < i → byte w' (to + k) ≡ byte w (from + k)
+  pub before : (j : ℕ) → j < to → byte w' j ≡ byte w j
+
+pub copied_none : {w : List ℕ} {n from to : ℕ} → CopiedSoFar w n from to 0 w
+copied_none = record { few = omega arith; long = refl; bytes_copied = λ k h. absurd (omega arith); before = λ j h. refl }
+
+pub copied_more : {w : List ℕ} {n from to i : ℕ} {m : List ℕ} → CopiedSoFar w n from to i m → from + 2 * n ≤ to → to + 2 * n ≤ length w → i < 2 * n
+    → CopiedSoFar w n from to (i + 1) (set m (to + i) (byte m (from + i)))
+copied_more {w} {n} {from} {to} {i} {m} s apart room more = record {
+  few = omega arith;
+  long = length-set m (to + i) (byte m (from + i)) ∙ s.long;
+  bytes_copied = λ k h. copied_at k h (ℕ_discrete k i);
+  before = λ j h. get_or-set_other m (to + i) j (byte m (from + i)) 0 (λ e. omega arith) ∙ s.before j h;
 }
   where
-    w' : List ℕ
-    w' = front ++ (part ++ rest)
+    copied_at : (k : ℕ) → k < i + 1 → Dec (k ≡ i) → byte (set m (to + i) (byte m (from + i))) (to + k) ≡ byte w (from + k)
+    copied_at k h (yes e) =
+        subst (λ (x : ℕ). byte (set m (to + i) (byte m (from + i))) (to + x) ≡ byte w (from + x)) (sym e)
+        (get_or-set_same m (to + i) (byte m (from + i)) 0 (omega (arith, s.long)) ∙ s.before (from + i) (omega arith))
+    copied_at k h (no e) = get_or-set_other m (to + i) (to + k) (byte m (from + i)) 0 (λ p. e (omega arith)) ∙ s.bytes_copied k (omega arith)
 
-    front_long : length front ≡ to
-    front_long = ap length is ∙ length-take-le to w (omega arith)
-
-    part_long : length part ≡ 2 * n
-    part_long = ap length part_is ∙ length-take-le m (drop from front) (omega (arith, length-drop from front, front_long)) ∙ size
-
-    front_at : (j : ℕ) → j < to → byte front j ≡ byte w j
-    front_at j h = ap (λ (l : List ℕ). byte l j) is ∙ get_or-take to w j 0 h
-
+pub copied_all : {w : List ℕ} {n from to i : ℕ} {w' : List ℕ} → CopiedSoFar w n from to i w' → 2 * n ≤ i → Copied w n from to w'
+copied_all {w} {n} {from} {to} {i} {w'} s all = record {
+  long = s.long;
+  rows_copied = λ k h. number_same 2 w' w (to + 2 * k) (from + 2 * k) (λ j b. byte_at k h j b);
+  before = s.before;
+}
+  where
     byte_at : (k : ℕ) → k < n → (j : ℕ) → j < 2 → byte w' (to + 2 * k + j) ≡ byte w (from + 2 * k + j)
     byte_at k h j b =
-        let p : to + 2 * k + j - to ≡ 2 * k + j = omega arith in
+        let p : to + 2 * k + j ≡ to + (2 * k + j) = omega arith in
         let q : from + (2 * k + j) ≡ from + 2 * k + j = omega arith in
-        get_or-append_right front (part ++ rest) to (to + 2 * k + j) 0 front_long (omega arith)
-        ∙ ap (byte (part ++ rest)) p
-        ∙ get_or_append_left part rest 0 (2 * k + j) (omega (arith, part_long))
-        ∙ ap (λ (l : List ℕ). byte l (2 * k + j)) part_is
-        ∙ get_or-take m (drop from front) (2 * k + j) 0 (omega arith)
-        ∙ get_or-drop from front (2 * k + j) 0
-        ∙ front_at (from + (2 * k + j)) (omega arith)
-        ∙ ap (byte w) q
+        ap (byte w') p ∙ s.bytes_copied (2 * k + j) (omega arith) ∙ ap (byte w) q
 
 -- ---- all rows, put in the frame's own list
 

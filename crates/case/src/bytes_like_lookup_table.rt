@@ -74,7 +74,8 @@ fn is_text(rule: &[u8], table: &[u8], text: &[u8], kind: u8, payload: u64) -> bo
 }
 
 impl WhenLiteralIndexMap {
-    // The index of the first key that is a text of these bytes, or the ELSE index.
+    // The index of the first key that is a text of these bytes, or the ELSE index. A part of each loop over rows that asks it.
+    #[inline(always)]
     pub(crate) fn find_text(&self, rule: &[u8], table: &[u8], text: &[u8]) -> usize
         ensures { result ≡ key_index rule.now table.now self.now.kinds self.now.keys self.now.indices self.now.size self.now.else_index (entry (utf8 text.now)) }
     {
@@ -170,13 +171,15 @@ impl TextMarks {
     fn read(rule: &[u8], whens: &WhenLiteralIndexMap) -> TextMarks
         ensures { Marked rule.now whens.now.kinds whens.now.keys result.sizes result.marks }
     {
-        let mut sizes = [0u8; 32];
-        let mut marks = [0u64; 32];
+        let mut read = TextMarks {
+            sizes: [0; 32],
+            marks: [0; 32],
+        };
         for k in 0..whens.size {
-            sizes[k] = key_size(rule, whens.kinds[k], whens.keys[k]) as u8;
-            marks[k] = key_mark(rule, whens.keys[k]);
+            read.sizes[k] = key_size(rule, whens.kinds[k], whens.keys[k]) as u8;
+            read.marks[k] = key_mark(rule, whens.keys[k]);
         }
-        TextMarks { sizes, marks }
+        read
     }
 
     // Whether a text of four bytes or more has the size and the mark of a key.

@@ -73,14 +73,22 @@ fn truncate_rows(work: &mut [u8], n: usize, short: bool, tried: bool) -> usize
     n
 }
 
-// The same by the type; no row where it is no integer's.
+// The same by the type; no row where it is no integer's. Each call names its constants: the compiler makes a loop for each.
 fn truncate_floats(work: &mut [u8], n: usize, to: DataType, tried: bool) -> usize
     requires { Fillable work.old n }
     ensures { (result ≤ n) × Filled (λ q x. Gives (operation_of (cast_to tried to)) (slot_at work.old q) x) work.old result work.new }
 {
     match to {
-        DataType::Int32 => truncate_rows(work, n, true, tried),
-        DataType::Int64 => truncate_rows(work, n, false, tried),
+        DataType::Int32 => if tried {
+            truncate_rows(work, n, true, true)
+        } else {
+            truncate_rows(work, n, true, false)
+        },
+        DataType::Int64 => if tried {
+            truncate_rows(work, n, false, true)
+        } else {
+            truncate_rows(work, n, false, false)
+        },
         _ => 0,
     }
 }

@@ -230,7 +230,8 @@ fn base_values(
     requires few { count ≤ 32 }
     ensures { BaseGives rule.now at end table.now place count work.now n result values.new }
 {
-    let lookup = LiteralLookupTable::read(rule, at, end, table, count as usize);
+    let mut lookup = LiteralLookupTable::none(count as usize);
+    lookup.read(rule, at, end, table, count as usize);
     match place.data_type {
         DataType::Utf8 => {
             text_column(rule, table, place, &lookup.whens, work, n, values);

@@ -7,6 +7,7 @@ ghost use Rattle.case.specs.Readings.{ReadAsks, AnswerAsks, AnswerGives};
 
 use crate::case::expr;
 use crate::fits::fits_table;
+use crate::results::Results;
 use crate::root::class_rows;
 use crate::rows::{ROWS_MOST, all_rows};
 use layout::refusal::Refusal;
@@ -78,7 +79,8 @@ fn answer_rows(
     let rows = t.rows;
     all_rows(work, rows);
     let mut classes = [0u16; ROWS_MOST];
-    if let Some(results) = class_rows(rule, table, t, res, work, &mut classes) {
+    let mut results = Results::none();
+    if class_rows(rule, table, t, res, work, &mut classes, &mut results) {
         return run_of(write_classes(rows, res, nullable, &classes, &results.payloads, output));
     }
     expr(rule, 0, rule.len(), table, t, work, rows, 8);

@@ -1,6 +1,6 @@
 // CASE base WHEN literal THEN literal .. ELSE literal END, by a table of the WHENs: a row's base is searched once, and the row has the literal that stands
 // at the index found. Literals are arrays of kinds and payloads, in the order of the rule.
-ghost use Rattle.std.specs.Prelude.{◌≡◌, ◌*◌, ◌<◌, ◌≤◌};
+ghost use Rattle.std.specs.Prelude.{◌≡◌, ℕ, ◌*◌, ◌<◌, ◌≤◌, slice_index};
 ghost use Rattle.scalar.specs.Value.{meaning, value_of};
 ghost use Rattle.case.specs.Frame.{Fillable, Filled};
 ghost use Rattle.case.specs.LookUp.{LookedUp};
@@ -24,7 +24,8 @@ const FAILED: u8 = 7;
 pub(crate) const BRANCHES_MOST: u8 = 32;
 
 impl WhenLiteralIndexMap {
-    // The index of the first key that equals a value, the ELSE index, or where the value failed the one behind it.
+    // The index of the first key that equals a value, the ELSE index, or where the value failed the one behind it. A part of each loop over rows that asks it.
+    #[inline(always)]
     fn map_to_when_index(&self, rule: &[u8], table: &[u8], v: Value) -> usize
         ensures { result ≡ base_index (key_index rule.now table.now self.now.kinds self.now.keys self.now.indices self.now.size self.now.else_index) self.now.else_index (meaning rule.now table.now v) }
     {
@@ -63,7 +64,7 @@ impl WhenLiteralIndexMap {
 }
 
 // The literals of a CASE with a base: WHEN i at 2 * i, its THEN behind it, ELSE behind the last THEN, and behind ELSE a failure.
-// Moved once, never copied.
+// Filled where they stand, never copied.
 #[derive(Drop)]
 pub(crate) struct Literals {
     pub(crate) kinds: [u8; 66],
@@ -71,45 +72,53 @@ pub(crate) struct Literals {
 }
 
 impl Literals {
-    // The literals at a place, at most so many, and behind them a failure.
-    fn read(rule: &[u8], at: usize, end: usize, most: usize) -> Literals
-        requires { most < 66 }
-        ensures { LiteralsRead rule.now at end most result.kinds result.payloads }
+    // No literal yet.
+    #[inline(always)]
+    fn none() -> Literals
+        ensures { (i : ℕ) → slice_index result.kinds i ≡ 0 }
     {
-        let mut kinds = [0u8; 66];
-        let mut payloads = [0u64; 66];
-        kinds[most] = FAILED;
+        Literals {
+            kinds: [0; 66],
+            payloads: [0; 66],
+        }
+    }
+
+    // The literals at a place, at most so many, and behind them a failure.
+    fn read(&mut self, rule: &[u8], at: usize, end: usize, most: usize)
+        requires few { most < 66 }
+        requires empty { (i : ℕ) → slice_index self.old.kinds i ≡ 0 }
+        ensures { LiteralsRead rule.now at end most self.new.kinds self.new.payloads }
+    {
+        self.kinds[most] = FAILED;
         let mut place = at;
         for i in 0..most {
             if end <= place {
-                break;
+                return;
             }
             let next = field_end(rule, place);
             let v = literal_value(rule, place, next);
-            kinds[i] = kind(v);
-            payloads[i] = payload(v);
+            self.kinds[i] = kind(v);
+            self.payloads[i] = payload(v);
             place = next;
         }
-        Literals { kinds, payloads }
     }
 
     // The keys of so many WHENs.
-    fn whens(&self, rule: &[u8], table: &[u8], count: usize) -> WhenLiteralIndexMap
-        requires { count ≤ 32 }
-        ensures whens { TableOf rule.now table.now self.now.kinds self.now.payloads count (2 * count) result.kinds result.keys result.indices result.size }
-        ensures else_index { result.else_index ≡ 2 * count }
+    fn whens(&self, rule: &[u8], table: &[u8], count: usize, map: &mut WhenLiteralIndexMap)
+        requires few { count ≤ 32 }
+        requires none { (map.old.size ≡ 0) × (map.old.else_index ≡ 2 * count) }
+        ensures whens { TableOf rule.now table.now self.now.kinds self.now.payloads count (2 * count) map.new.kinds map.new.keys map.new.indices map.new.size }
+        ensures else_index { map.new.else_index ≡ 2 * count }
     {
-        let mut map = WhenLiteralIndexMap::new(2 * count);
         for when in 0..count {
             let place = 2 * when;
             let index = (place + 1) as u16;
             map.add(rule, table, self.kinds[place], self.payloads[place], index);
         }
-        map
     }
 }
 
-// The literals of a CASE with a base, and the keys of its WHENs. Moved once, never copied.
+// The literals of a CASE with a base, and the keys of its WHENs. Filled where they stand, never copied.
 #[derive(Drop)]
 pub(crate) struct LiteralLookupTable {
     pub(crate) literals: Literals,
@@ -117,21 +126,29 @@ pub(crate) struct LiteralLookupTable {
 }
 
 impl LiteralLookupTable {
-    // The literals at a place, and the keys of so many WHENs among them.
-    pub(crate) fn read(
-        rule: &[u8],
-        at: usize,
-        end: usize,
-        table: &[u8],
-        count: usize,
-    ) -> LiteralLookupTable
+    // Room for so many WHENs: no literal and no key yet.
+    #[inline(always)]
+    pub(crate) fn none(count: usize) -> LiteralLookupTable
         requires { count ≤ 32 }
-        ensures read { TableRead rule.now at end table.now count result.literals.kinds result.literals.payloads result.whens.kinds result.whens.keys result.whens.indices result.whens.size }
-        ensures else_index { result.whens.else_index ≡ 2 * count }
+        ensures empty { (i : ℕ) → slice_index result.literals.kinds i ≡ 0 }
+        ensures none { (result.whens.size ≡ 0) × (result.whens.else_index ≡ 2 * count) }
     {
-        let literals = Literals::read(rule, at, end, 2 * count + 1);
-        let whens = literals.whens(rule, table, count);
-        LiteralLookupTable { literals, whens }
+        LiteralLookupTable {
+            literals: Literals::none(),
+            whens: WhenLiteralIndexMap::new(2 * count),
+        }
+    }
+
+    // The literals at a place, and the keys of so many WHENs among them.
+    pub(crate) fn read(&mut self, rule: &[u8], at: usize, end: usize, table: &[u8], count: usize)
+        requires few { count ≤ 32 }
+        requires empty { (i : ℕ) → slice_index self.old.literals.kinds i ≡ 0 }
+        requires none { (self.old.whens.size ≡ 0) × (self.old.whens.else_index ≡ 2 * count) }
+        ensures read { TableRead rule.now at end table.now count self.new.literals.kinds self.new.literals.payloads self.new.whens.kinds self.new.whens.keys self.new.whens.indices self.new.whens.size }
+        ensures else_index { self.new.whens.else_index ≡ 2 * count }
+    {
+        self.literals.read(rule, at, end, 2 * count + 1);
+        self.literals.whens(rule, table, count, &mut self.whens);
     }
 
     // The same index, of a Boolean by the table of Boolean keys.
@@ -186,7 +203,8 @@ pub(crate) fn look_up(
     if BRANCHES_MOST < count {
         return;
     }
-    let lookup = LiteralLookupTable::read(rule, at, end, table, count as usize);
+    let mut lookup = LiteralLookupTable::none(count as usize);
+    lookup.read(rule, at, end, table, count as usize);
     let booleans = BooleanIndexMap::new(&lookup.whens);
     lookup.map_rows(rule, table, booleans, work, n);
 }

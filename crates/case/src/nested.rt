@@ -52,7 +52,8 @@ impl Results {
         requires { from + count + 3 ≤ 258 }
         ensures { Grown from self.old.kinds self.old.payloads self.new.kinds self.new.payloads × BlockRead rule.now at end count to from self.new.kinds self.new.payloads }
     {
-        let block = Results::read(rule, at, end, count, to);
+        let mut block = Results::none();
+        block.read(rule, at, end, count, to);
         self.copy_block(from, count, &block);
     }
 }

@@ -54,8 +54,13 @@ impl PrimitiveIndexMap {
         requires { (rule : List ℕ) × (table : List ℕ) × EachOnce rule table whens.now.kinds whens.now.keys whens.now.size }
         ensures { IfSome result (λ m. NumbersRead whens.now.kinds whens.now.keys whens.now.size kind m.numbers m.hints × (m.indices ≡ whens.now.indices) × (m.size ≡ whens.now.size) × (m.else_index ≡ whens.now.else_index)) }
     {
-        let mut numbers = [0u64; 32];
-        let mut hints = [0u8; 256];
+        let mut map = PrimitiveIndexMap {
+            numbers: [0; 32],
+            indices: whens.indices,
+            hints: [0; 256],
+            size: whens.size,
+            else_index: whens.else_index,
+        };
         for k in 0..whens.size {
             let Key::Number(of, number) = key_of(value_of(whens.kinds[k], whens.keys[k])) else {
                 return None;
@@ -63,16 +68,10 @@ impl PrimitiveIndexMap {
             if of != kind {
                 return None;
             }
-            numbers[k] = number;
-            hints[number_hint(number)] = (k + 1) as u8;
+            map.numbers[k] = number;
+            map.hints[number_hint(number)] = (k + 1) as u8;
         }
-        Some(PrimitiveIndexMap {
-            numbers,
-            indices: whens.indices,
-            hints,
-            size: whens.size,
-            else_index: whens.else_index,
-        })
+        Some(map)
     }
 
     // The index of the first key of this number, or the ELSE index.

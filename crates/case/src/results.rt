@@ -1,6 +1,6 @@
 // The literals among a CASE's THENs and its ELSE, put into the slots of the rows by their indices: of THEN at its index, of ELSE, cast, behind the THENs, and
 // behind that a failure; null at 0 and where there is no literal. There is room for as many branches as a byte counts (fixed memory: no heap).
-ghost use Rattle.std.specs.Prelude.{◌≡◌, ◌≤◌, length};
+ghost use Rattle.std.specs.Prelude.{◌≡◌, ℕ, ◌≤◌, length, slice_index};
 ghost use Rattle.case.specs.Frame.{Fillable, Filled};
 ghost use Rattle.case.specs.Results.{StartRight, ThensRead, ResultsRead, PutBy};
 
@@ -17,7 +17,7 @@ use scalar::value::{kind, payload};
 // The kind of a failure.
 const FAILED: u8 = 7;
 
-// The literal of each index or class, by its kind and its payload. Moved once, never copied.
+// The literal of each index or class, by its kind and its payload. Filled where it stands: to give it back by value would copy it at each level.
 #[derive(Drop)]
 pub(crate) struct Results {
     pub(crate) kinds: [u8; 258],
@@ -25,43 +25,53 @@ pub(crate) struct Results {
 }
 
 impl Results {
-    // The literals among so many THENs at a place, and where they end.
-    fn thens(rule: &[u8], at: usize, count: usize) -> (Results, usize)
-        requires { count ≤ 255 }
-        ensures { ThensRead rule.now at count count result.0.kinds result.0.payloads result.1 }
+    // No literal yet.
+    #[inline(always)]
+    pub(crate) fn none() -> Results
+        ensures { (i : ℕ) → slice_index result.kinds i ≡ 0 }
     {
-        let mut kinds = [0u8; 258];
-        let mut payloads = [0u64; 258];
+        Results {
+            kinds: [0; 258],
+            payloads: [0; 258],
+        }
+    }
+
+    // The literals among so many THENs at a place: where they end.
+    fn thens(&mut self, rule: &[u8], at: usize, count: usize) -> usize
+        requires few { count ≤ 255 }
+        requires empty { (i : ℕ) → slice_index self.old.kinds i ≡ 0 }
+        ensures { ThensRead rule.now at count count self.new.kinds self.new.payloads result }
+    {
         let mut place = at;
         for k in 1..count + 1 {
             let then = field_end(rule, place);
             let next = field_end(rule, then);
             if byte_at(rule, then) == LITERAL {
                 let v = literal_value(rule, then, next);
-                kinds[k] = kind(v);
-                payloads[k] = payload(v);
+                self.kinds[k] = kind(v);
+                self.payloads[k] = payload(v);
             }
             place = next;
         }
-        (Results { kinds, payloads }, place)
+        place
     }
 
     // The literals of so many branches at a place and of ELSE behind them, and a failure.
-    pub(crate) fn read(rule: &[u8], at: usize, end: usize, count: usize, to: DataType) -> Results
-        requires { count ≤ 255 }
-        ensures { ResultsRead rule.now at end count to result.kinds result.payloads }
+    pub(crate) fn read(&mut self, rule: &[u8], at: usize, end: usize, count: usize, to: DataType)
+        requires few { count ≤ 255 }
+        requires empty { (i : ℕ) → slice_index self.old.kinds i ≡ 0 }
+        ensures { ResultsRead rule.now at end count to self.new.kinds self.new.payloads }
     {
-        let (mut results, place) = Results::thens(rule, at, count);
-        results.kinds[count + 2] = FAILED;
+        let place = self.thens(rule, at, count);
+        self.kinds[count + 2] = FAILED;
         if place == end {
-            return results;
+            return;
         }
         if byte_at(rule, place) == LITERAL {
             let v = try_cast(to, literal_value(rule, place, end));
-            results.kinds[count + 1] = kind(v);
-            results.payloads[count + 1] = payload(v);
+            self.kinds[count + 1] = kind(v);
+            self.payloads[count + 1] = payload(v);
         }
-        results
     }
 
     // The value at each listed row's index, in the row's slot.
@@ -95,6 +105,7 @@ pub(crate) fn start_results(
     requires { Fillable work.old n }
     ensures { Filled (StartRight rule.now at end count to values.now) work.old n work.new }
 {
-    let results = Results::read(rule, at, end, count as usize, to);
+    let mut results = Results::none();
+    results.read(rule, at, end, count as usize, to);
     results.put(work, n, values);
 }

@@ -77,13 +77,14 @@ pub(crate) fn all_rows(work: &mut [u8], n: usize)
     }
 }
 
-// The first n rows of the list at a place, to another behind it.
+// The first n rows of the list at a place, to another behind it. Byte by byte: `copy_from_slice` would need `memmove` from outside the archive for C.
 pub(crate) fn copy_list(work: &mut [u8], n: usize, from: usize, to: usize)
     requires { (from + 2 * n ≤ to) × (to + 2 * n ≤ length work.old) }
     ensures { Copied work.old n from to work.new }
 {
-    let (front, back) = work.split_at_mut(to);
-    back[..2 * n].copy_from_slice(&front[from..from + 2 * n]);
+    for i in 0..2 * n {
+        work[to + i] = work[from + i];
+    }
 }
 
 // A value in the slot of each listed row, by the row.

@@ -183,8 +183,11 @@ impl Spans {
         requires { count ≤ 32 }
         ensures { IfSome result (λ s. SpansRead rule.now at count column kind s.lows s.highs × (s.count ≡ count)) }
     {
-        let mut lows = [0u64; 32];
-        let mut highs = [0u64; 32];
+        let mut spans = Spans {
+            lows: [0; 32],
+            highs: [0; 32],
+            count,
+        };
         let mut place = at;
         for k in 0..count {
             let then = field_end(rule, place);
@@ -197,11 +200,11 @@ impl Spans {
             if s.kind != kind {
                 return None;
             }
-            lows[k] = s.low();
-            highs[k] = s.high();
+            spans.lows[k] = s.low();
+            spans.highs[k] = s.high();
             place = field_end(rule, then);
         }
-        Some(Spans { lows, highs, count })
+        Some(spans)
     }
 
     // The span of one step.

@@ -17,6 +17,7 @@ pub(crate) struct WhenLiteralIndexMap {
 
 impl WhenLiteralIndexMap {
     // No key yet.
+    #[inline(always)]
     pub(crate) fn new(else_index: usize) -> Self
         requires { else_index ≤ 64 }
         ensures { (result.size ≡ 0) × (result.else_index ≡ else_index) }

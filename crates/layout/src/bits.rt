@@ -37,7 +37,8 @@ pub fn bit_at(map: &[u8], row: usize) -> bool
 pub fn bitmap_length(rows: usize) -> usize
     ensures { result ≡ bitmap_length rows }
 {
-    rows.div_ceil(8)
+    let whole = rows >> 3;
+    if rows & 7 == 0 { whole } else { whole + 1 }
 }
 
 // How many bits of a byte are set.

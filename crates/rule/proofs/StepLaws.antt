@@ -1,5 +1,5 @@
 -- Steps of the reading beside their definitions. Assumes nothing.
-use Rattle.std.specs.Prelude.{Option, None, ok_or, IsErrAnd, Result as RustResult, Ok, Err}
+use Rattle.std.specs.Prelude.{Option, None, ok_or, Result as RustResult, Ok, Err}
 use mathlib.Core.Path.{◌≡◌, refl, ap, sym, subst, ◌∙◌}
 use mathlib.Core.Bool.{Bool, true, false, cond}
 use mathlib.Core.List.{List, [], ◌∷◌}

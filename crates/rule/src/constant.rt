@@ -94,9 +94,12 @@ fn constant_node(masked: Masked, start: usize, end: usize, depth: usize) -> Valu
         return Value::Failed;
     }
     let tag = rule[start];
+    // Before `at`: a literal has no children, and where they stand would cost a look at its header.
+    if tag == tag::LITERAL {
+        return literal_value(rule, start, end);
+    }
     let at = children_at(rule, start);
     match tag {
-        tag::LITERAL => literal_value(rule, start, end),
         tag::NOT | tag::NEGATIVE | tag::IS_NOT_NULL | tag::CAST | tag::TRY_CAST => {
             let number = byte_at(rule, start + 3);
             let v = constant(masked, at, end, depth);

@@ -35,7 +35,8 @@ pub(crate) fn meet_column(
     })
 }
 
-// A column: index, type, nullable, a byte each.
+// A column: index, type, nullable, a byte each. Never inlined: read_field, which each node passes through, would pay for its locals.
+#[inline(never)]
 pub(crate) fn read_column(node: Node, marks: &mut [u8; 256]) -> Result<FieldFound, Refusal>
     ensures { NodeGives node.entry.end marks.old (λ cols rest. read_column (record { tag = 16; content = node.entry.content.now; rest = rest }) cols) result marks.new }
 {
@@ -70,7 +71,8 @@ pub(crate) fn value_fits(data_type: DataType, mark: u8, content: &[u8]) -> bool
     }
 }
 
-// A literal: type, null mark, value.
+// A literal: type, null mark, value. Never inlined, as read_column.
+#[inline(never)]
 pub(crate) fn read_literal(node: Node, marks: &mut [u8; 256]) -> Result<FieldFound, Refusal>
     ensures { NodeGives node.entry.end marks.old (λ cols rest. read_literal (record { tag = 17; content = node.entry.content.now; rest = rest }) cols) result marks.new }
 {

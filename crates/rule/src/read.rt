@@ -108,8 +108,9 @@ fn read_binary(node: Node, left: Nesting, marks: &mut [u8; 256]) -> Result<Field
     node.close(b.next, a.result == b.result, DataType::Boolean)
 }
 
-// CASE: flags and branch count, then its parts.
+// CASE: flags and branch count, then its parts. Never inlined: read_field, which each node passes through, would pay for its locals.
 #[cycle(read)]
+#[inline(never)]
 fn read_case(node: Node, left: Nesting, marks: &mut [u8; 256]) -> Result<FieldFound, Refusal>
     ensures { NodeGives node.entry.end marks.old (read_limited_case (read_field left.depth) left.cases node.entry.content.now) result marks.new }
 {
@@ -158,7 +159,8 @@ fn read_parts(
     )
 }
 
-// A part that may be absent: absent, it is as a null literal of type Boolean.
+// A part that may be absent: absent, it is as a null literal of type Boolean. A part of read_parts, which asks it twice: else one of the two is a call.
+#[inline(always)]
 #[cycle(read)]
 fn read_optional(
     s: &[u8],

@@ -27,9 +27,12 @@ pub fn children_at(rule: &[u8], at: usize) -> usize
     if rule.len() <= at {
         return at;
     }
+    // An arm for each tag: of these a table of jumps is made, and of patterns with `|` a chain of tests, at each step of a walk.
     match rule[at] {
-        tag::COLUMN | tag::LITERAL => field_end(rule, at),
-        tag::CAST | tag::TRY_CAST => at + 4,
+        tag::COLUMN => field_end(rule, at),
+        tag::LITERAL => field_end(rule, at),
+        tag::CAST => at + 4,
+        tag::TRY_CAST => at + 4,
         tag::CASE => at + 5,
         _ => at + 3,
     }

@@ -1,6 +1,6 @@
 // The types of columns, literals and results.
 ghost use Rattle.std.specs.Prelude.{◌≡◌};
-ghost use Rattle.scalar.specs.Types.{is_integer, type_number, type_numbered, type_answer};
+ghost use Rattle.scalar.specs.Types.{is_integer, type_number, type_numbered, type_answer, mark_number};
 
 #[derive(Clone, Copy, Debug, PartialEq, Eq)]
 pub enum DataType {
@@ -45,4 +45,11 @@ pub(crate) fn is_integer(t: DataType) -> bool
     ensures { result ≡ is_integer t }
 {
     matches!(t, DataType::Int32 | DataType::Int64)
+}
+
+// The number of a mark: 1 or 0.
+pub fn mark_number(b: bool) -> u8
+    ensures { result ≡ mark_number b }
+{
+    u8::from(b)
 }

@@ -2,7 +2,7 @@
 // every column's nulls and entries.
 #![tactic(auto)]
 
-use files::{argument, argument_count, large_buffer, load, path_buffer};
+use files::{argument, argument_count, fail, large_buffer, open, path_buffer, read_full};
 use layout::number::read_u32;
 use scalar::text::place_text;
 use scalar::value::{Value, float_bits};
@@ -138,14 +138,19 @@ fn show_tables(rt: &impl Print, s: &[u8]) -> io::Result<()> {
     Ok(())
 }
 
-// Shows the tables of a file.
+// Shows the tables of a file. Not by `load`: the path is printed before the file is read.
 fn show_file(rt: &(impl Files + Print + Eprint), path: &[u8]) -> io::Result<()> {
-    let mut buffer = large_buffer();
-    let Some(size) = load(rt, path, &mut buffer) else {
-        return Ok(());
+    let mut file = match open(rt, path) {
+        Ok(file) => file,
+        Err(error) => {
+            fail(rt, path, error);
+            return Ok(());
+        }
     };
     rt.write_all(path)?;
     rt.print("\n")?;
+    let mut buffer = large_buffer();
+    let size = read_full(&mut file, &mut buffer);
     show_tables(rt, &buffer[..size])
 }
 

@@ -7,10 +7,11 @@ use native.Mathlib.Nat.{pow-suc}
 use native.Mathlib.Decide.{dec_lt}
 use native.Mathlib.Numerals.{add-one}
 use native.Mathlib.Omega.{arith}
-use lib.ListN.{length, length-append}
+use lib.ListN.{length, take, drop, set, get_or, length-append, length-set}
+use lib.Seq.{take-length, paste, paste-zero, paste-suc}
 use Rattle.layout.specs.Bytes.{number_bytes}
 use Rattle.layout.specs.Field.{field_bytes}
-use Rattle.layout.specs.Put.{Wrote}
+use Rattle.layout.specs.Put.{wrote, Wrote}
 use Rattle.std.specs.Int.{bytes_low_first}
 use Rattle.layout.proofs.BytesLaws.{length_number_bytes}
 use Rattle.layout.proofs.NumberLaws.{bytes_lowest}
@@ -43,6 +44,37 @@ wrote_field {out} {at} {tag} {size} {content} e a b =
 -- a number's bytes, copied
 pub wrote_lowest : {out : List ℕ} {at p : ℕ} {bytes m : List ℕ} (k n : ℕ) → bytes ≡ bytes_low_first 0 k n → Wrote out at bytes p m → Wrote out at (number_bytes k n) p m
 wrote_lowest k n e w = wrote_as (e ∙ bytes_lowest k n) w
+
+-- ---- some bytes, copied one by one
+
+-- where the loop stands: i bytes are copied
+pub record PastedSoFar (out : List ℕ) (at : ℕ) (text : List ℕ) (i : ℕ) (m : List ℕ) : Type 0 where
+  pub few : i ≤ length text
+  pub long : length m ≡ length out
+  pub holds : m ≡ paste out at text i
+
+pub pasted_none : {out : List ℕ} {at : ℕ} {text : List ℕ} → PastedSoFar out at text 0 out
+pasted_none {out} {at} {text} = record { few = omega arith; long = refl; holds = paste-zero out at text }
+
+pub pasted_more : {out : List ℕ} {at : ℕ} {text : List ℕ} {i : ℕ} {m : List ℕ} → PastedSoFar out at text i m → at + length text ≤ length out → i < length text
+    → PastedSoFar out at text (i + 1) (set m (at + i) (get_or text i 0))
+pasted_more {out} {at} {text} {i} {m} s room more = record {
+  few = omega arith;
+  long = length-set m (at + i) (get_or text i 0) ∙ s.long;
+  holds = ap (λ (l : List ℕ). set l (at + i) (get_or text i 0)) s.holds ∙ paste-suc out at text i 0 (omega arith) more ∙ ap (paste out at text) (sym (add-one i));
+}
+
+pub pasted_all : {out : List ℕ} {at : ℕ} {text : List ℕ} {i : ℕ} {m : List ℕ} → PastedSoFar out at text i m → at + length text ≤ length out → length text ≤ i
+    → Wrote out at text (at + length text) m
+unfolding wrote
+pasted_all {out} {at} {text} {i} {m} s room all =
+    let few = s.few in
+    let e : i ≡ length text = omega arith in
+    record {
+      fits = room;
+      ends = refl;
+      holds = s.holds ∙ ap (paste out at text) e ∙ ap (λ (l : List ℕ). take at out ++ l ++ drop (at + length text) out) (take-length text);
+    }
 
 -- ---- row by row
 

@@ -18,14 +18,15 @@ pub(crate) fn put_byte(output: &mut [u8], at: usize, b: u8) -> usize
     at + 1
 }
 
-// Some bytes.
+// Some bytes. One by one: `copy_from_slice` would need `memmove` from outside the archive for C.
 pub(crate) fn put_bytes(output: &mut [u8], at: usize, bytes: &[u8]) -> usize
     requires { at + length bytes.now ≤ length output.old }
     ensures { Wrote output.old at bytes.now result output.new }
 {
-    let end = at + bytes.len();
-    output[at..end].copy_from_slice(bytes);
-    end
+    for i in 0..bytes.len() {
+        output[at + i] = bytes[i];
+    }
+    at + bytes.len()
 }
 
 // A number, of eight bytes or of four.

@@ -8,4 +8,4 @@ pub returns-then-count-gt-BRANCHES_MOST : goal.returns-then-count-gt-BRANCHES_MO
 returns-then-count-gt-BRANCHES_MOST c = not_served (omega (arith, c.if-count-gt-BRANCHES_MOST.true))
 
 pub returns : goal.returns
-returns c = filled_as c.map_rows.ensures (looked_up c.args.table.now c.read-lookup.ensures.read.literals c.args.work.now c.args.to c.read-lookup.ensures.read.whens c.read-lookup.ensures.else_index)
+returns c = filled_as c.map_rows.ensures (looked_up c.args.table.now c.read.ensures.read.literals c.args.work.now c.args.to c.read.ensures.read.whens c.read.ensures.else_index)

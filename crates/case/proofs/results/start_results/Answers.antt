@@ -3,4 +3,4 @@ use Rattle.case.proofs.ResultLaws.{start_right}
 use Rattle.case.proofs.results.start_results.Goals as goal
 
 pub returns : goal.returns
-returns c = start_right c.read-results.ensures c.put.ensures
+returns c = start_right c.read.ensures c.put.ensures

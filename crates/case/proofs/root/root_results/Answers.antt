@@ -5,4 +5,4 @@ use Rattle.rule.proofs.TypeOfLaws.{type_gives}
 use Rattle.case.proofs.root.root_results.Goals as goal
 
 pub returns-then-may_class : goal.returns-then-may_class
-returns-then-may_class c = results_give c.byte_at-count.ensures (type_gives c.type_of.ensures) c.read-results.ensures (c.if-results-count.false ∙ c.number.ensures)
+returns-then-may_class c = results_give c.byte_at-count.ensures (type_gives c.type_of.ensures) c.read.ensures (c.if-results-count.false ∙ c.number.ensures)

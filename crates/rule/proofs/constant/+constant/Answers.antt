@@ -1,7 +1,7 @@
 -- The cycle of calls that works out a node without reading a column. The measure is eight times the depth that is left, and how far a call is
 -- from the next node. The loop's invariant: the branches that are left stand at the place and give what all give.
 use borrow.Author.Rules.{rules}
-use mathlib.Core.Path.{refl, sym, ap, ◌∙◌}
+use mathlib.Core.Path.{refl, ap}
 use native.Mathlib.Omega.{arith}
 use Rattle.scalar.proofs.CompareLaws.{equal_both}
 use Rattle.scalar.proofs.OperationLaws.{try_cast_gives}
@@ -55,8 +55,8 @@ constant_else-returns t c = else_some c.if-at-branches.false c.constant-v.ensure
 pub constant_node-returns-then-rule-start : goal.constant_node-returns-then-rule-start
 constant_node-returns-then-rule-start t c = within_behind c.if-rule-start.true
 
-pub constant_node-returns-in-17 : goal.constant_node-returns-in-17
-constant_node-returns-in-17 t c = within_literal c.in-17.is (literal_gives c.literal_value.ensures)
+pub constant_node-returns-then-tag-eq-LITERAL : goal.constant_node-returns-then-tag-eq-LITERAL
+constant_node-returns-then-tag-eq-LITERAL t c = within_literal c.if-tag-eq-LITERAL.true (literal_gives c.literal_value.ensures)
 
 pub constant_node-returns-in-18 : goal.constant_node-returns-in-18
 constant_node-returns-in-18 t c = within_one refl (λ p. omega arith) (λ p. omega arith) (omega arith) c.byte_at-number.ensures (children_gives c.children_at-at.ensures) c.constant-v.ensures c.one.ensures

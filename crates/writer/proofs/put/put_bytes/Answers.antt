@@ -1,6 +1,8 @@
--- `put_bytes` copies the bytes to their place.
-use Rattle.layout.proofs.PutLaws.{wrote_mid}
+use Rattle.writer.proofs.WroteLaws.{pasted_more, pasted_all}
 use Rattle.writer.proofs.put.put_bytes.Goals as goal
 
+pub loop-i-preserved : goal.loop-i-preserved
+loop-i-preserved c = pasted_more c.loop-i.invariant c.requires c.loop-i-test.true
+
 pub returns : goal.returns
-returns c = wrote_mid c.requires c.copy_from_slice.ensures.after
+returns c = pasted_all c.loop-i.invariant c.requires c.loop-i-test.false

@@ -3,4 +3,4 @@ use Rattle.case.proofs.LookUpTrees.{LiteralsSoFar}
 use Rattle.case.proofs.literal_lookup_table.Literals.read.Given as goal
 
 abbrev pub invariant-loop-i : goal.invariant-loop-i
-invariant-loop-i l = LiteralsSoFar l.rule l.at l.end l.most l.place l.i l.kinds l.payloads
+invariant-loop-i l = LiteralsSoFar l.rule l.at l.end l.most l.place l.i l.self.kinds l.self.payloads

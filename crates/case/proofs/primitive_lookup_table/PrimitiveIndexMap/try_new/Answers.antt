@@ -4,19 +4,13 @@ use Rattle.case.proofs.LookUpTrees.{zeros}
 use Rattle.case.proofs.primitive_lookup_table.PrimitiveIndexMap.try_new.Goals as goal
 
 pub loop-k-init : goal.loop-k-init
-loop-k-init c = numbers_none refl refl (zeros 256)
-
-pub bounds-numbers-k : goal.bounds-numbers-k
-bounds-numbers-k c = omega (arith, c.loop-k.invariant.numbers_long)
-
-pub bounds-hints-number_hint : goal.bounds-hints-number_hint
-bounds-hints-number_hint c = omega (arith, c.loop-k.invariant.hinted.long, c.number_hint.ensures)
+loop-k-init c = (numbers_none refl refl (zeros 256), refl, refl, refl)
 
 pub loop-k-preserved : goal.loop-k-preserved
-loop-k-preserved c = numbers_more c.loop-k.invariant (omega arith) c.args.whens.now.whens.few (omega arith) c.value_of.ensures c.in-Number.ensures c.if-of-kind.false c.number_hint.ensures
+loop-k-preserved c = (numbers_more c.loop-k.invariant.0 (omega arith) c.args.whens.now.whens.few (omega arith) c.value_of.ensures c.in-Number.ensures c.if-of-kind.false c.number_hint.ensures, c.loop-k.invariant.1, c.loop-k.invariant.2, c.loop-k.invariant.3)
 
-pub invariant_of-result : goal.invariant_of-result
-invariant_of-result c = record { numbered = numbers_table c.args.whens.now.whens c.requires.2 c.args.whens.now.small (numbers_all c.loop-k.invariant (omega arith)) }
+pub invariant_of-map : goal.invariant_of-map
+invariant_of-map c = record { numbered = rw c.loop-k.invariant.1 (rw c.loop-k.invariant.2 (rw c.loop-k.invariant.3 (numbers_table c.args.whens.now.whens c.requires.2 c.args.whens.now.small (numbers_all c.loop-k.invariant.0 (omega arith))))) }
 
 pub returns : goal.returns
-returns c = (numbers_all c.loop-k.invariant (omega arith), refl, refl, refl)
+returns c = (numbers_all c.loop-k.invariant.0 (omega arith), c.loop-k.invariant.1, c.loop-k.invariant.2, c.loop-k.invariant.3)

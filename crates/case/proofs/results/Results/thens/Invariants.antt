@@ -3,4 +3,4 @@ use Rattle.case.proofs.ResultLaws.{ThensSoFar}
 use Rattle.case.proofs.results.Results.thens.Given as goal
 
 abbrev pub invariant-loop-k : goal.invariant-loop-k
-invariant-loop-k l = ThensSoFar l.rule l.at l.count l.kinds l.payloads l.place l.k
+invariant-loop-k l = ThensSoFar l.rule l.at l.count l.self.kinds l.self.payloads l.place l.k
