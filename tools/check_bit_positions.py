@@ -10,14 +10,15 @@ import sys
 
 HERE = pathlib.Path(__file__).resolve().parent.parent
 # the library's functions that divide
-DIVIDES = r"\.\s*(?:[a-z]+_)?(?:div|rem)(?:_ceil|_floor|_euclid)?\s*\(|\.\s*(?:is_|next_)?multiple_of\s*\("
-BY_EIGHT = re.compile(rf"(?:[/%]=?|{DIVIDES})\s*\(*\s*(?:8|0[xX]0*8|0[bB]0*1000|0[oO]0*10)(?:_?[ui](?:8|16|32|64|128|size))?\b")
-ANY = re.compile(rf"[/%]|{DIVIDES}")
+NAMES = r"(?:(?:[a-z]+_)?(?:div|rem)(?:_ceil|_floor|_euclid)?|(?:is_|next_)?multiple_of)\s*\("
+EIGHT = r"\s*\(*\s*(?:8|0[xX]0*8|0[bB]0*1000|0[oO]0*10)(?:_?[ui](?:8|16|32|64|128|size))?\b"
+BY_EIGHT = re.compile(rf"(?:[/%]=?|\.\s*{NAMES}|::\s*{NAMES}[^;]*,){EIGHT}")
+ANY = re.compile(rf"[/%]|(?:\.|::)\s*{NAMES}")
 # where bits are reached, read and written nothing is divided
 OF_BITS = {"crates/layout/src/bits.rt", "crates/writer/src/bitmap.rt"}
 FOUND = ["row / 8", "row % 8", "n /= 8;", "n %= 8;", "row /\n        8", "/* the byte */ row / 8", "a / 8usize", "a % 8_u8", "a / 0x8", "a % (8)",
-         "rows.div_ceil(8)", "rows.rem_euclid( 0x8 )", "rows.checked_div(8)", "rows.is_multiple_of(8)"]
-PASSED = ["n / 80", "n % 8_000", "n / 0x80", "row >> 3", "row & 7", "// rows / 8, rounded up\n", "/* rows / 8,\nrounded up */", "n / 18", "8 / n", "n.div_ceil(80)"]
+         "rows.div_ceil(8)", "rows.rem_euclid( 0x8 )", "rows.checked_div(8)", "rows.is_multiple_of(8)", "usize::div_ceil(rows, 8)"]
+PASSED = ["n / 80", "n % 8_000", "n / 0x80", "row >> 3", "row & 7", "// rows / 8, rounded up\n", "/* rows / 8,\nrounded up */", "n / 18", "8 / n", "n.div_ceil(80)", "usize::div_ceil(n, 10)"]
 
 
 def without_comments(text):
